@@ -1,0 +1,4 @@
+pub mod Parse
+pub mod Lent
+pub mod Bits
+pub mod Uvlc

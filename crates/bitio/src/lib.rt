@@ -1,0 +1,2 @@
+// Bits and leb128 numbers of AV1, read from lent bytes and written into them.
+pub mod reader;

@@ -1,0 +1,74 @@
+"""Runs the programs on request lines and holds their answers side by side."""
+
+import re
+import subprocess
+import sys
+import tempfile
+from itertools import islice
+from pathlib import Path
+
+import model
+
+TOP_FOLDER = Path(__file__).resolve().parent.parent
+WORK = TOP_FOLDER / 'target' / 'oracle'
+RUST = WORK / 'cargo' / 'release' / 'oracle-server'
+OURS = TOP_FOLDER / 'target' / 'bin' / 'replay'
+BATCH = 50_000
+
+REFUSED = re.compile('no [0-9]+( [0-9]+)?')
+
+
+def need(program, how):
+    if not program.is_file():
+        sys.exit(f'no program {program.relative_to(TOP_FOLDER)}: run {how} first')
+
+
+def rust_request(line):
+    """The Rust lends no memory: it is asked without the prefix `room B E T `."""
+    return ' '.join(line.split(' ')[4:]) if line.startswith('room ') else line
+
+
+class Run:
+    """One program working through a file of requests, in a folder of its own."""
+
+    def __init__(self, program, lines):
+        WORK.mkdir(parents=True, exist_ok=True)
+        self.name, self.count = program.name, len(lines)
+        self.folder = tempfile.TemporaryDirectory(dir=WORK)
+        requests = Path(self.folder.name, 'requests')
+        self.answers = Path(self.folder.name, 'answers')
+        requests.write_text(''.join(line + '\n' for line in lines))
+        with requests.open('rb') as given, self.answers.open('wb') as taken:
+            self.process = subprocess.Popen([str(program)], stdin=given, stdout=taken)
+
+    def result(self):
+        """The answers; a line that was not answered counts as one that was answered wrongly."""
+        status = self.process.wait()
+        answers = self.answers.read_text(errors='replace').split('\n')
+        self.folder.cleanup()
+        if answers.pop() != '' or status != 0 or len(answers) != self.count:
+            print(f'{self.name}: status {status}, {len(answers)} answers to {self.count} requests')
+        return answers[:self.count] + ['(no answer)'] * (self.count - len(answers))
+
+
+def answered(requests, with_ours):
+    """For each request: request, the Rust's answer, ours or None, document 01's or None."""
+    requests = iter(requests)
+    while lines := list(islice(requests, BATCH)):
+        rust = Run(RUST, [rust_request(line) for line in lines])
+        ours = Run(OURS, lines) if with_ours else None
+        paper = [model.answer(line) for line in lines]
+        our_answers = ours.result() if ours else [None] * len(lines)
+        yield from zip(lines, rust.result(), our_answers, paper)
+
+
+def rust_agrees(rust, answer):
+    """The Rust has no numbers: any refusal of ours stands beside its `no`."""
+    if REFUSED.fullmatch(answer):
+        return rust == 'no'
+    return rust == answer
+
+
+def speaks_of_room(line, answer):
+    """The Rust has no lent memory that could be too small, nor a prefix that could be wrong."""
+    return line.startswith('room ') and answer in ('no 35', 'bad line')
