@@ -1,5 +1,6 @@
 """Runs the programs on request lines and holds their answers side by side."""
 
+import os
 import re
 import subprocess
 import sys
@@ -12,7 +13,8 @@ import model
 TOP_FOLDER = Path(__file__).resolve().parent.parent
 WORK = TOP_FOLDER / 'target' / 'oracle'
 RUST = WORK / 'cargo' / 'release' / 'oracle-server'
-OURS = TOP_FOLDER / 'target' / 'bin' / 'replay'
+# ORACLE_REPLAY names another program to hold beside the Rust.
+OURS = Path(os.environ.get('ORACLE_REPLAY', TOP_FOLDER / 'target' / 'bin' / 'replay'))
 BATCH = 50_000
 
 REFUSED = re.compile('no [0-9]+( [0-9]+)?')
@@ -20,7 +22,7 @@ REFUSED = re.compile('no [0-9]+( [0-9]+)?')
 
 def need(program, how):
     if not program.is_file():
-        sys.exit(f'no program {program.relative_to(TOP_FOLDER)}: run {how} first')
+        sys.exit(f'no program {program}: run {how} first')
 
 
 def rust_request(line):
