@@ -13,7 +13,7 @@ from pathlib import Path
 from model import PASSING_TYPES, hexadecimal, shortest_leb128
 
 LAYERS = {}
-# By layer: requests that every recorded list has.
+# By layer: a function that gives requests which the recorded list must have. A layer may have none.
 PICKED = {}
 LINE_LIMIT = 65536
 LONGEST_UNIT = (LINE_LIMIT - 100) // 2
@@ -36,7 +36,7 @@ def unit_request(unit):
 
 # ---- bitio
 
-PICKED['bitio'] = [
+SMALL_BITIO = [
     'bits - 0 0', 'bits - 0 1', 'bits - 1 0', 'bits 80 0 1', 'bits 01 7 1', 'bits 01 8 0', 'bits 01 8 1',
     'bits 0123456789abcdef 0 64', 'bits 0123456789abcdef01 1 64', 'bits 0123456789abcdef01 8 65',
     'uvlc 80 0', 'uvlc 40 0', 'uvlc 60 0', 'uvlc 00 0', 'uvlc - 0',
@@ -61,9 +61,12 @@ BAD_BITIO = [
 WIDTHS = [*range(67), 100, 2 ** 32, 2 ** 63, TOP - 1, TOP]
 
 
+PICKED['bitio'] = lambda: SMALL_BITIO
+
+
 @layer
 def bitio(rng, count, exhaustive):
-    yield from PICKED['bitio']
+    yield from SMALL_BITIO
     yield from BAD_BITIO
     yield from leb_requests(rng)
     yield from lebput_requests(rng)
@@ -184,7 +187,7 @@ def random_lebput(rng):
 
 # ---- obu
 
-PICKED['obu'] = [
+SMALL_OBU = [
     'obus -', 'obus 30', 'obus 3200', 'obus 1200', 'obus 10', 'obus 120032002a00', 'obus 320012002a00',
     'obus 328080808080808000', 'obus 328080808080808080', 'obus 32ffffffffffffff7f', 'obus 32ffffffffffffffff',
     'obus 4a00', 'obus 36', 'obus 34', 'obus 4c', 'obus 3201', 'obus 3280', 'obus 32', 'obus 80', 'obus ff',
@@ -205,10 +208,19 @@ BAD_OBU = [
 EDGE_LENGTHS = [0, 1, 2, 126, 127, 128, 129, 255, 256, 16382, 16383, 16384, 16385, 32000]
 
 
+def picked_obu():
+    real = [unit_request(stream) for stream in corpus_streams() if len(stream) < 2000]
+    edges = [request('obuput', 6, ext, bytes(n)) for ext in ('-', 8) for n in EDGE_LENGTHS[:-1]]
+    return SMALL_OBU + real + edges
+
+
+PICKED['obu'] = picked_obu
+
+
 @layer
 def obu(rng, count, exhaustive):
     corpus = corpus_streams()
-    yield from PICKED['obu']
+    yield from picked_obu()
     yield from BAD_OBU
     yield from short_units(3 if exhaustive else 2)
     yield from class_units()

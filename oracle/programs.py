@@ -44,13 +44,17 @@ class Run:
             self.process = subprocess.Popen([str(program)], stdin=given, stdout=taken)
 
     def result(self):
-        """The answers; a line that was not answered counts as one that was answered wrongly."""
+        """The answers; a line without an answer, or a run that ends badly, counts as a wrong one."""
         status = self.process.wait()
         answers = self.answers.read_text(errors='replace').split('\n')
         self.folder.cleanup()
-        if answers.pop() != '' or status != 0 or len(answers) != self.count:
-            print(f'{self.name}: status {status}, {len(answers)} answers to {self.count} requests')
-        return answers[:self.count] + ['(no answer)'] * (self.count - len(answers))
+        answers.pop()
+        if len(answers) > self.count:
+            status = f'{status}, {len(answers)} answers to {self.count} requests'
+        answers = answers[:self.count] + ['(no answer)'] * (self.count - len(answers))
+        if status != 0:
+            answers[-1] = f'(ended with status {status})'
+        return answers
 
 
 def answered(requests, with_ours):

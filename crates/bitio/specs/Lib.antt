@@ -2,3 +2,4 @@ pub mod Parse
 pub mod Lent
 pub mod Bits
 pub mod Uvlc
+pub mod Leb
