@@ -69,7 +69,7 @@ def bitio(rng, count, exhaustive):
     yield from SMALL_BITIO
     yield from BAD_BITIO
     yield from leb_requests(rng)
-    yield from lebput_requests(rng)
+    yield from lebput_requests()
     yield from bits_requests(rng)
     yield from uvlc_requests(rng)
     makers = [random_bits, random_uvlc, random_leb, random_lebput]
@@ -101,7 +101,7 @@ def leb_like(rng, length, end):
     return bytes(data)
 
 
-def lebput_requests(rng):
+def lebput_requests():
     edges = {edge + by for edge in (2 ** power for power in range(65)) for by in range(-2, 3)}
     edges = sorted(v for v in edges if 0 <= v <= TOP)
     for value in sorted({*range(70001), *edges}):
@@ -210,7 +210,8 @@ EDGE_LENGTHS = [0, 1, 2, 126, 127, 128, 129, 255, 256, 16382, 16383, 16384, 1638
 
 def picked_obu():
     real = [unit_request(stream) for stream in corpus_streams() if len(stream) < 2000]
-    edges = [request('obuput', 6, ext, bytes(n)) for ext in ('-', 8) for n in EDGE_LENGTHS[:-1]]
+    filler = bytes(range(251)) * 66
+    edges = [request('obuput', 6, '-', filler[:n]) for n in (126, 127, 128, 129, 16383, 16384)]
     return SMALL_OBU + real + edges
 
 
@@ -262,8 +263,8 @@ def obuput_requests(rng):
 
 def corpus_streams():
     """Real encoders' streams, as far as a line holds them."""
-    here = Path(__file__).resolve().parent.parent
-    folder = Path(os.environ.get('ORACLE_SHARED', here.parent / 'shared')) / 'corpus'
+    top = Path(__file__).resolve().parent.parent
+    folder = top / os.environ.get('ORACLE_SHARED', '../shared') / 'corpus'
     files = sorted(folder.glob('*.obu'))
     if not files:
         sys.exit(f'no real streams under {folder} (set ORACLE_SHARED)')

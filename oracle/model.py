@@ -1,7 +1,8 @@
 """What document 01 answers to a request, in plain Python: values and refusal numbers.
 
-Written from the papers alone (01, replay.md), neither from the Rust nor from our own code, so that
-it is a third opinion. An operation that is not in OPERATIONS has no model.
+Written from 01 and replay.md in another way than the Rust goes about it, and not from our own code,
+so that it is a third opinion; its author had read the Rust. 01 does not say what a read of more than
+64 bits answers: 14 is a decision of the project. An operation not in OPERATIONS has no model.
 """
 
 import re

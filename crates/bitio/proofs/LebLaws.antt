@@ -10,6 +10,7 @@ use lib.Seq.{take-append-seam, drop-append-seam, drop-at}
 use lib.Dec.{leb, ltb}
 use borrow.Author.Tests.{lt-ltb, le-ltb, le-leb, ltb-true}
 use Rattle.bitio.specs.declared.leb128.Leb.the-variants.{Value, Bad}
+use Rattle.bitio.specs.Bits.{Bytes}
 use Rattle.bitio.specs.Parse.{Head, stop, item}
 use Rattle.bitio.specs.Leb.{Number, none, number, plus, lebRead, readLeb, lebAnswer, lebWrite, lebBytes, part, sized, framed}
 use Rattle.bitio.proofs.ParseLaws.{Leaves, pick-both, pick-cases, Shrinks, Parts, parts-less, parts-length}
@@ -82,10 +83,6 @@ unfolding lebBytes
 bytes-least k v l h = write-least 9 k v l h
 
 -- ---- bytes
-
--- each element is a byte
-abbrev pub Bytes : List ℕ → Type 0
-Bytes s = (i : ℕ) → getD s i 0 < 256
 
 one-byte : (a : ℕ) → a < 256 → Bytes (a ∷ [])
 one-byte a h zero = h

@@ -3,3 +3,4 @@ pub mod Lent
 pub mod Bits
 pub mod Uvlc
 pub mod Leb
+pub mod Write

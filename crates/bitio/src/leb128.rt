@@ -62,7 +62,7 @@ fn put_leb128(out: &mut [u8], at: usize, v: u64) -> usize
 {
     let mut x = v;
     let mut i = at;
-    while x >= 128 {
+    while 128 <= x {
         out[i] = (x % 128 + 128) as u8;
         x /= 128;
         i += 1;

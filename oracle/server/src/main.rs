@@ -1,5 +1,6 @@
 //! Answers the line protocol of `replay` by the Rust under comparison: `ok ..`, `no` (its errors
-//! have no numbers), `panic`, or `bad line` where the line is no request.
+//! have no numbers), `panic`, or `bad line` where the line is no request. With the argument
+//! `--texts` a `no` is followed by the Rust's error text.
 
 mod operations;
 mod text;
@@ -30,6 +31,7 @@ const LINE_LIMIT: usize = 65_536;
 
 fn main() -> io::Result<()> {
     panic::set_hook(Box::new(|_| {}));
+    let texts = std::env::args().any(|arg| arg == "--texts");
     let mut input = BufReader::with_capacity(1 << 20, io::stdin());
     let mut output = BufWriter::with_capacity(1 << 20, io::stdout());
     let mut line = Vec::new();
@@ -37,7 +39,7 @@ fn main() -> io::Result<()> {
         if line.last() == Some(&b'\n') {
             line.pop();
         }
-        writeln!(output, "{}", answer(&line))?;
+        writeln!(output, "{}", answer(&line, texts))?;
         line.clear();
         // Whoever types by hand waits for the answer before the next line.
         if input.buffer().is_empty() {
@@ -47,7 +49,7 @@ fn main() -> io::Result<()> {
     output.flush()
 }
 
-fn answer(line: &[u8]) -> String {
+fn answer(line: &[u8], texts: bool) -> String {
     if line.len() > LINE_LIMIT {
         return "bad line".into();
     }
@@ -58,6 +60,7 @@ fn answer(line: &[u8]) -> String {
     match panic::catch_unwind(|| operations::perform(words[0], &words[1..])) {
         Err(_) => "panic".into(),
         Ok(None) => "bad line".into(),
+        Ok(Some(Err(error))) if texts => format!("no {error:#}"),
         Ok(Some(Err(_))) => "no".into(),
         Ok(Some(Ok(values))) if values.is_empty() => "ok".into(),
         Ok(Some(Ok(values))) => format!("ok {values}"),

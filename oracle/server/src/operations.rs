@@ -23,15 +23,11 @@ pub fn perform(operation: &str, args: &[&str]) -> Answer {
         ("leb", [data]) => leb(&bytes(data)?),
         ("lebput", [v]) => done(hex(&leb128_encode(number(v)?))),
         ("obus", [unit]) => obus(&bytes(unit)?),
-        ("obuput", [kind, ext, payload]) => {
-            obuput(number(kind)?, extension(ext)?, bytes(payload)?)
-        }
+        ("obuput", [kind, ext, payload]) => obuput(number(kind)?, extension(ext)?, bytes(payload)?),
         ("seq", [payload]) => Some(parse_sequence_header(&bytes(payload)?).map(|h| fields(&h))),
         ("support", [payload]) => Some(support(&bytes(payload)?)),
         ("emit", [payload]) => Some(emit(&bytes(payload)?)),
-        ("timed", [payload, num, den]) => {
-            Some(timed(&bytes(payload)?, number(num)?, number(den)?))
-        }
+        ("timed", [payload, num, den]) => Some(timed(&bytes(payload)?, number(num)?, number(den)?)),
         ("frame", [seq, frame]) => Some(frame_header(&bytes(seq)?, &bytes(frame)?)),
         ("stream", [data]) => Some(container::split_obu_stream(&bytes(data)?).map(units)),
         ("annexb", [data]) => Some(container::split_annexb(&bytes(data)?).map(units)),
@@ -91,7 +87,12 @@ fn extension(word: &str) -> Option<Option<u8>> {
 fn obuput(kind: u8, extension: Option<u8>, payload: Vec<u8>) -> Answer {
     Some(ObuType::from_u8(kind).map(|obu_type| {
         let mut out = Vec::new();
-        Obu { obu_type, extension, payload }.write(&mut out);
+        Obu {
+            obu_type,
+            extension,
+            payload,
+        }
+        .write(&mut out);
         hex(&out)
     }))
 }
@@ -141,7 +142,9 @@ fn packets(words: &[&str]) -> Answer {
     let list: Vec<(u64, Vec<u8>)> = pairs.collect::<Option<_>>()?;
     let merged = container::merge_frameless_packets(list);
     done(counted(
-        merged.iter().map(|(time, packet)| format!("{time} {}", hex(packet))),
+        merged
+            .iter()
+            .map(|(time, packet)| format!("{time} {}", hex(packet))),
     ))
 }
 
@@ -162,10 +165,20 @@ fn assembled(
 ) -> Result<String> {
     let segments: Vec<Segment> = list
         .iter()
-        .map(|(key_tu, golden_tu, frames)| Segment { key_tu, golden_tu, frames: *frames })
+        .map(|(key_tu, golden_tu, frames)| Segment {
+            key_tu,
+            golden_tu,
+            frames: *frames,
+        })
         .collect();
     // assemble_multi takes its total from the segments, not from total_frames.
-    let params = AssembleParams { fps, fps_den, total_frames: 0, gop_size, decoder_model: false };
+    let params = AssembleParams {
+        fps,
+        fps_den,
+        total_frames: 0,
+        gop_size,
+        decoder_model: false,
+    };
     let out = assemble_multi(&segments, &params)?;
     let mut answer = format!(
         "{} {} {} {}",
