@@ -147,3 +147,30 @@ module _ {s p r : List ℕ} (x : Parts s p r) where
         some = omega (arith, length-append f (x .front), x .some);
         split = ap (λ (l : List ℕ). f ++ l) (x .split) ∙ sym (append-assoc f (x .front) (p ++ r));
       }
+
+-- ---- two readers that differ in one refusal only
+
+module _ {A : Type 0} (h g : List ℕ → Head A) (k : ℕ) (same : (s : List ℕ) → (h s ≡ stop k → ⊥) → h s ≡ g s) where
+  agree-onto : (a : A) (x y : Answer (List A)) → ((x ≡ refused k → ⊥) → x ≡ y) → (onto a x ≡ refused k → ⊥) → onto a x ≡ onto a y
+  agree-onto a (refused j) y f n = ap (onto a) (f n)
+  agree-onto a (accepted l) y f n = ap (onto a) (f (λ e. let w : _≡_ {A = ℕ} 0 1 = cc in omega arith))
+
+  agree-more : (s : List ℕ) (x : Head A) (p q : List ℕ → Answer (List A)) → h s ≡ x → ((r : List ℕ) → (p r ≡ refused k → ⊥) → p r ≡ q r)
+      → (more x p ≡ refused k → ⊥) → more x p ≡ more (g s) q
+  agree-more s (stop j) p q e f n =
+      let w : g s ≡ stop j = sym (same s (λ d. n (ap (λ x. more x p) (sym e ∙ d)))) ∙ e in
+      rw w
+  agree-more s (item a r) p q e f n =
+      let w : g s ≡ item a r = sym (same s (λ d. let z : _≡_ {A = ℕ} 0 1 = cc in omega arith)) ∙ e in
+      rw w (agree-onto a (p r) (q r) (f r) n)
+
+  agree-fuel : (f : ℕ) (s : List ℕ) → (manyF h f s ≡ refused k → ⊥) → manyF h f s ≡ manyF g f s
+  unfolding manyF
+  agree-fuel zero s n = refl
+  agree-fuel (suc f) [] n = refl
+  agree-fuel (suc f) (b ∷ s) n = agree-more (b ∷ s) (h (b ∷ s)) (manyF h f) (manyF g f) refl (agree-fuel f) n
+
+  -- where the one does not refuse with k, both read the same
+  pub many-agree : (s : List ℕ) → (many h s ≡ refused k → ⊥) → many h s ≡ many g s
+  unfolding many
+  many-agree s n = agree-fuel (length s) s n

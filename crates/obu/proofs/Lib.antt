@@ -1,0 +1,4 @@
+pub mod ObuLaws
+pub mod LengthLaws
+pub mod PlaceLaws
+pub mod UnitLaws

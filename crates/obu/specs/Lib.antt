@@ -1,0 +1,3 @@
+pub mod Obu
+pub mod Place
+pub mod Unit
