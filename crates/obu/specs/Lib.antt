@@ -1,3 +1,4 @@
 pub mod Obu
 pub mod Place
 pub mod Unit
+pub mod Write

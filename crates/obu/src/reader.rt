@@ -30,7 +30,7 @@ pub enum ObuAt {
 }
 
 // 01: the types 0 to 8 and 15.
-fn is_known_type(t: u8) -> bool
+pub(crate) fn is_known_type(t: u8) -> bool
     ensures { λ r. ⌜ r ≡ passes t ⌝ }
 {
     (t <= 8) | (t == 15)
