@@ -1,0 +1,4 @@
+pub mod TextLaws
+pub mod DecodeLaws
+pub mod MarkedLaws
+pub mod RoundTrip

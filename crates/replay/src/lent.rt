@@ -1,0 +1,77 @@
+// Memory that an operation is lent: marked before the call, and looked at after it.
+ghost use mathlib.Core.Path.{_≡_};
+ghost use lib.ListN.{length, drop, replicate};
+ghost use Rattle.replay.specs.Marked.{isMarked};
+use crate::output::Buffer;
+use crate::output::put_hex;
+use crate::output::put_number;
+use crate::output::put_text;
+
+// How much a line's prefix `room B E T ` lends.
+pub(crate) struct Room {
+    pub(crate) is_given: bool,
+    pub(crate) bytes: u64,
+    // ends or list entries
+    pub(crate) ends: u64,
+    // times or cues
+    pub(crate) times: u64,
+}
+
+impl Room {
+    pub(crate) fn bytes_or(self, ample: usize) -> usize {
+        if self.is_given {
+            self.bytes as usize
+        } else {
+            ample
+        }
+    }
+}
+
+pub(crate) fn mark(memory: &mut [u8])
+    ensures { λ _. ⌜ now (memory .exit) ≡ replicate (length (now (memory .entry))) 0xa5 ⌝ }
+{
+    let mut i: usize = 0;
+    while i < memory.len() {
+        memory[i] = 0xa5;
+        i += 1;
+    }
+}
+
+// Whether every byte from `from` on is as it was marked.
+fn is_marked(memory: &[u8], from: usize) -> bool
+    ensures { λ r. ⌜ r ≡ isMarked (drop from (now (memory .entry))) ⌝ }
+{
+    let mut i = from;
+    while i < memory.len() {
+        if memory[i] != 0xa5 {
+            return false;
+        }
+        i += 1;
+    }
+    true
+}
+
+// Ends an answer that accounts for the first n bytes of the memory.
+pub(crate) fn end_line(memory: &[u8], n: usize, out: &mut Buffer, at: usize) -> usize {
+    if is_marked(memory, n) {
+        return put_text(out, at, b"\n");
+    }
+    put_text(out, at, b" dirty\n")
+}
+
+// The answer of a call that wrote the first n bytes of the memory.
+pub(crate) fn wrote(memory: &[u8], n: usize, out: &mut Buffer, at: usize) -> usize {
+    if n > memory.len() {
+        return put_text(out, at, b"ok dirty\n");
+    }
+    let to = put_text(out, at, b"ok ");
+    let to = put_hex(out, to, &memory[0..n]);
+    end_line(memory, n, out, to)
+}
+
+// The answer of a call that refused, and so wrote nothing.
+pub(crate) fn wrote_none(memory: &[u8], number: u64, out: &mut Buffer, at: usize) -> usize {
+    let to = put_text(out, at, b"no ");
+    let to = put_number(out, to, number);
+    end_line(memory, 0, out, to)
+}
