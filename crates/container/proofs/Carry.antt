@@ -1,0 +1,57 @@
+-- Writing a list of units and reading it back, with 01's limits: the containers' part of demand 3. Assumes nothing.
+use Prim.Native.Nat.{ℕ, zero, suc, _+_, _^_, _≤_, _<_}
+use native.Mathlib.Omega.{arith}
+use mathlib.Core.Path.{_≡_, refl, sym, ap, _∙_}
+use mathlib.Core.List.{List, [], _∷_, _++_, map}
+use mathlib.Core.Bool.{Bool, true, false, cond as pick, _&&_}
+use mathlib.Core.Logic.{_⊎_, inl, inr}
+use lib.ListN.{length}
+use lib.Dec.{leb}
+use borrow.Author.Tests.{leb-true}
+use Rattle.bitio.specs.Parse.{Answer, refused, accepted}
+use Rattle.bitio.proofs.ParseLaws.{Every, pick-cases, pick-both}
+use Rattle.bitio.proofs.ParseLaws.Every.{none as nothing, also}
+use Rattle.container.specs.Stream.{streamBytes}
+use Rattle.container.specs.Limits.{limit, Room, fits}
+use Rattle.container.specs.Container.{Container, stream, annexb, unitsIn, bytesIn, read, write}
+use Rattle.container.proofs.RoundTrip.{Written, Whole, stream-back, annexb-wrote, annexb-round}
+
+-- ---- demand 3: writing may be refused with 34 or 35 only, reading back with 35 only; else the units come back
+
+abbrev pub Same : List (List ℕ) → Answer (List (List ℕ)) → Type 0
+Same us (refused k) = k ≡ 35
+Same us (accepted vs) = vs ≡ us
+
+abbrev pub Carried : Container → Room → List (List ℕ) → Answer (List ℕ) → Type 0
+Carried c room us (refused k) = (k ≡ 34) ⊎ (k ≡ 35)
+Carried c room us (accepted bs) = Same us (read c room bs)
+
+all-written : {us : List (List ℕ)} → Every Whole us → Every Written us
+all-written nothing = nothing
+all-written (also h hs) = also (h .written) (all-written hs)
+
+module _ (us : List (List ℕ)) (w : Every Whole us) (some : 0 < length us) where
+  -- what was written, and is short enough, is read back
+  back : (c : Container) → length (streamBytes us) ≤ limit → (bs : List ℕ) → bytesIn c us ≡ accepted bs → length bs ≤ limit → unitsIn c bs ≡ accepted us
+  back stream l bs e m = let p : streamBytes us ≡ bs = cc in rw (← p) (stream-back w (omega arith))
+  back annexb l bs e m = annexb-round (all-written w) (omega arith) some bs e (omega arith)
+
+  wrote : (c : Container) → length (streamBytes us) ≤ limit → (bs : List ℕ) × (bytesIn c us ≡ accepted bs)
+  wrote stream l = (streamBytes us, refl)
+  wrote annexb l = annexb-wrote (all-written w) (omega arith)
+
+  first : (a b : Bool) → (a && b) ≡ true → a ≡ true
+  first true b e = refl
+  first false b e = e
+
+  pub carried : (c : Container) (room room′ : Room) → Carried c room′ us (write c room us)
+  unfolding write read
+  carried c room room′ =
+      pick-cases (Carried c room′ us) (leb (length (streamBytes us)) limit)
+      (λ h. let l = leb-true _ _ h in
+      let x = wrote c l in
+      rw (x .1) (pick-cases (Carried c room′ us) (fits (length (x .0)) 0 room)
+      (λ k. let m : leb (length (x .0)) limit ≡ true = first _ _ k in
+      rw (m, back c l (x .0) (x .1) (leb-true _ _ m)) (pick-both (Same us) (fits (length (streamBytes us)) (length us) room′) refl refl))
+      (λ k. inr refl)))
+      (λ h. inl refl)

@@ -1,0 +1,43 @@
+-- The operations of both containers, with their limits: what the contracts and demand 3 speak of. Assumes nothing.
+use Prim.Native.Nat.{ℕ}
+use mathlib.Core.List.{List}
+use mathlib.Core.Bool.{cond as pick}
+use lib.ListN.{length}
+use Rattle.bitio.specs.Parse.{Answer, refused, accepted}
+use Rattle.container.specs.Stream.{streamUnits, streamBytes}
+use Rattle.container.specs.AnnexB.{annexbUnits, annexbBytes}
+use Rattle.container.specs.Packets.{canonical}
+use Rattle.container.specs.Limits.{led34, Room, fitBytes, fitUnits}
+use Rattle.container.specs.Units.{unitsAt}
+
+pub data Container : Type 0 where
+  stream : Container
+  annexb : Container
+
+abbrev pub unitsIn : Container → List ℕ → Answer (List (List ℕ))
+unitsIn stream s = streamUnits s
+unitsIn annexb s = annexbUnits s
+
+abbrev pub bytesIn : Container → List (List ℕ) → Answer (List ℕ)
+bytesIn stream us = accepted (streamBytes us)
+bytesIn annexb us = annexbBytes us
+
+-- the units of a container's bytes: 34 leads, 35 comes last
+unfoldable pub read : Container → Room → List ℕ → Answer (List (List ℕ))
+read c room s = led34 (length s) (fitUnits room (unitsIn c s))
+
+-- the bytes of units in a container
+unfoldable pub write : Container → Room → List (List ℕ) → Answer (List ℕ)
+write c room us = led34 (length (streamBytes us)) (fitBytes room (bytesIn c us))
+
+abbrev pub after : {A B : Type 0} → Answer A → (A → Answer B) → Answer B
+after (refused k) f = refused k
+after (accepted a) f = f a
+
+-- the same of units in lent memory, s their bytes and es their ends: 34 leads, 36 is next
+unfoldable pub writeAt : Container → Room → List ℕ → List ℕ → Answer (List ℕ)
+writeAt c room s es = led34 (length s) (after (unitsAt s es) (λ us. fitBytes room (bytesIn c us)))
+
+-- 01, canonicalize_tu, with its limits
+unfoldable pub canonicalAt : Room → List ℕ → Answer (List ℕ)
+canonicalAt room u = led34 (length u) (fitBytes room (accepted (canonical u)))

@@ -1,0 +1,14 @@
+// Answers on units in lent memory: their bytes one behind the other, and the u32 end of each.
+pub enum Split {
+    // how many bytes the units have, and how many units there are
+    Units(usize, usize),
+    // document 01's number
+    Refused(u32),
+}
+
+pub enum Joined {
+    // how many bytes were written
+    Bytes(usize),
+    // document 01's number
+    Refused(u32),
+}
