@@ -1,0 +1,13 @@
+pub mod ReadLaws
+pub mod PointLaws
+pub mod WithinLaws
+pub mod ParseLaws
+pub mod TimedLaws
+pub mod AgreeLaws
+pub mod FrameChain
+pub mod RemovalLaws
+pub mod FrameLaws
+pub mod FrameShowLaws
+pub mod FrameTimedLaws
+pub mod FrameSpecLaws
+pub mod FrameFromLaws

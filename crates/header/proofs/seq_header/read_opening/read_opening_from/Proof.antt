@@ -1,0 +1,113 @@
+use borrow.Author.Needs.{needs}
+use mathlib.Core.Path.{refl, sym, ap, _∙_}
+use denote.Ref.{now}
+use Rattle.bitio.specs.Bits.{Reading, fails, bitsSays}
+use Rattle.header.specs.Fields.{flagSays}
+use Rattle.header.specs.ReadSays.{refusalOf, modelSays, timingSays, openingFrom}
+use Rattle.header.specs.declared.seq_header.Opening.{Opening}
+use Rattle.header.proofs.ReadLaws.{Chain, on}
+use Rattle.header.proofs.seq_header.read_opening.read_opening_from.Statement.{statement}
+use Rattle.header.proofs.seq_header.read_opening.read_opening_from.Tie as tie
+
+abbrev s-t : tie.After-t → Chain (Reading Opening)
+unfolding openingFrom
+s-t c =
+    let a = c .before .before .before .before .before .args in
+    (openingFrom (now (a .s)) (a .b .pos) (a .x), _, on timingSays _ refl (c .before .before .read-timing .ensures) (c .t .given .1))
+
+abbrev s-model : tie.After-model → Chain (Reading Opening)
+unfolding openingFrom
+s-model c = (_, _, on modelSays _ (s-t (c .before .before .before .before) .2) (c .before .before .read-model .ensures) (c .model .given .1))
+
+abbrev s-delay : tie.After-delay → Chain (Reading Opening)
+unfolding openingFrom
+s-delay c = (_, _, on flagSays _ (s-model (c .before .before .before .before) .2) (c .before .before .flag-or .ensures) (c .delay .given .1))
+
+abbrev s-more : tie.After-more → Chain (Reading Opening)
+unfolding openingFrom
+s-more c = (_, _, on bitsSays _ (s-delay (c .before .before .before .before) .2) (c .before .before .bits-or .ensures) (c .more .given .1))
+
+read-timing-requires : tie.Need-read-timing-requires
+read-timing-requires c κs = search needs
+
+enum-known-t : tie.Need-enum-known-t
+enum-known-t c = search needs
+
+enum-told : tie.Need-enum-told
+enum-told c = search needs
+
+timing-refusal-requires : tie.Need-timing-refusal-requires
+timing-refusal-requires c κs = search needs
+
+returns : tie.Need-returns
+unfolding openingFrom
+returns c =
+    let g = c .before .enum-told .given .1 in
+    let t = c .before .before .before .read-timing .ensures in
+    ap fails (c .timing-refusal .ensures ∙ ap (λ x. refusalOf (timingSays x)) g) ∙ sym (on timingSays _ refl t g)
+
+read-model-requires : tie.Need-read-model-requires
+read-model-requires c κs = search needs
+
+enum-known-model : tie.Need-enum-known-model
+enum-known-model c = search needs
+
+enum-told-2 : tie.Need-enum-told-2
+enum-told-2 c = search needs
+
+returns-2 : tie.Need-returns-2
+unfolding openingFrom
+returns-2 c = sym (on modelSays _ (s-t (c .before .before .before .before) .2) (c .before .before .read-model .ensures) (c .enum-told2 .given .1))
+
+flag-or-requires : tie.Need-flag-or-requires
+flag-or-requires c κs = search needs
+
+enum-known-delay : tie.Need-enum-known-delay
+enum-known-delay c = search needs
+
+enum-told-3 : tie.Need-enum-told-3
+enum-told-3 c = search needs
+
+returns-3 : tie.Need-returns-3
+unfolding openingFrom
+returns-3 c = sym (on flagSays _ (s-model (c .before .before .before .before) .2) (c .before .before .flag-or .ensures) (c .enum-told3 .given .1))
+
+bits-or-requires : tie.Need-bits-or-requires
+bits-or-requires c κs = search needs
+
+enum-known-more : tie.Need-enum-known-more
+enum-known-more c = search needs
+
+enum-told-4 : tie.Need-enum-told-4
+enum-told-4 c = search needs
+
+returns-4 : tie.Need-returns-4
+unfolding openingFrom
+returns-4 c = sym (on bitsSays _ (s-delay (c .before .before .before .before) .2) (c .before .before .bits-or .ensures) (c .enum-told4 .given .1))
+
+returns-5 : tie.Need-returns-5
+unfolding openingFrom
+returns-5 c = sym (s-more (c .before) .2)
+
+pub read-opening-from-spec : {M : Type 1} → statement M
+read-opening-from-spec =
+    tie.close
+    (tie.spec
+    read-timing-requires
+    enum-known-t
+    enum-told
+    timing-refusal-requires
+    returns
+    read-model-requires
+    enum-known-model
+    enum-told-2
+    returns-2
+    flag-or-requires
+    enum-known-delay
+    enum-told-3
+    returns-3
+    bits-or-requires
+    enum-known-more
+    enum-told-4
+    returns-4
+    returns-5)

@@ -1,0 +1,111 @@
+use borrow.Author.Needs.{needs}
+use mathlib.Core.Path.{refl, sym, _∙_}
+use denote.Ref.{now}
+use Rattle.bitio.specs.Bits.{Reading, bitsSays}
+use Rattle.header.specs.Fields.{flagSays}
+use Rattle.header.specs.SequencePoints.{operatingPoint}
+use Rattle.header.specs.ReadSays.{pointFrom}
+use Rattle.header.specs.declared.seq_header.OperatingPoint.{OperatingPoint}
+use Rattle.header.proofs.ReadLaws.{Chain, on}
+use Rattle.header.proofs.seq_header.read_points.read_point.Statement.{statement}
+use Rattle.header.proofs.seq_header.read_points.read_point.Tie as tie
+
+abbrev s-idc : tie.After-idc → Chain (Reading OperatingPoint)
+unfolding operatingPoint pointFrom
+s-idc c =
+    let a = c .before .before .before .before .before .args in
+    (operatingPoint (now (a .s)) (a .b .pos) (a .o), _, on bitsSays _ refl (c .before .before .bits-or .ensures) (c .idc .given .1))
+
+abbrev s-level : tie.After-level → Chain (Reading OperatingPoint)
+unfolding operatingPoint pointFrom
+s-level c = (_, _, on bitsSays _ (s-idc (c .before .before .before .before) .2) (c .before .before .f .ensures) (c .level .given .1))
+
+abbrev s-tier : tie.After-tier → Chain (Reading OperatingPoint)
+unfolding operatingPoint pointFrom
+s-tier c = (_, _, on flagSays _ (s-level (c .before .before .before .before) .2) (c .before .before .flag-or .ensures) (c .tier .given .1))
+
+abbrev s-model : tie.After-model → Chain (Reading OperatingPoint)
+unfolding operatingPoint pointFrom
+s-model c = (_, _, on flagSays _ (s-tier (c .before .before .before .before) .2) (c .before .before .flag-or2 .ensures) (c .model .given .1))
+
+bits-or-requires : tie.Need-bits-or-requires
+bits-or-requires c κs = search needs
+
+enum-known-idc : tie.Need-enum-known-idc
+enum-known-idc c = search needs
+
+enum-told : tie.Need-enum-told
+enum-told c = search needs
+
+returns : tie.Need-returns
+unfolding operatingPoint pointFrom
+returns c = sym (on bitsSays _ refl (c .before .before .bits-or .ensures) (c .enum-told .given .1))
+
+f-requires : tie.Need-f-requires
+f-requires c κs = search needs
+
+enum-known-level : tie.Need-enum-known-level
+enum-known-level c = search needs
+
+enum-told-2 : tie.Need-enum-told-2
+enum-told-2 c = search needs
+
+returns-2 : tie.Need-returns-2
+unfolding operatingPoint pointFrom
+returns-2 c = sym (on bitsSays _ (s-idc (c .before .before .before .before) .2) (c .before .before .f .ensures) (c .enum-told2 .given .1))
+
+flag-or-requires : tie.Need-flag-or-requires
+flag-or-requires c κs = search needs
+
+enum-known-tier : tie.Need-enum-known-tier
+enum-known-tier c = search needs
+
+enum-told-3 : tie.Need-enum-told-3
+enum-told-3 c = search needs
+
+returns-3 : tie.Need-returns-3
+unfolding operatingPoint pointFrom
+returns-3 c = sym (on flagSays _ (s-level (c .before .before .before .before) .2) (c .before .before .flag-or .ensures) (c .enum-told3 .given .1))
+
+flag-or-requires-2 : tie.Need-flag-or-requires-2
+flag-or-requires-2 c κs = search needs
+
+enum-known-model : tie.Need-enum-known-model
+enum-known-model c = search needs
+
+enum-told-4 : tie.Need-enum-told-4
+enum-told-4 c = search needs
+
+returns-4 : tie.Need-returns-4
+unfolding operatingPoint pointFrom
+returns-4 c = sym (on flagSays _ (s-tier (c .before .before .before .before) .2) (c .before .before .flag-or2 .ensures) (c .enum-told4 .given .1))
+
+read-point-from-requires : tie.Need-read-point-from-requires
+read-point-from-requires c κs = search needs
+
+returns-5 : tie.Need-returns-5
+unfolding operatingPoint pointFrom
+returns-5 c = c .read-point-from .ensures ∙ sym (s-model (c .before .before) .2)
+
+pub read-point-spec : {M : Type 1} → statement M
+read-point-spec =
+    tie.close
+    (tie.spec
+    bits-or-requires
+    enum-known-idc
+    enum-told
+    returns
+    f-requires
+    enum-known-level
+    enum-told-2
+    returns-2
+    flag-or-requires
+    enum-known-tier
+    enum-told-3
+    returns-3
+    flag-or-requires-2
+    enum-known-model
+    enum-told-4
+    returns-4
+    read-point-from-requires
+    returns-5)

@@ -1,0 +1,17 @@
+pub mod Fields
+pub mod SequenceRules
+pub mod SequenceOpening
+pub mod SequencePoints
+pub mod SequenceCoding
+pub mod Sequence
+pub mod ReadSays
+pub mod Support
+pub mod Timed
+pub mod PutFields
+pub mod PutSequence
+pub mod Emittable
+pub mod Emit
+pub mod Frame
+pub mod FrameSays
+pub mod RemovalFlag
+pub mod Checks

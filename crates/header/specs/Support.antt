@@ -1,0 +1,24 @@
+-- What a list of units asks of its sequence header. Assumes nothing.
+use mathlib.Core.Bool.{Bool, not, _&&_, cond as pick}
+use Rattle.bitio.specs.Parse.{Answer, refused, accepted}
+use Rattle.header.specs.declared.seq_header.Opening.{Opening}
+use Rattle.header.specs.declared.seq_header.SequenceHeader.{SequenceHeader}
+use Rattle.header.specs.declared.seq_header.Support.{Support}
+use Rattle.header.specs.declared.seq_header.Support.the-variants.{Supported, Refused}
+
+-- AV1 5.9.2: shown frames carry temporal_point_info
+abbrev pub hasPointInfo : Opening → Bool
+hasPointInfo o = o .model .«decoder_model_info_present» && not (o .timing .«equal_picture_interval»)
+
+-- check_supported: 17 reduced still, 18 frame ids, 19 decoder model with unequal intervals, 20 film grain, in that order
+unfoldable pub support : SequenceHeader → Answer Unit
+support h =
+    pick (h .opening .«reduced_still_picture_header») (refused 17) (
+    pick (h .coding .ids .«frame_id_numbers_present») (refused 18) (
+    pick (hasPointInfo (h .opening)) (refused 19) (
+    pick (h .coding .«film_grain_params_present») (refused 20) (accepted tt))))
+
+-- 01's number for each case of Support
+abbrev pub supportSays : Support → Answer Unit
+supportSays Supported = accepted tt
+supportSays (Refused k) = refused k

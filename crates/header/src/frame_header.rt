@@ -1,0 +1,40 @@
+// The frame header (AV1 5.9.2), up to refresh_frame_flags.
+pub mod read;
+pub mod sections;
+
+pub const KEY_FRAME: u64 = 0;
+
+pub const INTER_FRAME: u64 = 1;
+
+pub const INTRA_ONLY_FRAME: u64 = 2;
+
+pub const SWITCH_FRAME: u64 = 3;
+
+// What a frame's own header says of it.
+pub struct FrameInfo {
+    pub frame_type: u64,
+    pub show_frame: bool,
+    pub showable_frame: bool,
+    pub refresh_frame_flags: u64,
+    pub order_hint: u64,
+}
+
+pub enum FrameHeaderInfo {
+    // show_existing_frame: the slot shown
+    Existing(u64),
+    Frame(FrameInfo),
+}
+
+pub enum FrameAnswer {
+    Header(FrameHeaderInfo),
+    // document 01's number
+    Refused(u64),
+}
+
+// The first fields of a frame that is not shown again.
+pub struct FrameStart {
+    pub frame_type: u64,
+    pub show_frame: bool,
+    pub showable_frame: bool,
+    pub error_resilient_mode: bool,
+}

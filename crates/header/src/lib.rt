@@ -1,0 +1,4 @@
+// The sequence header and the frame header of AV1: read, checked, timed and emitted.
+pub mod fields;
+pub mod frame_header;
+pub mod seq_header;

@@ -1,0 +1,121 @@
+"""What document 01 answers to a request, in plain Python: values and refusal numbers.
+
+Written from 01 and replay.md in another way than the Rust goes about it, and not from our own code,
+so that it is a third opinion; its author had read the Rust. An operation not in OPERATIONS has no
+model.
+"""
+
+from .assembly import assemble
+from .bits import bits, leb, lebput, shortest_leb128, uvlc
+from .containers import annexb, canon, packets, stream, wannexb, wstream
+from .headers import emit, frame, seq, support, timed
+from .obus import PASSING_TYPES, obuput, obus
+from .words import NoRequest, Refused, byte, byte_string, hexadecimal, number, number32, optional_byte
+
+NO_ROOM = 35
+
+# Operations of the protocol that have no model yet.
+LATER = {'play'}
+
+# By operation: the function, its words, and the words that may follow any number of times (`..`).
+OPERATIONS = {
+    'bits': (bits, [byte_string, number, number], []),
+    'uvlc': (uvlc, [byte_string, number], []),
+    'leb': (leb, [byte_string], []),
+    'lebput': (lebput, [number], []),
+    'obus': (obus, [byte_string], []),
+    'obuput': (obuput, [byte, optional_byte, byte_string], []),
+    'seq': (seq, [byte_string], []),
+    'support': (support, [byte_string], []),
+    'emit': (emit, [byte_string], []),
+    'timed': (timed, [byte_string, number32, number32], []),
+    'frame': (frame, [byte_string, byte_string], []),
+    'stream': (stream, [byte_string], []),
+    'annexb': (annexb, [byte_string], []),
+    'wstream': (wstream, [], [byte_string]),
+    'wannexb': (wannexb, [], [byte_string]),
+    'packets': (packets, [], [number, byte_string]),
+    'canon': (canon, [byte_string], []),
+    'assemble': (assemble, [number, number32, number32], [byte_string, byte_string, number]),
+}
+
+
+# What an answer needs of lent memory: bytes, ends or list entries, times or cues.
+
+def one_string(text):
+    return len(byte_string(text)), 0, 0
+
+
+def unit_list(text):
+    units = text.split(' ')[1:]
+    return sum(len(byte_string(unit)) for unit in units), len(units), 0
+
+
+def packet_list(text):
+    packets = text.split(' ')[2::2]
+    return sum(len(byte_string(packet)) for packet in packets), len(packets), len(packets)
+
+
+# Operations that are lent memory. Of assembly's the protocol does not say which bytes count.
+NEEDS = {
+    **dict.fromkeys(['lebput', 'obuput', 'emit', 'timed', 'wstream', 'wannexb', 'canon'], one_string),
+    **dict.fromkeys(['stream', 'annexb'], unit_list),
+    'packets': packet_list,
+}
+
+
+def answer(line):
+    """The answer to a request, or None where there is no model."""
+    name, words, lent = parts(line)
+    if name in LATER:
+        return None
+    try:
+        values = perform(name, words, lent)
+        return f'ok {values}' if values else 'ok'
+    except NoRequest:
+        return 'bad line'
+    except Refused as refusal:
+        return ' '.join(['no', *map(str, refusal.args)])
+
+
+def parts(line):
+    """The operation, its words, and the words B E T of `room B E T ` or None."""
+    words = line.split(' ')
+    if words[0] == 'room' and len(words) > 4:
+        return words[4], words[5:], words[1:4]
+    return words[0], words[1:], None
+
+
+def perform(name, words, lent):
+    if name not in OPERATIONS:
+        raise NoRequest
+    function, kinds, repeated = OPERATIONS[name]
+    room = None if lent is None else [number(word) for word in lent]
+    values = function(*arguments(words, kinds, repeated))
+    if room is not None and name in NEEDS:
+        if any(need > have for need, have in zip(NEEDS[name](values), room)):
+            raise Refused(NO_ROOM)
+    return values
+
+
+def arguments(words, kinds, repeated):
+    """The words' values; those of the repeated words come last, as one list of rows."""
+    given, more = words[:len(kinds)], words[len(kinds):]
+    if len(given) < len(kinds) or (more and not repeated):
+        raise NoRequest
+    values = [kind(word) for kind, word in zip(kinds, given)]
+    return values + [rows(more, repeated)] if repeated else values
+
+
+def rows(words, kinds):
+    if len(words) % len(kinds):
+        raise NoRequest
+    chunks = [words[i:i + len(kinds)] for i in range(0, len(words), len(kinds))]
+    return [tuple(kind(word) for kind, word in zip(kinds, chunk)) for chunk in chunks]
+
+
+def room_needed(line):
+    """(bytes, ends, times) that the answer to an accepted request fills, or None."""
+    name = parts(line)[0]
+    said = answer(line)
+    return NEEDS[name](said[3:]) if name in NEEDS and said.startswith('ok ') else None
