@@ -7,15 +7,11 @@ use Rattle.bitio.specs.Parse.{accepted}
 use Rattle.header.specs.Fields.{answerOf}
 use Rattle.header.specs.Sequence.{Sequence}
 use Rattle.header.specs.Support.{hasPointInfo, support}
-use Rattle.header.specs.Timed.{retimed, withTiming, timed}
+use Rattle.header.specs.Timed.{retimed, withTiming, timed, timedSequence}
 use Rattle.header.specs.Frame.{frameInfo, frameBits, frameHeader, modelled, parseFrame}
 use Rattle.header.specs.declared.seq_header.OperatingPoint.{OperatingPoint}
 use Rattle.header.specs.declared.seq_header.SequenceHeader.{SequenceHeader}
 use Rattle.header.proofs.TimedLaws.{supports, timed-full, timed-is}
-
--- a header read, timed
-abbrev pub timedSequence : ℕ → ℕ → Sequence → Sequence
-timedSequence num den q = record { header = withTiming num den (q .header); points = q .points }
 
 and-false : (b : Bool) → b && false ≡ false
 and-false true = refl

@@ -11,6 +11,7 @@ pub mod PutFields
 pub mod PutSequence
 pub mod Emittable
 pub mod Emit
+pub mod Wrote
 pub mod Frame
 pub mod FrameSays
 pub mod RemovalFlag

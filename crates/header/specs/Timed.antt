@@ -3,6 +3,7 @@ use Prim.Native.Nat.{ℕ}
 use mathlib.Core.Bool.{Bool, true, cond as pick}
 use lib.Dec.{eqb}
 use Rattle.bitio.specs.Parse.{Answer, refused, accepted}
+use Rattle.header.specs.Sequence.{Sequence}
 use Rattle.header.specs.declared.seq_header.TimingInfo.{TimingInfo}
 use Rattle.header.specs.declared.seq_header.Opening.{Opening}
 use Rattle.header.specs.declared.seq_header.SequenceHeader.{SequenceHeader}
@@ -45,3 +46,7 @@ withTiming num den h = record { opening = retimed (rate num den) (h .opening); c
 -- with_timing_info_rate; 17, which 01 adds: a reduced header has no timing info
 unfoldable pub timed : ℕ → ℕ → SequenceHeader → Answer SequenceHeader
 timed num den h = pick (h .opening .«reduced_still_picture_header») (refused 17) (accepted (withTiming num den h))
+
+-- a header with its operating points, timed
+abbrev pub timedSequence : ℕ → ℕ → Sequence → Sequence
+timedSequence num den q = record { header = withTiming num den (q .header); points = q .points }

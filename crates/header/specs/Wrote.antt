@@ -1,0 +1,12 @@
+-- Bits written one field after the other. Assumes nothing.
+use Prim.Native.Nat.{ℕ, _+_, _≤_}
+use mathlib.Core.Path.{_≡_}
+use mathlib.Core.List.{List, _++_}
+use lib.ListN.{length, take}
+use Rattle.bitio.specs.Write.{unpack}
+
+-- from position p in d to position q in e: the bits before p, and then those of f, at most n
+pub record Wrote (d : List ℕ) (p : ℕ) (e : List ℕ) (q n : ℕ) (f : List ℕ → List ℕ) : Type 0 where
+  pub len : length e ≡ length d
+  pub near : q ≤ p + n
+  pub adds : (l : List ℕ) → take q (unpack e) ++ l ≡ take p (unpack d) ++ f l
