@@ -4,10 +4,10 @@ and orders with two faults show which is told first."""
 import itertools
 from dataclasses import dataclass, field
 
-from model.obus import written
+from model.obu import written
 
 from .base import LINE_LIMIT, PICKED, TOP, corpus_streams, damaged, layer, request
-from .header import PLAIN, TIMED
+from .header import PLAIN, READABLE, TIMED
 from .header_bits import bytes_of, closed, make_frame, make_header
 from .obu import obu_head, padded_leb128
 
@@ -19,19 +19,23 @@ LONGEST_LIST = 4096
 
 SMALL_ASSEMBLE = [
     f'assemble 3 25 1 {KEY_UNIT} {GOLDEN_UNIT} 4 {KEY_UNIT} {GOLDEN_UNIT} 1',
-    *[f'assemble {gop} 25 1 {KEY_UNIT} {GOLDEN_UNIT} {frames}' for gop in (0, 1, 2, 3, 4, TOP) for frames in (0, 1, 2, 3, 4, 5, 7)],
-    'assemble 3 25 1', 'assemble 0 25 1', 'assemble 2 0 0',
-    f'assemble 3 0 0 {KEY_UNIT} {GOLDEN_UNIT} 2', f'assemble 3 4294967295 4294967295 {KEY_UNIT} {GOLDEN_UNIT} 2',
-    f'assemble 3 25 1 {TIMED_KEY_UNIT} {GOLDEN_UNIT} 4', f'assemble 3 25 1 {TIMED_KEY_UNIT} 80 4', f'assemble 3 25 1 {KEY_UNIT} 80 4',
-    f'assemble 3 25 1 - - {MOST_FRAMES}', f'assemble 3 25 1 - - {MOST_FRAMES + 1}', f'assemble 3 25 1 - - {TOP} - - 2',
-    f'assemble 3 25 1 - - 0 - - {TOP} - - 3', 'assemble 3 25 1 - - 0 - - 1', 'assemble 3 25 1 - - 0 - - 2', 'assemble 3 25 1 - - 0',
+    *[f'assemble {gop} 25 1 {KEY_UNIT} {GOLDEN_UNIT} {frames}'
+      for gop in (0, 1, 2, 3, 4, TOP) for frames in (0, 1, 2, 3, 4, 5, 7)],
+    'assemble 3 25 1', 'assemble 0 25 1', 'assemble 2 0 0', f'assemble 3 0 0 {KEY_UNIT} {GOLDEN_UNIT} 2',
+    f'assemble 3 4294967295 4294967295 {KEY_UNIT} {GOLDEN_UNIT} 2',
+    f'assemble 3 25 1 {TIMED_KEY_UNIT} {GOLDEN_UNIT} 4', f'assemble 3 25 1 {TIMED_KEY_UNIT} 80 4',
+    f'assemble 3 25 1 {KEY_UNIT} 80 4', f'assemble 3 25 1 - - {MOST_FRAMES}',
+    f'assemble 3 25 1 - - {MOST_FRAMES + 1}', f'assemble 3 25 1 - - {TOP} - - 2',
+    f'assemble 3 25 1 - - 0 - - {TOP} - - 3', 'assemble 3 25 1 - - 0 - - 1', 'assemble 3 25 1 - - 0 - - 2',
+    'assemble 3 25 1 - - 0',
 ]
 
 BAD_ASSEMBLE = [
-    'assemble', 'assemble 3', 'assemble 3 25', 'assemble 3 25 1 -', 'assemble 3 25 1 - -', 'assemble 3 25 1 - - 1 -',
-    'assemble 3 4294967296 1', 'assemble 3 25 4294967296', 'assemble 18446744073709551616 25 1', 'assemble - 25 1',
-    'assemble 3 25 1 - - 18446744073709551616', 'assemble 3 25 1 - - -', 'assemble 3 25 1 0 - 2', 'assemble 3 25 1 - x 2',
-    'assemble 3 25 1 ', 'assemble 3 -1 1', 'room 1 1 assemble 3 25 1',
+    'assemble', 'assemble 3', 'assemble 3 25', 'assemble 3 25 1 -', 'assemble 3 25 1 - -',
+    'assemble 3 25 1 - - 1 -', 'assemble 3 4294967296 1', 'assemble 3 25 4294967296',
+    'assemble 18446744073709551616 25 1', 'assemble - 25 1', 'assemble 3 25 1 - - 18446744073709551616',
+    'assemble 3 25 1 - - -', 'assemble 3 25 1 0 - 2', 'assemble 3 25 1 - x 2', 'assemble 3 25 1 ',
+    'assemble 3 -1 1', 'room 1 1 assemble 3 25 1',
 ]
 
 
@@ -81,7 +85,7 @@ def real_orders():
     pairs = [(key, golden) for golden, key, _ in zip(streams[0::3], streams[1::3], streams[2::3])]
     lines = [request('assemble', 3, 30, 1, key, golden, 4) for key, golden in pairs]
     lines += [request('assemble', 3, 30, 1, key, golden, 1, key, golden, 2) for key, golden in pairs]
-    lines += [request('assemble', 2, 30000, 1001, key, golden, 1, *other, 3) for (key, golden), other in zip(pairs, pairs[1:])]
+    lines += [request('assemble', 2, 30000, 1001, *pair, 1, *other, 3) for pair, other in zip(pairs, pairs[1:])]
     return lines
 
 
@@ -89,9 +93,9 @@ def real_orders():
 
 def make_order(rng, boards=None, **pinned):
     """All boards under one sequence header that assembly takes."""
-    supported = dict(reduced_still_picture_header=0, frame_id_numbers_present=0, film_grain_params_present=0,
-                     equal_picture_interval=1, ticks_zeros=rng.randrange(3), seq_profile=rng.choice((0, 0, 1, 2)),
-                     timing_info_present=rng.randrange(2), operating_points_cnt_minus_1=rng.choice((0, 0, 0, 1, 4)))
+    supported = dict(READABLE, seq_profile=rng.choice((0, 0, 1, 2)), timing_info_present=rng.randrange(2),
+                     equal_picture_interval=1, ticks_zeros=rng.randrange(3), film_grain_params_present=0,
+                     operating_points_cnt_minus_1=rng.choice((0, 0, 0, 1, 4)))
     text, facts = make_header(rng, **{**supported, **pinned})
     order = Order(rng.choice((2, 2, 3, 3, 4, 5, 9, TOP)), small_rate(rng), small_rate(rng), [], facts, closed(text))
     for _ in range(boards or rng.choice((1, 1, 2, 2, 3, 5))):
@@ -132,7 +136,8 @@ def frame_part(rng, order, **pinned):
 
 def others(rng):
     """OBUs that are neither frames nor sequence headers."""
-    return [(rng.choice((0, 2, 4, 5, 7, 8, 15)), rng.randbytes(rng.randrange(4))) for _ in range(rng.choice((0, 0, 0, 1, 2)))]
+    count = rng.choice((0, 0, 0, 1, 2))
+    return [(rng.choice((0, 2, 4, 5, 7, 8, 15)), rng.randbytes(rng.randrange(4))) for _ in range(count)]
 
 
 def make_unit(rng, parts):
@@ -223,8 +228,7 @@ def unsupported_header(rng, order, i):
         dict(seq_profile=5), dict(timing_info_present=1, equal_picture_interval=1, ticks_zeros=32),
         dict(reduced_still_picture_header=1), dict(frame_id_numbers_present=1), dict(film_grain_params_present=1),
         dict(timing_info_present=1, equal_picture_interval=0, decoder_model_info_present=1)))
-    wanted = dict(seq_profile=0, reduced_still_picture_header=0, frame_id_numbers_present=0, film_grain_params_present=0)
-    text, order.facts = make_header(rng, **{**wanted, **pinned})
+    text, order.facts = make_header(rng, **{**READABLE, 'film_grain_params_present': 0, **pinned})
     change_header(rng, order, closed(text))
 
 

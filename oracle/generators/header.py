@@ -2,7 +2,7 @@
 
 import itertools
 
-from model.obus import FRAME_TYPES, SEQUENCE_HEADER, obus_of
+from model.obu import FRAME_TYPES, SEQUENCE_HEADER, obus_of
 
 from .base import PICKED, corpus_streams, damaged, in_every_room, layer, request
 from .header_bits import SRGB, bytes_of, closed, extreme, make_frame, make_header
@@ -15,11 +15,13 @@ RATES = (0, 1, 2, 24, 25, 30, 1001, 30000, 2 ** 31, 2 ** 32 - 1)
 
 SMALL_HEADER = [
     *[f'{name} {payload}' for name in ('seq', 'support', 'emit')
-      for payload in (PLAIN, TIMED, MONOCHROME, '-', '00', '60', '58', 'f8', '1800', '0800', '08', PLAIN[:-2], PLAIN + 'ff')],
+      for payload in (PLAIN, TIMED, MONOCHROME, PLAIN[:-2], PLAIN + 'ff', '-', '00', '08', '58', '60', 'f8', '1800')],
     f'timed {PLAIN} 25 1', f'timed {PLAIN} 0 0', f'timed {PLAIN} 4294967295 4294967295', f'timed {TIMED} 30000 1001',
     f'timed {PLAIN[:-2]} 25 1', 'timed - 25 1', 'timed 60 25 1', f'timed {MONOCHROME} 25 1',
-    *[f'frame {PLAIN} {payload}' for payload in ('10', '3810', '-', '80', 'b8', 'f0', 'ff', '00', '3800', '38', '7000')],
-    f'frame {TIMED} 10', f'frame {TIMED} 3810', 'frame - 10', 'frame 60 10', f'frame {PLAIN[:-2]} 10', 'frame 1800000000 -',
+    *[f'frame {PLAIN} {payload}'
+      for payload in ('10', '3810', '-', '80', 'b8', 'f0', 'ff', '00', '3800', '38', '7000')],
+    f'frame {TIMED} 10', f'frame {TIMED} 3810', 'frame - 10', 'frame 60 10', f'frame {PLAIN[:-2]} 10',
+    'frame 1800000000 -',
 ]
 
 BAD_HEADER = [
@@ -38,6 +40,7 @@ EQUAL = dict(TIMING, equal_picture_interval=1)
 MODEL = dict(TIMING, decoder_model_info_present=1)
 POINT_MODEL = dict(MODEL, decoder_model_present=1)
 DELAYS = dict(PLAIN_KIND, initial_display_delay_present=1)
+IDS = dict(PLAIN_KIND, frame_id_numbers_present=1)
 HINTS = dict(PLAIN_KIND, enable_order_hint=1)
 FORCED = dict(PLAIN_KIND, seq_choose_screen_content_tools=0)
 TWELVE = dict(seq_profile=2, high_bitdepth=1, twelve_bit=1, mono_chrome=0, color_description_present=0)
@@ -51,8 +54,8 @@ BRANCHES = [
     ('low_delay_mode', 2, POINT_MODEL), ('point_display_delay_present', 2, DELAYS),
     ('initial_display_delay_minus_1', 16, dict(DELAYS, point_display_delay_present=1)),
     ('frame_width_bits_minus_1', 16, {}), ('frame_height_bits_minus_1', 16, {}),
-    ('frame_id_numbers_present', 2, PLAIN_KIND), ('delta_frame_id_length_minus_2', 16, dict(PLAIN_KIND, frame_id_numbers_present=1)),
-    ('additional_frame_id_length_minus_1', 8, dict(PLAIN_KIND, frame_id_numbers_present=1)),
+    ('frame_id_numbers_present', 2, PLAIN_KIND), ('delta_frame_id_length_minus_2', 16, IDS),
+    ('additional_frame_id_length_minus_1', 8, IDS),
     ('enable_order_hint', 2, PLAIN_KIND), ('order_hint_bits_minus_1', 8, HINTS),
     ('seq_choose_screen_content_tools', 2, PLAIN_KIND), ('seq_force_screen_content_tools', 2, FORCED),
     ('seq_choose_integer_mv', 2, dict(FORCED, seq_force_screen_content_tools=1)),
@@ -136,10 +139,12 @@ def uvlc_requests(rng):
 
 def colour_requests(rng):
     colours = [None, SRGB, (2, 13, 0), (1, 14, 0), (1, 13, 1), (0, 13, 0), (2, 2, 2)]
-    bits = ('high_bitdepth', 'twelve_bit', 'mono_chrome', 'color_range', 'subsample_x', 'subsample_y', 'separate_uv_delta_q')
+    bits = ('high_bitdepth', 'twelve_bit', 'mono_chrome', 'color_range', 'subsample_x', 'subsample_y',
+            'separate_uv_delta_q')
     for profile, colour in itertools.product(range(4), colours):
         for values in itertools.product((0, 1), repeat=len(bits)):
-            pinned = dict(zip(bits, values), seq_profile=profile, color_description_present=int(colour is not None), colour=colour)
+            pinned = dict(zip(bits, values), seq_profile=profile, colour=colour,
+                          color_description_present=int(colour is not None))
             text, _ = make_header(rng, **pinned)
             yield request(rng.choice(('seq', 'seq', 'emit')), closed(text))
 
@@ -147,7 +152,8 @@ def colour_requests(rng):
 def tool_requests(rng):
     """Order hints of every width, screen content tools and integer motion vectors in every way."""
     choices = ((1, 0, 0, 0), (1, 0, 1, 0), (1, 0, 0, 1), (0, 0, 0, 0), (0, 1, 1, 0), (0, 1, 0, 0), (0, 1, 0, 1))
-    names = ('seq_choose_screen_content_tools', 'seq_force_screen_content_tools', 'seq_choose_integer_mv', 'seq_force_integer_mv')
+    names = ('seq_choose_screen_content_tools', 'seq_force_screen_content_tools', 'seq_choose_integer_mv',
+             'seq_force_integer_mv')
     for hints, width, choice in itertools.product((0, 1), range(8), choices):
         pinned = dict(zip(names, choice), **PLAIN_KIND, enable_order_hint=hints, order_hint_bits_minus_1=width)
         text, _ = make_header(rng, **pinned)
@@ -170,16 +176,16 @@ def point_requests(rng):
         text, _ = make_header(rng, **MODEL, operating_points_cnt_minus_1=count, buffer_delay_length_minus_1=length)
         yield from all_uses(rng, closed(text))
     for model, delay in itertools.product((0, 1), repeat=2):
-        pinned = dict(MODEL, operating_points_cnt_minus_1=31, buffer_delay_length_minus_1=31, decoder_model_present=model,
-                      initial_display_delay_present=delay, point_display_delay_present=1, seq_level_idx=31)
+        pinned = dict(MODEL, operating_points_cnt_minus_1=31, buffer_delay_length_minus_1=31, seq_level_idx=31,
+                      decoder_model_present=model, initial_display_delay_present=delay, point_display_delay_present=1)
         text, _ = make_header(rng, **pinned)
         yield from all_uses(rng, closed(text))
 
 
 def refused_requests(rng):
     """What is not supported, in every combination, so that the first is told."""
-    names = ('reduced_still_picture_header', 'frame_id_numbers_present', 'equal_picture_interval', 'decoder_model_info_present',
-             'timing_info_present', 'film_grain_params_present')
+    names = ('reduced_still_picture_header', 'frame_id_numbers_present', 'equal_picture_interval',
+             'decoder_model_info_present', 'timing_info_present', 'film_grain_params_present')
     for values in itertools.product((0, 1), repeat=len(names)):
         for _ in range(4):
             text, facts = make_header(rng, **dict(zip(names, values)), seq_profile=0)
@@ -234,16 +240,17 @@ def frame_requests(rng):
 def refresh_requests(rng):
     for flags, kind, shown in itertools.product(range(256), range(4), (0, 1)):
         text, facts = make_header(rng, **READABLE)
-        frame = make_frame(rng, facts, show_existing_frame=0, frame_type=kind, show_frame=shown, refresh_frame_flags=flags)
+        frame = make_frame(rng, facts, show_existing_frame=0, frame_type=kind, show_frame=shown,
+                           refresh_frame_flags=flags)
         yield request('frame', closed(text), bytes_of(frame) + rng.randbytes(rng.randrange(2)))
 
 
 def removal_requests(rng):
     """Removal times of every length, cut at every byte; for operating points of any idc."""
     for length, points in itertools.product(range(32), (0, 1, 5, 31)):
-        pinned = dict(READABLE, **{**MODEL, 'equal_picture_interval': 1, 'ticks_zeros': 0}, operating_points_cnt_minus_1=points,
+        pinned = dict(equal_picture_interval=1, ticks_zeros=0, operating_points_cnt_minus_1=points,
                       buffer_removal_time_length_minus_1=length)
-        text, facts = make_header(rng, **pinned)
+        text, facts = make_header(rng, **{**READABLE, **MODEL, **pinned})
         frame = bytes_of(make_frame(rng, facts, show_existing_frame=0, buffer_removal_time_present=1))
         for cut in range(len(frame) + 1):
             yield request('frame', closed(text), frame[:cut])
@@ -253,8 +260,9 @@ def removal_requests(rng):
 def existing_requests(rng):
     """Every slot shown again, under headers with and without a model of equal or unequal intervals."""
     for slot, equal, model in itertools.product(range(8), (0, 1), (0, 1)):
-        pinned = dict(READABLE, timing_info_present=1, equal_picture_interval=equal, decoder_model_info_present=model, ticks_zeros=0)
-        text, facts = make_header(rng, **pinned)
+        pinned = dict(timing_info_present=1, equal_picture_interval=equal, ticks_zeros=0,
+                      decoder_model_info_present=model)
+        text, facts = make_header(rng, **READABLE, **pinned)
         yield from frame_under(rng, text, facts, show_existing_frame=1, slot=slot)
         yield from frame_under(rng, text, facts, show_existing_frame=0)
 

@@ -6,10 +6,10 @@ model.
 """
 
 from .assembly import assemble
-from .bits import bits, leb, lebput, shortest_leb128, uvlc
-from .containers import annexb, canon, packets, stream, wannexb, wstream
-from .headers import emit, frame, seq, support, timed
-from .obus import PASSING_TYPES, obuput, obus
+from .bitio import bits, leb, lebput, shortest_leb128, uvlc
+from .container import annexb, canon, packets, stream, wannexb, wstream
+from .header import emit, frame, seq, support, timed
+from .obu import PASSING_TYPES, obuput, obus
 from .words import NoRequest, Refused, byte, byte_string, hexadecimal, number, number32, optional_byte
 
 NO_ROOM = 35

@@ -1,7 +1,7 @@
 """Assembly: the refusals in 01's order, then the list of units and the cues."""
 
-from .headers import KEY, check_supported, frame_of, header_of, payload_of, timed_header
-from .obus import FRAME_TYPES, SEQUENCE_HEADER, obus_of, written
+from .header import KEY, check_supported, frame_of, header_of, payload_of, timed_header
+from .obu import FRAME_TYPES, SEQUENCE_HEADER, obus_of, written
 from .words import Refused, hexadecimal
 
 NO_SEGMENTS, SMALL_GOP, SMALL_TOTAL, ZERO_FRAMES, LARGE_TOTAL = 21, 22, 23, 24, 25

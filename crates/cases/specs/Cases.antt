@@ -7,6 +7,23 @@ use lib.Dec.{eqb}
 use Rattle.bitio.specs.Parse.{Answer, refused, accepted, answer, many, manyF}
 use Rattle.bitio.specs.Leb.{Number, none, number, readLeb, lebRead, lebBytes, lebWrite, sized, framed}
 use Rattle.obu.specs.Obu.{passes, headObuOf, obusOf, obus, obuBytes}
+use mir.Val.{boolByte}
+use Rattle.bitio.specs.Bits.{bitAt, bitsAt, bitsWithin, readBits}
+use Rattle.bitio.specs.Uvlc.{leadingZeros, uvlcSuffix, uvlc}
+use Rattle.bitio.specs.Write.{bitsOf, halvings, uvlcZeros}
+use Rattle.header.specs.Fields.{readFlag, readOr, flagOr, uvlcOr}
+use Rattle.header.specs.SequenceOpening.{timingInfo, decoderModelInfo, opening}
+use Rattle.header.specs.SequencePoints.{operatingPoint, operatingPoints}
+use Rattle.header.specs.SequenceCoding.{frameSize, frameIds, codingTools, screenTools, filters, colorDescription, colorSampling, coding}
+use Rattle.header.specs.Sequence.{Sequence, sequenceHeader, parseSequence}
+use Rattle.header.specs.Timed.{retimed, withTiming, timed}
+use Rattle.header.specs.PutFields.{put, putOr, putFlag, putFlagOr, putUvlcOr, fits, fitsOr, flagFitsOr, uvlcFitsOr}
+use Rattle.header.specs.PutSequence.{putTiming, putModel, putOpening, putPoint, putPoints, putSize, putIds, putTools, putScreen, putFilters, putColor, putSampling, putCoding, putSequence}
+use Rattle.header.specs.Emittable.{timingFits, modelFits, openingFits, pointFits, pointsFit, sizeFits, idsFit, toolsFit, screenFits, colorFits, samplingFits, codingFits, emittable}
+use Rattle.header.specs.Emit.{ofBits, packN, pack, trailed, sequenceBytes, emitted}
+use Rattle.header.specs.Frame.{showExisting, frameStart, orderHint, removalTimes, bufferRemoval, frameInfo, frameBits, frameHeader, parseFrameFrom}
+use Rattle.header.specs.declared.frame_header.FrameHeaderInfo.{FrameHeaderInfo}
+use Rattle.header.specs.declared.frame_header.FrameHeaderInfo.the-variants.{Existing, Frame}
 
 -- an answer as a list of byte strings or numbers
 abbrev pub Row : Type 0
@@ -48,6 +65,29 @@ leb s = shown (readLeb s)
 abbrev written : List ℕ → Answer (List (List ℕ))
 written s = answer (map obuBytes) (obus s)
 
+abbrev after : {A B : Type 0} → Answer A → (A → Answer B) → Answer B
+after (refused k) f = refused k
+after (accepted a) f = f a
+
+-- a sequence header's payload timed and emitted
+abbrev timedPayload : ℕ → ℕ → List ℕ → Answer (List (List ℕ))
+timedPayload num den s =
+    after (parseSequence s) (λ q.
+    after (timed num den (q .header)) (λ h.
+    answer (λ bs. bs ∷ []) (emitted (record { header = h; points = q .points }))))
+
+-- a frame header as numbers: 1 and the slot shown again; or 0, type, shown, showable, refresh flags, order hint
+abbrev numbers : FrameHeaderInfo → List ℕ
+numbers (Existing slot) = 1 ∷ slot ∷ []
+numbers (Frame f) = 0 ∷ f .«frame_type» ∷ boolByte (f .«show_frame») ∷ boolByte (f .«showable_frame») ∷ f .«refresh_frame_flags» ∷ f .«order_hint» ∷ []
+
+abbrev frame : List ℕ → List ℕ → Answer (List (List ℕ))
+frame s f = answer (λ x. numbers x ∷ []) (parseFrameFrom s f)
+
+-- the sequence header of 01's unit K
+abbrev payloadK : List ℕ
+payloadK = 0x00 ∷ 0x00 ∷ 0x00 ∷ 0x01 ∷ 0x9F ∷ 0xF8 ∷ 0x00 ∷ 0x00 ∷ 0x10 ∷ []
+
 -- ---- the table
 
 abbrev pub rows : List Row
@@ -62,8 +102,14 @@ rows =
     ∷ (written (0x12 ∷ 0x00 ∷ 0x2A ∷ 0x00 ∷ 0x12 ∷ 0x00 ∷ 0x2A ∷ 0x00 ∷ []), accepted ((0x12 ∷ 0x00 ∷ []) ∷ (0x2A ∷ 0x00 ∷ []) ∷ (0x12 ∷ 0x00 ∷ []) ∷ (0x2A ∷ 0x00 ∷ []) ∷ []))
     ∷ (written (0x32 ∷ 0x80 ∷ 0x80 ∷ 0x80 ∷ 0x80 ∷ 0x80 ∷ 0x80 ∷ 0x80 ∷ 0x00 ∷ []), accepted ((0x32 ∷ 0x00 ∷ []) ∷ []))
     ∷ (written (0x32 ∷ 0x80 ∷ 0x80 ∷ 0x80 ∷ 0x80 ∷ 0x80 ∷ 0x80 ∷ 0x80 ∷ 0x80 ∷ []), refused 4)
+    -- 01, 'Sequence header, timed'
+    ∷ (timedPayload 25 1 payloadK, accepted ((0x04 ∷ 0x00 ∷ 0x00 ∷ 0x00 ∷ 0x04 ∷ 0x00 ∷ 0x00 ∷ 0x00 ∷ 0x67 ∷ 0x00 ∷ 0x00 ∷ 0x00 ∷ 0x33 ∷ 0xFF ∷ 0x00 ∷ 0x00 ∷ 0x02 ∷ []) ∷ []))
+    -- the frames of 01's units K and G, and the byte of a show unit of slot 3
+    ∷ (frame payloadK (0x10 ∷ []), accepted ((0 ∷ 0 ∷ 1 ∷ 0 ∷ 255 ∷ 0 ∷ []) ∷ []))
+    ∷ (frame payloadK (0x38 ∷ 0x10 ∷ []), accepted ((0 ∷ 1 ∷ 1 ∷ 1 ∷ 8 ∷ 0 ∷ []) ∷ []))
+    ∷ (frame payloadK (0xB8 ∷ []), accepted ((1 ∷ 3 ∷ []) ∷ []))
     ∷ []
 
 pub cases : check rows ≡ true
-unfolding check map many manyF readLeb lebRead lebBytes lebWrite sized framed passes headObuOf obusOf obuBytes
+unfolding check map many manyF readLeb lebRead lebBytes lebWrite sized framed passes headObuOf obusOf obuBytes bitAt bitsAt bitsWithin readBits leadingZeros uvlcSuffix uvlc bitsOf halvings uvlcZeros readFlag readOr flagOr uvlcOr timingInfo decoderModelInfo opening operatingPoint operatingPoints frameSize frameIds codingTools screenTools filters colorDescription colorSampling coding sequenceHeader parseSequence retimed withTiming timed put putOr putFlag putFlagOr putUvlcOr fits fitsOr flagFitsOr uvlcFitsOr putTiming putModel putOpening putPoint putPoints putSize putIds putTools putScreen putFilters putColor putSampling putCoding putSequence timingFits modelFits openingFits pointFits pointsFit sizeFits idsFit toolsFit screenFits colorFits samplingFits codingFits emittable ofBits packN pack trailed sequenceBytes emitted showExisting frameStart orderHint removalTimes bufferRemoval frameInfo frameBits frameHeader parseFrameFrom
 cases = refl

@@ -15,4 +15,3 @@ pub mod Wrote
 pub mod Frame
 pub mod FrameSays
 pub mod RemovalFlag
-pub mod Checks

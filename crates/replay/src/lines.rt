@@ -1,6 +1,7 @@
 // One line to its operation.
 use crate::bitio_ops;
 use crate::fields::number;
+use crate::header_ops;
 use crate::lent::Room;
 use crate::obu_ops;
 use crate::output::Buffer;
@@ -22,6 +23,16 @@ const LEBPUT: u64 = 0x6c65_6270_7574;
 const OBUS: u64 = 0x6f62_7573;
 
 const OBUPUT: u64 = 0x6f62_7570_7574;
+
+const SEQ: u64 = 0x73_6571;
+
+const SUPPORT: u64 = 0x73_7570_706f_7274;
+
+const EMIT: u64 = 0x656d_6974;
+
+const TIMED: u64 = 0x74_696d_6564;
+
+const FRAME: u64 = 0x66_7261_6d65;
 
 // What the prefix `room B E T ` says, and where the operation starts behind it.
 struct Prefix {
@@ -77,6 +88,11 @@ fn answer_line(
         LEBPUT => bitio_ops::lebput(line, next, prefix.room, lent, out, at),
         OBUS => obu_ops::obus(line, next, decoded, out, at),
         OBUPUT => obu_ops::obuput(line, next, decoded, prefix.room, lent, out, at),
+        SEQ => header_ops::seq(line, next, decoded, out, at),
+        SUPPORT => header_ops::support(line, next, decoded, out, at),
+        EMIT => header_ops::emit(line, next, decoded, prefix.room, lent, out, at),
+        TIMED => header_ops::timed(line, next, decoded, prefix.room, lent, out, at),
+        FRAME => header_ops::frame(line, next, decoded, out, at),
         _ => bad_line(out, at),
     }
 }

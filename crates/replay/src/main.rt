@@ -1,6 +1,8 @@
 // Answers the requests of the line protocol, one a line, from standard input to standard output.
 mod bitio_ops;
 mod fields;
+mod header_ops;
+mod header_text;
 mod lent;
 mod lines;
 mod obu_ops;

@@ -1,8 +1,8 @@
 """Units from and to a stream and Annex B, packets, and canonical units."""
 
-from .bits import leb128, shortest_leb128
-from .obus import (BAD_TYPE, DELIMITER, FORBIDDEN_BIT, FRAME_TYPES, NO_EXTENSION, PASSING_TYPES,
-                   has_frame, head, obus_of, written)
+from .bitio import leb128, shortest_leb128
+from .obu import (BAD_TYPE, DELIMITER, FORBIDDEN_BIT, FRAME_TYPES, NO_EXTENSION, PASSING_TYPES,
+                  has_frame, head, obus_of, written)
 from .words import Refused, counted, hexadecimal
 
 # Refusals of a length's own form, and of a length past the end of what holds it.

@@ -1,6 +1,6 @@
 """OBUs. An OBU is (type, extension or None, payload)."""
 
-from .bits import leb128, shortest_leb128
+from .bitio import leb128, shortest_leb128
 from .words import Refused, counted, hexadecimal
 
 FORBIDDEN_BIT, BAD_TYPE, NO_EXTENSION, OVERRUN = 1, 2, 3, 5

@@ -7,7 +7,7 @@ the base follows it, and so does this.
 
 from collections import namedtuple
 
-from .bits import BITS_RUN_OUT, UVLC_TOO_LONG
+from .bitio import BITS_RUN_OUT, UVLC_TOO_LONG
 from .words import Refused, hexadecimal
 
 BAD_PROFILE = 15
