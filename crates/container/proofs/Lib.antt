@@ -3,3 +3,8 @@ pub mod AnnexBLaws
 pub mod RoundTrip
 pub mod StreamShape
 pub mod Carry
+pub mod RangeLaws
+pub mod ExtentLaws
+pub mod ExtentTurns
+pub mod StreamTurns
+pub mod ListLaws

@@ -288,7 +288,7 @@ units-run (next {u} {us = v ∷ us} s r (next k q t)) =
 
 -- ---- the stream
 
-bytes-append : (os ps : List Obu) → unitBytes (os ++ ps) ≡ unitBytes os ++ unitBytes ps
+pub bytes-append : (os ps : List Obu) → unitBytes (os ++ ps) ≡ unitBytes os ++ unitBytes ps
 unfolding unitBytes flatMap
 bytes-append [] ps = refl
 bytes-append (o ∷ os) ps = rw (bytes-append os ps, append-assoc)

@@ -3,4 +3,7 @@ pub mod AnnexB
 pub mod Packets
 pub mod Limits
 pub mod Units
+pub mod Ranges
+pub mod Extents
+pub mod Lists
 pub mod Container

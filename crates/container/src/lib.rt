@@ -1,2 +1,6 @@
 // Units from and to a stream and Annex B, packets joined, units made canonical (document 01).
+mod extents;
+mod lists;
+mod ranges;
+pub mod stream;
 pub mod units;

@@ -1,0 +1,187 @@
+-- Laws of lists of units in lent memory, and of the stream written from them. Assumes nothing.
+use Prim.Native.Nat.{ℕ, suc, _+_, _-_, _≤_, _<_}
+use native.Mathlib.Numerals.{add-one}
+use native.Mathlib.Omega.{arith}
+use mathlib.Core.Path.{_≡_, refl, sym, ap, _∙_}
+use mathlib.Core.List.{List, [], _∷_, _++_}
+use mathlib.Core.Bool.{Bool, true, false, cond as pick, _||_, _&&_}
+use lib.ListN.{length, getD, take, drop, length-drop, take-append-drop, drop-of-length-le}
+use lib.Seq.{drop-cons, drop-drop}
+use lib.Dec.{leb, ltb, eqb}
+use borrow.Author.Tests.{le-leb, lt-leb, ltb-true, ltb-false, eqb-true, eqb-false, eq-eqb, ne-eqb}
+use Rattle.bitio.specs.Parse.{Answer, refused, accepted, onto}
+use Rattle.bitio.specs.Lent.{pasted}
+use Rattle.container.specs.Stream.{flat, streamBytes}
+use Rattle.container.specs.Limits.{limit, Room}
+use Rattle.container.specs.Units.{unitsFrom, unitsAt, countOf, outAfter}
+use Rattle.container.specs.Container.{stream, writeAt}
+use Rattle.container.specs.Lists.{accepts}
+
+-- ---- what a list holds
+
+none-left : (s : List ℕ) → length s ≡ 0 → s ≡ []
+none-left [] e = refl
+none-left (b ∷ s) e = absurd (omega arith)
+
+onto-is : {A : Type 0} (a : A) (x : Answer (List A)) (l : List A) → onto a x ≡ accepted l → (m : List A) × (x ≡ accepted m) × (l ≡ a ∷ m)
+onto-is a (refused k) l e = let z : _≡_ {A = ℕ} 0 1 = cc in absurd (omega arith)
+onto-is a (accepted m) l e = (m, refl, cc)
+
+from-bytes : (es : List ℕ) (at : ℕ) (s : List ℕ) (us : List (List ℕ)) → unitsFrom at s es ≡ accepted us → streamBytes us ≡ s
+unfolding unitsFrom streamBytes flat
+from-bytes [] at s us e = go (eqb (length s) 0) refl e
+  where
+    go : (b : Bool) → eqb (length s) 0 ≡ b → pick b (accepted []) (refused 36) ≡ accepted us → flat us ≡ s
+    go true q e = let n : us ≡ [] = cc in rw n (sym (none-left s (eqb-true (length s) 0 q)))
+    go false q e = let z : _≡_ {A = ℕ} 0 1 = cc in absurd (omega arith)
+from-bytes (x ∷ es) at s us e = go (leb at x && leb (x - at) (length s)) e (from-bytes es x (drop (x - at) s))
+  where
+    go : (b : Bool) → pick b (onto (take (x - at) s) (unitsFrom x (drop (x - at) s) es)) (refused 36) ≡ accepted us
+        → ((vs : List (List ℕ)) → unitsFrom x (drop (x - at) s) es ≡ accepted vs → flat vs ≡ drop (x - at) s) → flat us ≡ s
+    go true e ih =
+        let m = onto-is (take (x - at) s) (unitsFrom x (drop (x - at) s) es) us e in
+        rw (m .2) (ap (λ l. take (x - at) s ++ l) (ih (m .0) (m .1)) ∙ take-append-drop (x - at) s)
+    go false e ih = let z : _≡_ {A = ℕ} 0 1 = cc in absurd (omega arith)
+
+-- the units of a list, one behind the other, are its bytes
+pub units-bytes : (s es : List ℕ) (us : List (List ℕ)) → unitsAt s es ≡ accepted us → streamBytes us ≡ s
+units-bytes s es us e = from-bytes es 0 s us e
+
+abbrev ending : Bool → Answer (List (List ℕ))
+ending b = pick b (accepted []) (refused 36)
+
+-- a list that is none is refused with 36
+from-none : (es : List ℕ) (at : ℕ) (s : List ℕ) → accepts (unitsFrom at s es) ≡ false → unitsFrom at s es ≡ refused 36
+unfolding unitsFrom
+from-none [] at s e = go (eqb (length s) 0) e
+  where
+    go : (b : Bool) → accepts (ending b) ≡ false → ending b ≡ refused 36
+    go true e = let z : _≡_ {A = ℕ} 0 1 = cc in absurd (omega arith)
+    go false e = refl
+from-none (x ∷ es) at s e = go (leb at x && leb (x - at) (length s)) e (from-none es x (drop (x - at) s))
+  where
+    again : (r : Answer (List (List ℕ))) → (accepts r ≡ false → r ≡ refused 36) → accepts (onto (take (x - at) s) r) ≡ false → onto (take (x - at) s) r ≡ refused 36
+    again (refused k) ih e = ap (onto (take (x - at) s)) (ih e)
+    again (accepted l) ih e = let z : _≡_ {A = ℕ} 0 1 = cc in absurd (omega arith)
+
+    go : (b : Bool) → accepts (pick b (onto (take (x - at) s) (unitsFrom x (drop (x - at) s) es)) (refused 36)) ≡ false
+        → (accepts (unitsFrom x (drop (x - at) s) es) ≡ false → unitsFrom x (drop (x - at) s) es ≡ refused 36)
+        → pick b (onto (take (x - at) s) (unitsFrom x (drop (x - at) s) es)) (refused 36) ≡ refused 36
+    go true e ih = again (unitsFrom x (drop (x - at) s) es) ih e
+    go false e ih = refl
+
+pub units-none : (s es : List ℕ) → accepts (unitsAt s es) ≡ false → unitsAt s es ≡ refused 36
+units-none s es e = from-none es 0 s e
+
+pub units-some : (s es : List ℕ) → accepts (unitsAt s es) ≡ true → (us : List (List ℕ)) × (unitsAt s es ≡ accepted us)
+units-some s es e = go (unitsAt s es) e
+  where
+    go : (x : Answer (List (List ℕ))) → accepts x ≡ true → (us : List (List ℕ)) × (x ≡ accepted us)
+    go (refused k) e = let z : _≡_ {A = ℕ} 0 1 = cc in absurd (omega arith)
+    go (accepted us) e = (us, refl)
+
+-- ---- the turns of the check
+
+pub record Checking (s es : List ℕ) (at i : ℕ) : Type 0 where
+  pub within : at ≤ length s
+  pub same : accepts (unitsAt s es) ≡ accepts (unitsFrom at (drop at s) (drop i es))
+
+pub checking-start : {s es : List ℕ} → Checking s es 0 0
+checking-start = record { within = omega arith; same = refl }
+
+or-false : (x y : Bool) → (x || y) ≡ false → (x ≡ false) × (y ≡ false)
+or-false true y e = let z : _≡_ {A = ℕ} 0 1 = cc in absurd (omega arith)
+or-false false y e = (refl, e)
+
+and-false : (x : Bool) → (x && false) ≡ false
+and-false true = refl
+and-false false = refl
+
+module _ {s es : List ℕ} {at i : ℕ} (c : Checking s es at i) where
+  pub checking-end : length es ≤ i → eqb at (length s) ≡ accepts (unitsAt s es)
+  unfolding unitsFrom
+  checking-end h = sym (c .same ∙ rw (drop-of-length-le es h, length-drop) (go (eqb at (length s)) refl))
+    where
+      go : (b : Bool) → eqb at (length s) ≡ b → accepts (ending (eqb (length s - at) 0)) ≡ b
+      go true q = rw (eq-eqb (length s - at) 0 (omega (arith, eqb-true at (length s) q)))
+      go false q = rw (ne-eqb (length s - at) 0 (λ z. eqb-false at (length s) q (omega (arith, c .within))))
+
+  module _ (h : i < length es) where
+    abbrev e : ℕ
+    e = getD es i 0
+
+    abbrev left : Answer (List (List ℕ))
+    left = unitsFrom e (drop (e - at) (drop at s)) (drop (suc i) es)
+
+    -- the end that comes next
+    turn : (b : Bool) → (leb at e && leb (e - at) (length (drop at s))) ≡ b → accepts (unitsAt s es) ≡ pick b (accepts left) false
+    unfolding unitsFrom
+    turn b q = c .same ∙ rw (drop-cons es i 0 h, q) (go b left)
+      where
+        onto-accepts : (x : Answer (List (List ℕ))) → accepts (onto (take (e - at) (drop at s)) x) ≡ accepts x
+        onto-accepts (refused k) = refl
+        onto-accepts (accepted l) = refl
+
+        go : (b : Bool) (x : Answer (List (List ℕ))) → accepts (pick b (onto (take (e - at) (drop at s)) x) (refused 36)) ≡ pick b (accepts x) false
+        go true x = onto-accepts x
+        go false x = refl
+
+    pub checking-fall : (ltb e at || ltb (length s) e) ≡ true → false ≡ accepts (unitsAt s es)
+    checking-fall t = sym (turn false (go (ltb e at) (ltb (length s) e) refl refl t))
+      where
+        go : (x y : Bool) → ltb e at ≡ x → ltb (length s) e ≡ y → (x || y) ≡ true → (leb at e && leb (e - at) (length (drop at s))) ≡ false
+        go true y p q r = rw (lt-leb at e (ltb-true e at p))
+        go false true p q r =
+            let l : length (drop at s) < e - at = omega (arith, ltb-true (length s) e q, c .within, length-drop at s) in
+            rw (lt-leb (e - at) (length (drop at s)) l) (and-false (leb at e))
+        go false false p q r = let z : _≡_ {A = ℕ} 0 1 = cc in absurd (omega arith)
+
+    pub checking-next : (ltb e at || ltb (length s) e) ≡ false → Checking s es e (i + 1)
+    checking-next t =
+        let (x, y) = or-false (ltb e at) (ltb (length s) e) t in
+        let p : at ≤ e = ltb-false e at x in
+        let q : e ≤ length s = ltb-false (length s) e y in
+        let l : e - at ≤ length (drop at s) = omega (arith, length-drop at s) in
+        let k : at + (e - at) ≡ e = omega arith in
+        record {
+          within = q;
+          same = turn true (rw (le-leb at e p, le-leb (e - at) (length (drop at s)) l)) ∙ rw (drop-drop, k, add-one);
+        }
+
+-- ---- the stream written
+
+module _ (s es d : List ℕ) where
+  abbrev room : Room
+  room = record { bytes = length d; ends = 0 }
+
+  abbrev result : Answer (List ℕ)
+  result = writeAt stream room s es
+
+  abbrev Refuses : ℕ → Type 0
+  Refuses k = (refused k ≡ countOf result) × (d ≡ outAfter result d)
+
+  refuses : {k : ℕ} → result ≡ refused k → Refuses k
+  refuses q = (sym (ap (λ x. countOf x) q), sym (ap (λ x. outAfter x d) q))
+
+  pub write-long : limit < length s → Refuses 34
+  unfolding writeAt
+  write-long l = refuses (rw (lt-leb (length s) limit l))
+
+  module _ (short : length s ≤ limit) where
+    pub write-none : accepts (unitsAt s es) ≡ false → Refuses 36
+    unfolding writeAt
+    write-none n = refuses (rw (le-leb (length s) limit short, units-none s es n))
+
+    module _ (is : accepts (unitsAt s es) ≡ true) where
+      pub write-full : length d < length s → Refuses 35
+      unfolding writeAt
+      write-full l =
+          let (us, q) = units-some s es is in
+          refuses (rw (le-leb (length s) limit short, q, units-bytes s es us q, lt-leb (length s) (length d) l) (rw (le-leb (length s) limit short)))
+
+      pub write-done : {o : List ℕ} → length s ≤ length d → o ≡ pasted d 0 s → (accepted (length s) ≡ countOf result) × (o ≡ outAfter result d)
+      unfolding writeAt
+      write-done {o} l w =
+          let (us, q) = units-some s es is in
+          let r : result ≡ accepted s = rw (le-leb (length s) limit short, q, units-bytes s es us q, le-leb (length s) (length d) l) (rw (le-leb (length s) limit short)) in
+          (sym (ap (λ x. countOf x) r), w ∙ sym (ap (λ x. outAfter x d) r))

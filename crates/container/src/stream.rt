@@ -1,0 +1,127 @@
+// Units from a stream, and a stream from units (document 01).
+ghost use mathlib.Core.Path.{_≡_};
+ghost use lib.ListN.{length};
+ghost use Rattle.bitio.specs.Parse.{accepted};
+ghost use Rattle.container.specs.Stream.{streamUnits};
+ghost use Rattle.container.specs.Units.{sizesOf, bytesAfter, endsAfter, splitSays, countOf, outAfter, joinedSays};
+ghost use Rattle.container.specs.Container.{stream, read, writeAt};
+ghost use Rattle.container.specs.Extents.{UnitRanges, UnitLength, UnitRoom, UnitWrote, StreamFrames, StreamRoom};
+use crate::extents::Extent;
+use crate::extents::less;
+use crate::extents::next_unit;
+use crate::lists::check_ends;
+use crate::ranges::put_written;
+use crate::ranges::written_len;
+use crate::units::Joined;
+use crate::units::Split;
+use obu::unit::Counted;
+use obu::unit::Kind;
+use obu::unit::count_obus;
+use obu::writer::put_bytes;
+
+struct Size {
+    bytes: usize,
+    units: usize,
+}
+
+// How many bytes a unit has, written.
+fn unit_len(s: &[u8], x: Extent) -> usize
+    requires { ⌜ UnitRanges (now s) (x .lead) (x .behind) (x .start) (x .end) ⌝ }
+    ensures { λ r. ⌜ UnitLength (now (s .entry)) (x .lead) (x .behind) (x .start) (x .end) r ⌝ }
+{
+    let n = written_len(s, x.lead, x.behind, true);
+    n + written_len(s, x.start, x.end, false)
+}
+
+// Writes a unit at `to`, where its room is known.
+fn put_unit(s: &[u8], x: Extent, out: &mut [u8], to: usize) -> usize
+    requires { ⌜ UnitRoom (now s) (x .lead) (x .behind) (x .start) (x .end) (now out) to ⌝ }
+    ensures { λ r. ⌜ UnitWrote (now (s .entry)) (x .lead) (x .behind) (x .start) (x .end) (now (out .entry)) to r (now (out .exit)) ⌝ }
+{
+    let w = put_written(s, x.lead, x.behind, true, out, to);
+    put_written(s, x.start, x.end, false, out, w)
+}
+
+// Measures all units of a stream that is read through and has so many frames.
+fn measure(s: &[u8], frames: usize) -> Size
+    requires { ⌜ StreamFrames (now s) frames ⌝ }
+    ensures { λ r. ⌜ sizesOf (streamUnits (now (s .entry))) ≡ accepted (record { bytes = r .bytes; units = r .units }) ⌝ }
+{
+    let mut at: usize = 0;
+    let mut left = frames;
+    let mut bytes: usize = 0;
+    let mut units: usize = 0;
+    while at < s.len() {
+        let x = next_unit(s, at, left);
+        bytes = bytes + unit_len(s, x);
+        units = units + 1;
+        left = less(left);
+        at = x.end;
+    }
+    Size { bytes, units }
+}
+
+// Writes all units, where their room is known.
+fn write(s: &[u8], frames: usize, out: &mut [u8], ends: &mut [u32])
+    requires { ⌜ StreamRoom (now s) frames (now out) (now ends) ⌝ }
+    ensures { λ _. ⌜ now (out .exit) ≡ bytesAfter (streamUnits (now (s .entry))) (now (out .entry)) ⌝ }
+    ensures { λ _. ⌜ now (ends .exit) ≡ endsAfter (streamUnits (now (s .entry))) (now (ends .entry)) ⌝ }
+{
+    let mut at: usize = 0;
+    let mut left = frames;
+    let mut w: usize = 0;
+    let mut u: usize = 0;
+    while at < s.len() {
+        let x = next_unit(s, at, left);
+        w = put_unit(s, x, out, w);
+        ends[u] = w as u32;
+        u = u + 1;
+        left = less(left);
+        at = x.end;
+    }
+}
+
+// A stream's units: their bytes to `out`, the end of each to `ends`. A refusal changes neither.
+pub fn split_obu_stream(data: &[u8], out: &mut [u8], ends: &mut [u32]) -> Split
+    ensures { λ r. ⌜ splitSays r ≡ sizesOf (read stream (record { bytes = length (now (out .entry)); ends = length (now (ends .entry)) }) (now («data» .entry))) ⌝ }
+    ensures { λ _. ⌜ now (out .exit) ≡ bytesAfter (read stream (record { bytes = length (now (out .entry)); ends = length (now (ends .entry)) }) (now («data» .entry))) (now (out .entry)) ⌝ }
+    ensures { λ _. ⌜ now (ends .exit) ≡ endsAfter (read stream (record { bytes = length (now (out .entry)); ends = length (now (ends .entry)) }) (now («data» .entry))) (now (ends .entry)) ⌝ }
+{
+    let input = data.len();
+    if input > 4_000_000_000 {
+        return Split::Refused(34);
+    }
+    let frames = match count_obus(data, Kind::Frame) {
+        Counted::Refused(k) => {
+            return Split::Refused(k);
+        }
+        Counted::Count(n) => n,
+    };
+    let size = measure(data, frames);
+    let bytes = size.bytes;
+    let units = size.units;
+    if (bytes > 4_000_000_000) | (bytes > out.len()) | (units > ends.len()) {
+        return Split::Refused(35);
+    }
+    write(data, frames, out, ends);
+    Split::Units(bytes, units)
+}
+
+// A stream of units: their bytes as they are. A refusal changes nothing.
+pub fn write_obu_stream(units: &[u8], unit_ends: &[u32], out: &mut [u8]) -> Joined
+    ensures { λ r. ⌜ joinedSays r ≡ countOf (writeAt stream (record { bytes = length (now (out .entry)); ends = 0 }) (now (units .entry)) (now («unit_ends» .entry))) ⌝ }
+    ensures { λ _. ⌜ now (out .exit) ≡ outAfter (writeAt stream (record { bytes = length (now (out .entry)); ends = 0 }) (now (units .entry)) (now («unit_ends» .entry))) (now (out .entry)) ⌝ }
+{
+    let len = units.len();
+    if len > 4_000_000_000 {
+        return Joined::Refused(34);
+    }
+    if !check_ends(units, unit_ends) {
+        return Joined::Refused(36);
+    }
+    if len > out.len() {
+        return Joined::Refused(35);
+    }
+    put_bytes(out, 0, units);
+    Joined::Bytes(len)
+}
