@@ -1,4 +1,5 @@
 pub mod Parse
+pub mod Limits
 pub mod Lent
 pub mod Bits
 pub mod Uvlc

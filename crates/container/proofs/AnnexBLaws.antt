@@ -57,11 +57,11 @@ every (o ∷ os) (also a as′) l =
     let n = length-append (framed p) (flatMap innerBytes os) in
     also (λ r. within-back 10 11 innerObu p r o (omega (arith, framed-length p)) (inner-back o a)) (every os as′ (omega arith))
 
-length-shrinks : Shrinks lengthObu
+pub length-shrinks : Shrinks lengthObu
 unfolding lengthObu
 length-shrinks = within-shrinks 10 11 innerObu
 
-frame-shrinks : Shrinks frameUnit
+pub frame-shrinks : Shrinks frameUnit
 unfolding frameUnit
 frame-shrinks = within-shrinks 8 9 (many lengthObu)
 
@@ -108,7 +108,7 @@ some-bytes : (u : List Obu) (us : List (List Obu)) → 0 < length (flatMap annex
 unfolding flatMap annexbUnit
 some-bytes u us = omega (arith, framed-length (framed (flatMap innerBytes u)), length-append (annexbUnit u) (flatMap annexbUnit us))
 
-annexb-some : (s : List ℕ) → 0 < length s → annexbUnits s ≡ answer (map unitBytes) (many temporalUnit s)
+pub annexb-some : (s : List ℕ) → 0 < length s → annexbUnits s ≡ answer (map unitBytes) (many temporalUnit s)
 unfolding annexbUnits
 annexb-some [] l = absurd (omega arith)
 annexb-some (b ∷ s) l = refl

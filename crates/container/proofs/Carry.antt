@@ -12,7 +12,8 @@ use Rattle.bitio.specs.Parse.{Answer, refused, accepted}
 use Rattle.bitio.proofs.ParseLaws.{Every, pick-cases, pick-both}
 use Rattle.bitio.proofs.ParseLaws.Every.{none as nothing, also}
 use Rattle.container.specs.Stream.{streamBytes}
-use Rattle.container.specs.Limits.{limit, Room, fits}
+use Rattle.bitio.specs.Limits.{limit}
+use Rattle.container.specs.Limits.{Room, fits}
 use Rattle.container.specs.Container.{Container, stream, annexb, unitsIn, bytesIn, read, write}
 use Rattle.container.proofs.RoundTrip.{Written, Whole, stream-back, annexb-wrote, annexb-round}
 

@@ -8,3 +8,12 @@ pub mod ExtentLaws
 pub mod ExtentTurns
 pub mod StreamTurns
 pub mod ListLaws
+pub mod SpanLaws
+pub mod PartLaws
+pub mod MeasureLaws
+pub mod FillLaws
+pub mod SplitLaws
+pub mod CutLaws
+pub mod JoinLaws
+pub mod WriteLaws
+pub mod AnnexBShape

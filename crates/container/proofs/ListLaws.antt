@@ -12,7 +12,8 @@ use borrow.Author.Tests.{le-leb, lt-leb, ltb-true, ltb-false, eqb-true, eqb-fals
 use Rattle.bitio.specs.Parse.{Answer, refused, accepted, onto}
 use Rattle.bitio.specs.Lent.{pasted}
 use Rattle.container.specs.Stream.{flat, streamBytes}
-use Rattle.container.specs.Limits.{limit, Room}
+use Rattle.bitio.specs.Limits.{limit}
+use Rattle.container.specs.Limits.{Room}
 use Rattle.container.specs.Units.{unitsFrom, unitsAt, countOf, outAfter}
 use Rattle.container.specs.Container.{stream, writeAt}
 use Rattle.container.specs.Lists.{accepts}

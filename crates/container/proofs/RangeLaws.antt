@@ -20,7 +20,7 @@ use Rattle.bitio.proofs.ParseLaws.{parts-length}
 use Rattle.obu.proofs.ObuLaws.{is-obu, obus-nil, obus-item, obus-stop}
 use Rattle.obu.proofs.LengthLaws.{obu-length}
 use Rattle.obu.proofs.PlaceLaws.{Placed, IsPlaced, is-placed, part-placed}
-use Rattle.container.specs.Limits.{limit}
+use Rattle.bitio.specs.Limits.{limit}
 use Rattle.container.specs.Stream.{isDelimiter, others}
 use Rattle.container.specs.Ranges.{Step, Range, here, more, isKept, keptOne, keptBytes, Ranged, Measured, Roomy, Wrote, WroteKept}
 

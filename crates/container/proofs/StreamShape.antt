@@ -273,7 +273,7 @@ module _ {P : Obu → Type 0} where
 
 -- ---- the units of a stream
 
-each-written : {us : List (List Obu)} → Every (Every Allowed) us → Every Written (map unitBytes us)
+pub each-written : {us : List (List Obu)} → Every (Every Allowed) us → Every Written (map unitBytes us)
 each-written nothing = nothing
 each-written (also {a = u} h hs) = also (record { held = u; reads = obus-unit h; writes = refl }) (each-written hs)
 

@@ -13,7 +13,8 @@ use Rattle.bitio.proofs.LentLaws.{pasted-nil, pasted-one, pasted-more, pasted-l
 use Rattle.obu.specs.Obu.{Obu, obus, unitBytes}
 use Rattle.obu.specs.Unit.{count}
 use Rattle.container.specs.Stream.{isFrame, others, units, streamUnits, flat, streamBytes}
-use Rattle.container.specs.Limits.{limit, Room, fits, fitUnits}
+use Rattle.bitio.specs.Limits.{limit}
+use Rattle.container.specs.Limits.{Room, fits, fitUnits}
 use Rattle.container.specs.Units.{endsOf, Sizes, sizesOf, bytesAfter, endsAfter}
 use Rattle.container.specs.Container.{stream, read}
 use Rattle.container.specs.Ranges.{keptBytes, Ranged, Measured, Roomy, Wrote, WroteKept}

@@ -8,7 +8,7 @@ use Rattle.bitio.specs.Parse.{accepted}
 use Rattle.obu.specs.Obu.{Obu, obus, unitBytes}
 use Rattle.obu.specs.Unit.{count}
 use Rattle.container.specs.Stream.{isDelimiter, isFrame, opens, lead, either, others, units, flat}
-use Rattle.container.specs.Limits.{limit}
+use Rattle.bitio.specs.Limits.{limit}
 use Rattle.container.specs.Ranges.{Range, Wrote}
 
 -- the last delimiter, if there is one

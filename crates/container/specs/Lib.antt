@@ -7,3 +7,6 @@ pub mod Ranges
 pub mod Extents
 pub mod Lists
 pub mod Container
+pub mod Spans
+pub mod Fill
+pub mod Join

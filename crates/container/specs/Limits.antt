@@ -4,12 +4,9 @@ use mathlib.Core.List.{List}
 use mathlib.Core.Bool.{Bool, cond as pick, _&&_}
 use lib.ListN.{length}
 use lib.Dec.{leb}
+use Rattle.bitio.specs.Limits.{limit}
 use Rattle.bitio.specs.Parse.{Answer, refused, accepted}
 use Rattle.container.specs.Stream.{streamBytes}
-
--- 01: no more input or output bytes than this
-abbrev pub limit : ℕ
-limit = 4000000000
 
 -- 01: 34, an input over the limit, leads everywhere
 abbrev pub led34 : {A : Type 0} → ℕ → Answer A → Answer A

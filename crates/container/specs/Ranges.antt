@@ -9,7 +9,7 @@ use Rattle.bitio.specs.Lent.{pasted}
 use Rattle.obu.specs.Obu.{Obu, headObu, obuBytes, unitBytes}
 use Rattle.obu.specs.Unit.{isType}
 use Rattle.obu.specs.declared.unit.Kind.the-variants.{TemporalDelimiter}
-use Rattle.container.specs.Limits.{limit}
+use Rattle.bitio.specs.Limits.{limit}
 use Rattle.container.specs.Stream.{others}
 
 -- the OBU o stands at a, the next one at m

@@ -1,4 +1,5 @@
 // Units from and to a stream and Annex B, packets joined, units made canonical (document 01).
+pub mod annexb;
 mod extents;
 mod lists;
 mod ranges;

@@ -6,7 +6,7 @@ ghost use mathlib.Core.Bool.{true, cond as pick};
 ghost use Rattle.obu.specs.Obu.{passes};
 ghost use Rattle.obu.specs.Place.{extensionSays, part};
 ghost use Rattle.obu.specs.Write.{obuLength, obu};
-ghost use Rattle.container.specs.Limits.{limit};
+ghost use Rattle.bitio.specs.Limits.{limit};
 ghost use Rattle.container.specs.Ranges.{isKept, keptOne, Ranged, Measured, Roomy, Wrote, WroteKept};
 use obu::reader::Obu;
 use obu::reader::ObuAt;

@@ -30,7 +30,7 @@ pub enum ObuAt {
 }
 
 // 01: the types 0 to 8 and 15.
-pub(crate) fn is_known_type(t: u8) -> bool
+pub fn is_known_type(t: u8) -> bool
     ensures { λ r. ⌜ r ≡ passes t ⌝ }
 {
     (t <= 8) | (t == 15)
@@ -92,7 +92,7 @@ pub fn obu_at(s: &[u8], at: usize) -> ObuAt
 }
 
 // The number of a refusal, 0 where there is none.
-pub(crate) fn refusal(found: ObuAt) -> u32
+pub fn refusal(found: ObuAt) -> u32
     ensures { λ r. ⌜ r ≡ refusalOf (obuSays found) ⌝ }
 {
     match found {

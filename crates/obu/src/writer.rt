@@ -20,7 +20,8 @@ pub enum ObuPut {
     Full,
 }
 
-fn extension_len(extension: Extension) -> usize
+// How many bytes the extension has.
+pub fn extension_len(extension: Extension) -> usize
     ensures { λ r. ⌜ r ≡ length (extBytes (extensionSays extension)) ⌝ }
 {
     match extension {

@@ -25,6 +25,14 @@ impl Room {
             ample
         }
     }
+
+    pub(crate) fn ends_or(self, ample: usize) -> usize {
+        if self.is_given {
+            self.ends as usize
+        } else {
+            ample
+        }
+    }
 }
 
 pub(crate) fn mark(memory: &mut [u8])

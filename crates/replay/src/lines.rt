@@ -1,5 +1,6 @@
 // One line to its operation.
 use crate::bitio_ops;
+use crate::container_ops;
 use crate::fields::number;
 use crate::header_ops;
 use crate::lent::Room;
@@ -33,6 +34,14 @@ const EMIT: u64 = 0x656d_6974;
 const TIMED: u64 = 0x74_696d_6564;
 
 const FRAME: u64 = 0x66_7261_6d65;
+
+const STREAM: u64 = 0x7374_7265_616d;
+
+const ANNEXB: u64 = 0x616e_6e65_7862;
+
+const WSTREAM: u64 = 0x77_7374_7265_616d;
+
+const WANNEXB: u64 = 0x77_616e_6e65_7862;
 
 // What the prefix `room B E T ` says, and where the operation starts behind it.
 struct Prefix {
@@ -93,6 +102,10 @@ fn answer_line(
         EMIT => header_ops::emit(line, next, decoded, prefix.room, lent, out, at),
         TIMED => header_ops::timed(line, next, decoded, prefix.room, lent, out, at),
         FRAME => header_ops::frame(line, next, decoded, out, at),
+        STREAM => container_ops::split(false, line, next, decoded, prefix.room, lent, out, at),
+        ANNEXB => container_ops::split(true, line, next, decoded, prefix.room, lent, out, at),
+        WSTREAM => container_ops::join(false, line, next, decoded, prefix.room, lent, out, at),
+        WANNEXB => container_ops::join(true, line, next, decoded, prefix.room, lent, out, at),
         _ => bad_line(out, at),
     }
 }

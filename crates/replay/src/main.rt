@@ -1,5 +1,6 @@
 // Answers the requests of the line protocol, one a line, from standard input to standard output.
 mod bitio_ops;
+mod container_ops;
 mod fields;
 mod header_ops;
 mod header_text;

@@ -1,0 +1,73 @@
+-- The blocks of a segment, the unit list and the cue list (01, 'Unit list and cue list'). Assumes nothing.
+use Prim.Native.Nat.{ℕ, zero, suc, _+_, _*_, _-_, _%_, min}
+use mathlib.Core.List.{List, [], _∷_, _++_, map}
+use mathlib.Core.Bool.{Bool, false, cond as pick, _||_}
+use lib.ListN.{replicate}
+use lib.Dec.{leb, eqb}
+
+-- 01: the kinds of a list's units
+pub data Kind : Type 0 where
+  Key Golden Show : Kind
+
+-- ---- the blocks of one segment
+
+-- a block of so many units: key, golden, then show units. 01: a block of 1 after a golden is one show unit, a segment of 1 frame is its key
+abbrev pub block : Bool → ℕ → List Kind
+block after zero = []
+block after (suc zero) = pick after Show Key ∷ []
+block after (suc (suc n)) = Key ∷ Golden ∷ replicate n Show
+
+-- 01: blocks of min(frames left, gop_size), k at most; after: the segment has had a golden
+unfoldable pub blocks : ℕ → ℕ → Bool → ℕ → List Kind
+blocks zero gop after left = []
+blocks (suc k) gop after left =
+    block after (min left gop) ++ blocks k gop (after || leb 2 (min left gop)) (left - min left gop)
+
+-- the units of a segment of n frames
+abbrev pub kinds : ℕ → ℕ → List Kind
+kinds gop n = blocks n gop false n
+
+-- ---- the list
+
+pub record Entry : Type 0 where
+  pub segment : ℕ
+  pub kind : Kind
+
+-- 01: key 0, golden 1, show 2
+abbrev pub code : Kind → ℕ
+code Key = 0
+code Golden = 1
+code Show = 2
+
+-- 01: a list entry is segment × 4 + kind, segments from 0
+abbrev pub number : Entry → ℕ
+number e = e .segment * 4 + code (e .kind)
+
+-- the entries of segments with these frames, one segment after the other, the first being segment i
+unfoldable pub layout : ℕ → ℕ → List ℕ → List Entry
+layout gop i [] = []
+layout gop i (n ∷ ns) = map (λ k. record { segment = i; kind = k }) (kinds gop n) ++ layout gop (suc i) ns
+
+abbrev pub listOf : ℕ → List ℕ → List ℕ
+listOf gop ns = map number (layout gop 0 ns)
+
+-- ---- the cues
+
+-- the positions, rising, of the elements that pass, the first element standing at p
+unfoldable pub positions : {A : Type 0} → (A → Bool) → ℕ → List A → List ℕ
+positions pass p [] = []
+positions pass p (a ∷ l) = pick (pass a) (p ∷ positions pass (suc p) l) (positions pass (suc p) l)
+
+abbrev pub isKeyEntry : ℕ → Bool
+isKeyEntry n = eqb (n % 4) 0
+
+-- 01: cues count units from 1
+abbrev pub cuesOf : List ℕ → List ℕ
+cuesOf list = positions isKeyEntry 1 list
+
+-- ---- the frames ordered
+
+-- 01: the frames ordered are the sum of the segments' frames
+unfoldable pub total : List ℕ → ℕ
+total [] = 0
+total (n ∷ ns) = n + total ns

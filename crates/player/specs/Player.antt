@@ -1,0 +1,101 @@
+-- The player (01, 'Player'): eight slots, a kept sequence header, and what playing one unit does. Assumes nothing.
+use Prim.Native.Nat.{ℕ, _/_, _%_}
+use mathlib.Core.List.{List, [], _∷_}
+use mathlib.Core.Bool.{Bool, cond as pick}
+use mathlib.Core.Option.{Option, none, some}
+use lib.ListN.{length, getD, replicate}
+use lib.Dec.{eqb, ltb}
+use Rattle.bitio.specs.Parse.{Answer, refused, accepted, andNext}
+use Rattle.bitio.specs.Limits.{limit}
+use Rattle.obu.specs.Obu.{Obu, obus}
+use Rattle.obu.specs.Unit.{isKind, count, firstPayload}
+use Rattle.obu.specs.declared.unit.Kind.the-variants.{SequenceHeader, Frame as FrameObu}
+use Rattle.header.specs.Sequence.{Sequence, parseSequence}
+use Rattle.header.specs.Support.{support}
+use Rattle.header.specs.Frame.{keyFrame, parseFrame}
+use Rattle.header.specs.declared.frame_header.FrameHeaderInfo.{FrameHeaderInfo}
+use Rattle.header.specs.declared.frame_header.FrameHeaderInfo.the-variants.{Existing, Frame}
+
+-- ---- the slots
+
+-- 01: empty, or holding a unit position, with the marks showable and key
+pub data Slot : Type 0 where
+  empty : Slot
+  filled : (position : ℕ) (showable key : Bool) → Slot
+
+-- AV1 7.20: each slot whose bit is set in the refresh flags takes the frame
+unfoldable pub refresh : ℕ → Slot → List Slot → List Slot
+refresh flags new [] = []
+refresh flags new (s ∷ ss) = pick (eqb (flags % 2) 1) new s ∷ refresh (flags / 2) new ss
+
+-- the position shown, if any, and the slots afterwards
+pub record Shown : Type 0 where
+  pub shown : Option ℕ
+  pub slots : List Slot
+
+-- AV1 7.21: a slot is shown; a key so shown fills all eight, marks kept. 37 slot empty, 38 not showable
+abbrev pub showSlot : List Slot → Slot → Answer Shown
+showSlot slots empty = refused 37
+showSlot slots (filled q showable key) =
+    pick showable
+    (accepted (record { shown = some q; slots = pick key (replicate 8 (filled q showable key)) slots }))
+    (refused 38)
+
+-- a frame, played under position p
+abbrev pub act : List Slot → ℕ → FrameHeaderInfo → Answer Shown
+act slots p (Existing i) = showSlot slots (getD slots i empty)
+act slots p (Frame f) =
+    accepted (record {
+      shown = pick (f .«show_frame») (some p) none;
+      slots = refresh (f .«refresh_frame_flags») (filled p (f .«showable_frame») (eqb (f .«frame_type») keyFrame)) slots;
+    })
+
+-- ---- a unit
+
+pub record State : Type 0 where
+  pub slots : List Slot
+  pub kept : Option Sequence
+
+-- eight empty slots and no header
+abbrev pub start : State
+start = record { slots = replicate 8 empty; kept = none }
+
+-- 01: a unit's sequence headers are read in order and the last is kept: 14 to 16 and 17 to 20 of each
+unfoldable pub keep : Option Sequence → List Obu → Answer (Option Sequence)
+keep k [] = accepted k
+keep k (o ∷ os) =
+    pick (isKind SequenceHeader o)
+    (andNext (parseSequence (o .payload)) (λ q. andNext (support (q .header)) (λ _. keep (some q) os)))
+    (keep k os)
+
+-- 26 if there has been none
+abbrev pub known : Option Sequence → Answer Sequence
+known none = refused 26
+known (some q) = accepted q
+
+-- the payload of a unit's frame: 28 no frame, 39 more than one
+unfoldable pub soleFrame : List Obu → Answer (List ℕ)
+soleFrame os =
+    pick (eqb (count (isKind FrameObu) os) 0) (refused 28) (
+    pick (ltb 1 (count (isKind FrameObu) os)) (refused 39) (accepted (firstPayload (isKind FrameObu) os)))
+
+pub record Played : Type 0 where
+  pub shown : Option ℕ
+  pub state : State
+
+-- the unit u, played under position p: 34; 1 to 5; 14 to 20; 26; 28; 39; 14; 37; 38
+unfoldable pub play : State → ℕ → List ℕ → Answer Played
+play st p u =
+    pick (ltb limit (length u)) (refused 34) (
+    andNext (obus u) (λ os.
+    andNext (keep (st .kept) os) (λ k.
+    andNext (known k) (λ q.
+    andNext (soleFrame os) (λ f.
+    andNext (parseFrame q f) (λ x.
+    andNext (act (st .slots) p x) (λ r.
+    accepted (record { shown = r .shown; state = record { slots = r .slots; kept = some q } }))))))))
+
+-- 01: a refused unit leaves slots and kept header as they were
+abbrev pub leaves : State → Answer Played → State
+leaves st (refused n) = st
+leaves st (accepted r) = r .state
