@@ -17,3 +17,12 @@ pub mod CutLaws
 pub mod JoinLaws
 pub mod WriteLaws
 pub mod AnnexBShape
+pub mod SliceLaws
+pub mod PacketLaws
+pub mod PacketSteps
+pub mod PacketListLaws
+pub mod CanonicalLaws
+pub mod PacketRunLaws
+pub mod PacketPieceLaws
+pub mod PacketMergeLaws
+pub mod PacketOutcomeLaws

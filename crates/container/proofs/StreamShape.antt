@@ -19,7 +19,7 @@ use Rattle.container.proofs.RoundTrip.{Written}
 
 -- ---- counting
 
-others-none : (a : List Obu) → count isDelimiter (others a) ≡ 0
+pub others-none : (a : List Obu) → count isDelimiter (others a) ≡ 0
 unfolding count others
 others-none [] = refl
 others-none (o ∷ a) = let ih = others-none a in pick-cases (λ l. count isDelimiter l ≡ 0) (isDelimiter o) (λ e. ih) (λ e. rw e ih)
@@ -36,11 +36,11 @@ pub data Few : List Obu → Type 0 where
   empty : Few []
   lone : {o : Obu} → isDelimiter o ≡ true → Few (o ∷ [])
 
-lead-few : (a : List Obu) → Few (lead a)
+pub lead-few : (a : List Obu) → Few (lead a)
 lead-few [] = empty
 lead-few (o ∷ a) = pick-cases Few (isDelimiter o) (λ e. lone e) (λ e. empty)
 
-either-few : {a b : List Obu} → Few a → Few b → Few (either a b)
+pub either-few : {a b : List Obu} → Few a → Few b → Few (either a b)
 either-few empty f = f
 either-few (lone e) f = lone e
 
@@ -237,7 +237,7 @@ module _ {P : Obu → Type 0} where
   either-every nothing q = q
   either-every (also p ps) q = also p ps
 
-  join-every : {a b : List Obu} → Every P a → Every P b → Every P (join a b)
+  pub join-every : {a b : List Obu} → Every P a → Every P b → Every P (join a b)
   unfolding join
   join-every p q = every-append (either-every (lead-every p) (lead-every q)) (every-append (others-every p) (others-every q))
 

@@ -10,3 +10,7 @@ pub mod Container
 pub mod Spans
 pub mod Fill
 pub mod Join
+pub mod PacketLists
+pub mod Canonical
+pub mod PacketRuns
+pub mod PacketChecks

@@ -2,6 +2,7 @@
 pub mod annexb;
 mod extents;
 mod lists;
+pub mod packets;
 mod ranges;
 pub mod stream;
 pub mod units;
