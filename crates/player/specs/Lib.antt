@@ -1,2 +1,3 @@
 pub mod Player
+pub mod Code
 pub mod Checks

@@ -1,1 +1,5 @@
-// The player of document 01: so far its definition, in specs/Player.antt.
+// The player of document 01: eight slots, a kept sequence header, and one unit played.
+pub mod keep;
+pub mod slots;
+pub mod start;
+pub mod step;

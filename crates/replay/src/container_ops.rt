@@ -10,11 +10,13 @@ use crate::lent::wrote;
 use crate::lent::wrote_none;
 use crate::output::Buffer;
 use crate::output::bad_line;
+use crate::output::least;
 use crate::output::put_hex;
 use crate::output::put_number;
 use crate::output::put_text;
 use container::annexb::split_annexb;
 use container::annexb::write_annexb;
+use container::packets::canonicalize_tu;
 use container::stream::split_obu_stream;
 use container::stream::write_obu_stream;
 use container::units::Joined;
@@ -65,7 +67,8 @@ fn put_units(memory: &[u8], ends: &[u32], u: usize, out: &mut Buffer, at: usize)
     let mut to = at;
     let mut start: usize = 0;
     let mut i: usize = 0;
-    while i < u && i < ends.len() {
+    let n = least(u, ends.len());
+    while i < n {
         let end = ends[i] as usize;
         to = put_unit(memory, start, end, out, to);
         start = end;
@@ -151,7 +154,10 @@ fn read_units(line: &[u8], from: usize, decoded: &mut [u8], ends: &mut [u32]) ->
     let mut next = from;
     let mut end: usize = 0;
     let mut count: usize = 0;
-    while next <= line.len() && count < ends.len() {
+    while next <= line.len() {
+        if count >= ends.len() {
+            break;
+        }
         let field = bytes(line, next, decoded, end);
         end = field.end;
         ends[count] = (end % 0x1_0000_0000) as u32;
@@ -159,6 +165,14 @@ fn read_units(line: &[u8], from: usize, decoded: &mut [u8], ends: &mut [u32]) ->
         next = field.next;
     }
     UnitsField { end, count, next }
+}
+
+// The answer of a writer, from what it left in memory.
+fn put_joined(answer: Joined, memory: &[u8], out: &mut Buffer, at: usize) -> usize {
+    match answer {
+        Joined::Bytes(n) => wrote(memory, n, out, at),
+        Joined::Refused(k) => wrote_none(memory, k as u64, out, at),
+    }
 }
 
 fn join_into(
@@ -170,15 +184,37 @@ fn join_into(
     at: usize,
 ) -> usize {
     mark(memory);
-    let answer = if is_annexb {
-        write_annexb(units, ends, memory)
-    } else {
-        write_obu_stream(units, ends, memory)
-    };
-    match answer {
-        Joined::Bytes(n) => wrote(memory, n, out, at),
-        Joined::Refused(k) => wrote_none(memory, k as u64, out, at),
+    if is_annexb {
+        let answer = write_annexb(units, ends, memory);
+        return put_joined(answer, memory, out, at);
     }
+    let answer = write_obu_stream(units, ends, memory);
+    put_joined(answer, memory, out, at)
+}
+
+fn canon_into(unit: &[u8], memory: &mut [u8], out: &mut Buffer, at: usize) -> usize {
+    mark(memory);
+    let answer = canonicalize_tu(unit, memory);
+    put_joined(answer, memory, out, at)
+}
+
+// canon UNIT
+pub(crate) fn canon(
+    line: &[u8],
+    from: usize,
+    decoded: &mut [u8],
+    room: Room,
+    lent: &mut [u8],
+    out: &mut Buffer,
+    at: usize,
+) -> usize {
+    let s = bytes(line, from, decoded, 0);
+    let n = room.bytes_or(lent.len());
+    if !is_end(line, s.next) || n > lent.len() {
+        return bad_line(out, at);
+    }
+    let end = s.end;
+    canon_into(&decoded[0..end], &mut lent[0..n], out, at)
 }
 
 // wstream UNIT .., wannexb UNIT ..

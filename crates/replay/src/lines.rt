@@ -43,6 +43,8 @@ const WSTREAM: u64 = 0x77_7374_7265_616d;
 
 const WANNEXB: u64 = 0x77_616e_6e65_7862;
 
+const CANON: u64 = 0x63_616e_6f6e;
+
 // What the prefix `room B E T ` says, and where the operation starts behind it.
 struct Prefix {
     room: Room,
@@ -106,6 +108,7 @@ fn answer_line(
         ANNEXB => container_ops::split(true, line, next, decoded, prefix.room, lent, out, at),
         WSTREAM => container_ops::join(false, line, next, decoded, prefix.room, lent, out, at),
         WANNEXB => container_ops::join(true, line, next, decoded, prefix.room, lent, out, at),
+        CANON => container_ops::canon(line, next, decoded, prefix.room, lent, out, at),
         _ => bad_line(out, at),
     }
 }

@@ -46,7 +46,7 @@ fn put_hex_part(out: &mut Buffer, at: usize, s: &[u8]) -> usize
     put_text(out, at, &digits[0..n])
 }
 
-fn least(a: usize, b: usize) -> usize
+pub(crate) fn least(a: usize, b: usize) -> usize
     ensures { λ r. ⌜ r ≡ min a b ⌝ }
 {
     if a < b { a } else { b }

@@ -1,0 +1,47 @@
+use borrow.Author.Needs.{needs}
+use mathlib.Core.Path.{sym, ap, _∙_}
+use Rattle.player.specs.Player.{act}
+use Rattle.player.specs.Code.{slotSays, slotsSay}
+use Rattle.player.proofs.slots.play_frame.Statement.{statement}
+use Rattle.player.proofs.slots.play_frame.Tie as tie
+
+enum-known-info : tie.Need-enum-known-info
+enum-known-info c = search needs
+
+show-slot-requires : tie.Need-show-slot-requires
+show-slot-requires c κs = search needs
+
+enum-known-info-2 : tie.Need-enum-known-info-2
+enum-known-info-2 c = search needs
+
+refresh-slots-requires : tie.Need-refresh-slots-requires
+refresh-slots-requires c κs = search needs
+
+returns : tie.Need-returns
+unfolding slotSays
+returns c =
+    let i = c .before .before .before .before .info2 .given .1 in
+    rw (i, c .if1 .taken, c .before .refresh-slots .ensures)
+
+returns-2 : tie.Need-returns-2
+returns-2 c =
+    let a = c .before .before .before .before .args in
+    c .show-slot .ensures ∙ ap (act (slotsSay (a .slots)) (a .position)) (sym (c .before .before .info .given .1))
+
+returns-3 : tie.Need-returns-3
+unfolding slotSays
+returns-3 c =
+    let i = c .before .before .before .before .info2 .given .1 in
+    rw (i, c .if1 .left, c .before .refresh-slots .ensures)
+
+pub play-frame-spec : {M : Type 1} → statement M
+play-frame-spec =
+    tie.close
+    (tie.spec
+    enum-known-info
+    show-slot-requires
+    enum-known-info-2
+    refresh-slots-requires
+    returns
+    returns-2
+    returns-3)

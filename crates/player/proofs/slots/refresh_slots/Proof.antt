@@ -1,0 +1,61 @@
+use borrow.Author.Needs.{needs}
+use native.Mathlib.Omega.{arith}
+use Prim.Native.Nat.{_-_, _≤_}
+use mathlib.Core.Path.{_≡_, refl, sym, _∙_}
+use mathlib.Core.Logic.{⊎-elim}
+use lib.ListN.{length, length-set}
+use Rattle.player.proofs.SlotLaws.{sweep, sweep-end, sweep-set, sweep-skip}
+use Rattle.player.proofs.slots.refresh_slots.Statement.{statement}
+use Rattle.player.proofs.slots.refresh_slots.Tie as tie
+
+abbrev Inv-loop : tie.InvT-loop
+Inv-loop flags new all₀ rest₀ i₀ all rest i = (i ≤ 8) × (length all ≡ 8) × (sweep i rest new all ≡ sweep 0 rest₀ new all₀)
+
+abbrev μ-loop : tie.MeasureT-loop
+μ-loop flags new all₀ rest₀ i₀ all rest i = 8 - i
+
+loop-holds : tie.Need-loop-holds Inv-loop μ-loop
+loop-holds c = (omega arith, search needs, refl)
+
+mul-all : tie.Need-mul-all Inv-loop μ-loop
+mul-all c = search needs
+
+array-set-from-all : tie.Need-array-set-from-all Inv-loop μ-loop
+array-set-from-all c = search needs
+
+add-i : tie.Need-add-i Inv-loop μ-loop
+add-i c = search needs
+
+loop-less : tie.Need-loop-less Inv-loop μ-loop
+loop-less c = search needs
+
+loop-again : tie.Need-loop-again Inv-loop μ-loop
+loop-again c =
+    let l = c .before .before .loop in
+    let h = l .inv .1 in (
+      omega arith,
+      ⊎-elim (λ w. rw (w .1) (length-set (l .all) (l .i) _ ∙ h)) (λ w. rw (w .1) h) (c .if1 .came),
+      ⊎-elim
+          (λ w. rw (w .1) (sym (sweep-set (l .i) (l .rest) _ (l .all) (omega arith) (w .0 .taken)) ∙ l .inv .2))
+          (λ w. rw (w .1) (sym (sweep-skip (l .i) (l .rest) _ (l .all) (omega arith) (w .0 .left)) ∙ l .inv .2))
+          (c .if1 .came),
+    )
+
+returns : tie.Need-returns Inv-loop μ-loop
+returns c =
+    let l = c .before .loop in
+    sym (sweep-end (l .i) (l .rest) _ (l .all) (omega arith)) ∙ l .inv .2
+
+pub refresh-slots-spec : {M : Type 1} → statement M
+refresh-slots-spec =
+    tie.close
+    (tie.spec
+    Inv-loop
+    μ-loop
+    loop-holds
+    mul-all
+    array-set-from-all
+    add-i
+    loop-less
+    loop-again
+    returns)

@@ -1,0 +1,41 @@
+use borrow.Author.Needs.{needs}
+use Rattle.bitio.specs.Parse.{andNext}
+use Rattle.player.proofs.StepLaws.{plays-as}
+use Rattle.player.proofs.step.leave.Statement.{statement}
+use Rattle.player.proofs.step.leave.Tie as tie
+
+enum-known-answer : tie.Need-enum-known-answer
+enum-known-answer c = search needs
+
+refuse-requires : tie.Need-refuse-requires
+refuse-requires c κs = search needs
+
+enum-known-answer-2 : tie.Need-enum-known-answer-2
+enum-known-answer-2 c = search needs
+
+enum-told : tie.Need-enum-told
+enum-told c = search needs
+
+returns : tie.Need-returns
+unfolding andNext
+returns c = plays-as _ _ _ (c .refuse .ensures) (rw (c .before .before .answer .given .1))
+
+returns-2 : tie.Need-returns-2
+unfolding andNext
+returns-2 c = record { says = rw (c .before .answer2 .given .1); still = tt }
+
+returns-3 : tie.Need-returns-3
+unfolding andNext
+returns-3 c = record { says = rw (c .enum-told .given .1); still = tt }
+
+pub leave-spec : {M : Type 1} → statement M
+leave-spec =
+    tie.close
+    (tie.spec
+    enum-known-answer
+    refuse-requires
+    enum-known-answer-2
+    enum-told
+    returns
+    returns-2
+    returns-3)

@@ -1,0 +1,115 @@
+// A unit, played: the state goes in by value and comes back beside the answer.
+ghost use mathlib.Core.Path.{_≡_};
+ghost use Rattle.bitio.specs.Parse.{refused};
+ghost use Rattle.header.specs.Sequence.{sequenceOf};
+ghost use Rattle.header.specs.Frame.{frameSays};
+ghost use Rattle.player.specs.Player.{play, leaves};
+ghost use Rattle.player.specs.Code.{slotsSay, actedSays, keptSays, stateSays, playedSays, Still, Plays, leftBy, frameIn, playKept};
+use crate::keep::Headers;
+use crate::keep::Kept;
+use crate::keep::keep_headers;
+use crate::slots::Acted;
+use crate::slots::Answer;
+use crate::slots::Slot;
+use crate::slots::play_frame;
+use header::frame_header::FrameAnswer;
+use header::frame_header::read::frame_header_info;
+use header::seq_header::OperatingPoint;
+use header::seq_header::SequenceHeader;
+use obu::unit::Counted;
+use obu::unit::Kind;
+use obu::unit::count_obus;
+use obu::unit::first_payload;
+
+pub struct State {
+    pub slots: [Slot; 8],
+    pub kept: Kept,
+}
+
+// An answer, and the state afterwards.
+pub struct Played {
+    pub answer: Answer,
+    pub state: State,
+}
+
+fn refuse(state: State, k: u64) -> Played
+    ensures { λ r. ⌜ Plays state r (refused k) ⌝ }
+{
+    Played {
+        answer: Answer::Refused(k),
+        state: state,
+    }
+}
+
+// The header of a unit's only frame, under a sequence header.
+fn read_frame(header: SequenceHeader, points: [OperatingPoint; 32], unit: &[u8]) -> FrameAnswer
+    ensures { λ r. ⌜ frameSays r ≡ frameIn (sequenceOf header points) (now (unit .entry)) ⌝ }
+{
+    match count_obus(unit, Kind::Frame) {
+        Counted::Refused(k) => FrameAnswer::Refused(k as u64),
+        Counted::Count(n) => {
+            if n == 0 {
+                return FrameAnswer::Refused(28);
+            }
+            if n > 1 {
+                return FrameAnswer::Refused(39);
+            }
+            frame_header_info(header, points, first_payload(unit, Kind::Frame))
+        }
+    }
+}
+
+// What a frame has done is taken over with the header kept, unless it was refused.
+fn leave(state: State, kept: Kept, acted: Acted) -> Played
+    ensures { λ r. ⌜ Plays state r (leftBy (keptSays kept) (actedSays acted)) ⌝ }
+{
+    let answer = acted.answer;
+    let slots = acted.slots;
+    let next = State {
+        slots: slots,
+        kept: kept,
+    };
+    match answer {
+        Answer::Refused(k) => refuse(state, k),
+        Answer::Shown(q) => Played {
+            answer: Answer::Shown(q),
+            state: next,
+        },
+        Answer::Nothing => Played {
+            answer: Answer::Nothing,
+            state: next,
+        },
+    }
+}
+
+// A unit's frame, where its sequence headers are read.
+fn step_frame(state: State, kept: Kept, position: u64, unit: &[u8]) -> Played
+    ensures { λ r. ⌜ Plays state r (playKept (slotsSay (state .slots)) position (now (unit .entry)) (keptSays kept)) ⌝ }
+{
+    if !kept.is_kept {
+        return refuse(state, 26);
+    }
+    let points = kept.points;
+    let slots = state.slots;
+    match read_frame(kept.header, points, unit) {
+        FrameAnswer::Refused(k) => refuse(state, k),
+        FrameAnswer::Header(info) => { leave(state, kept, play_frame(slots, position, info)) }
+    }
+}
+
+// The unit, played under a position; a refused one leaves the state as it was.
+pub fn step(state: State, position: u64, unit: &[u8]) -> Played
+    ensures { λ r. ⌜ playedSays r ≡ play (stateSays state) position (now (unit .entry)) ⌝ }
+    ensures { λ r. ⌜ stateSays (r .state) ≡ leaves (stateSays state) (play (stateSays state) position (now (unit .entry))) ⌝ }
+    ensures { λ r. ⌜ Still (r .answer) (r .state) state ⌝ }
+{
+    if unit.len() > 4_000_000_000 {
+        return refuse(state, 34);
+    }
+    let all = keep_headers(state.kept, unit);
+    let headers = all.answer;
+    match headers {
+        Headers::Refused(k) => refuse(state, k),
+        Headers::Read => step_frame(state, all.kept, position, unit),
+    }
+}
