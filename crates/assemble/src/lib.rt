@@ -1,1 +1,5 @@
-// The unit list and the cue list of segments (document 01): so far their definitions, in specs/.
+// The unit list and the cue list of segments (document 01).
+pub mod blocks;
+pub mod sizes;
+pub mod slot;
+pub mod unit;

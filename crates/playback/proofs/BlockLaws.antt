@@ -9,32 +9,12 @@ use lib.ListN.{length, getD, replicate, length-append, length-map, length-replic
 use lib.Seq.{getD-append-add}
 use lib.Dec.{leb, ltb}
 use borrow.Author.Tests.{ltb-true, ltb-false}
+use Rattle.assemble.proofs.BlockLaws.{length-blocks}
 use Rattle.assemble.specs.Blocks.{Kind, Key, Golden, Show, block, blocks, kinds, Entry, layout, total}
 use Rattle.playback.specs.Kinds.{segmentBehind}
 
 abbrev pub entry : ℕ → Kind → Entry
 entry i k = record { segment = i; kind = k }
-
--- ---- as many units as frames
-
-length-block : (after : Bool) (c : ℕ) → length (block after c) ≡ c
-length-block after zero = refl
-length-block after (suc zero) = refl
-length-block after (suc (suc c)) = ap (λ (n : ℕ). suc (suc n)) (length-replicate c Show)
-
-length-blocks : (f gop : ℕ) (after : Bool) (left : ℕ) → 1 ≤ gop → left ≤ f → length (blocks f gop after left) ≡ left
-unfolding blocks
-length-blocks zero gop after left g h = omega arith
-length-blocks (suc f) gop after left g h =
-    let c = min left gop in
-    let ih = length-blocks f gop (after || leb 2 c) (left - c) g (omega arith) in
-    rw (length-append, length-block after c, ih) (omega arith)
-
-pub length-layout : (gop i : ℕ) (ns : List ℕ) → 1 ≤ gop → length (layout gop i ns) ≡ total ns
-unfolding layout total
-length-layout gop i [] g = refl
-length-layout gop i (m ∷ ns) g =
-    rw (length-append, length-map, length-blocks m gop false m g (omega arith), length-layout gop (suc i) ns g)
 
 -- ---- whose segment a position is
 

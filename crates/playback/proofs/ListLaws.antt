@@ -9,6 +9,7 @@ use lib.Dec.{eqb}
 use borrow.Author.Tests.{eqb-true, eqb-false}
 use Rattle.bitio.proofs.ParseLaws.{Every}
 use Rattle.bitio.proofs.ParseLaws.Every.{none as nothing, also}
+use Rattle.assemble.proofs.BlockLaws.{code-small}
 use Rattle.assemble.specs.Blocks.{Kind, Key, Golden, Show, Entry, code, number, layout, listOf, positions, isKeyEntry, cuesOf}
 use Rattle.playback.specs.Demand.{Rising}
 
@@ -97,11 +98,6 @@ abbrev pub isKey : Kind → Bool
 isKey Key = true
 isKey Golden = false
 isKey Show = false
-
-pub code-small : (k : Kind) → code k < 3
-code-small Key = omega arith
-code-small Golden = omega arith
-code-small Show = omega arith
 
 pub number-kind : (e : Entry) → number e % 4 ≡ code (e .kind)
 number-kind e = let k = code-small (e .kind) in omega arith

@@ -27,7 +27,8 @@ use Rattle.playback.specs.Kinds.{unitFrame, unitKind, saysKey, isKeyUnit
 use Rattle.playback.specs.Premises.{firstSequence, Premise}
 use Rattle.playback.specs.Courses.{Course, done, plays, noise, Throughout}
 use Rattle.playback.specs.Demand.{Rising, noSegment, IsUnit, Listed, PlaysRight}
-use Rattle.playback.proofs.BlockLaws.{entry, Since, first-key, length-layout, segment-in, getD-map-lt, segment-is, fits-layout, show-led}
+use Rattle.assemble.proofs.BlockLaws.{length-layout}
+use Rattle.playback.proofs.BlockLaws.{entry, Since, first-key, segment-in, getD-map-lt, segment-is, fits-layout, show-led}
 use Rattle.playback.proofs.ListLaws.{isKey, positions-map, positions-ext, positions-pass, pass-positions, Passes, positions-rising, cues-are, every-from}
 use Rattle.playback.proofs.HandedLaws.{noUnits, unitOf, named-is, picture-short}
 use Rattle.playback.proofs.HeaderLaws.{flags-byte, shown-showable, show-frame}
