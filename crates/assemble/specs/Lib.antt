@@ -4,4 +4,8 @@ pub mod Segments
 pub mod Prepare
 pub mod Assemble
 pub mod Sizes
+pub mod Code
+pub mod Rewrite
+pub mod Says
+pub mod Stages
 pub mod Checks

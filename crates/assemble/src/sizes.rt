@@ -21,7 +21,7 @@ pub enum Checked {
 }
 
 // The sum, or the greatest number where it is more.
-fn plus(a: u64, b: u64) -> u64
+pub(crate) fn plus(a: u64, b: u64) -> u64
     ensures { λ r. ⌜ r ≡ min (a + b) 18446744073709551615 ⌝ }
 {
     if a > 18446744073709551615 - b {
@@ -31,7 +31,7 @@ fn plus(a: u64, b: u64) -> u64
 }
 
 // The frames ordered, saturating.
-fn total_frames(segments: &[u64]) -> u64
+pub(crate) fn total_frames(segments: &[u64]) -> u64
     ensures { λ r. ⌜ r ≡ min (total (framesIn (now (segments .entry)))) 18446744073709551615 ⌝ }
 {
     let count = segments.len() / 5;

@@ -1,0 +1,131 @@
+use native.Mathlib.Omega.{arith}
+use borrow.Author.Needs.{needs}
+use mathlib.Core.Path.{_≡_, sym, ap, _∙_}
+use denote.Ref.{now}
+use Rattle.assemble.specs.Prepare.{Settings}
+use Rattle.assemble.specs.Assemble.{made}
+use Rattle.assemble.specs.Sizes.{checkedSays}
+use Rattle.assemble.specs.Code.{firstSequence}
+use Rattle.assemble.specs.Says.{foundSays}
+use Rattle.assemble.specs.Stages.{checked}
+use Rattle.assemble.proofs.StageLaws.{Sound, checked-sound}
+use Rattle.assemble.proofs.PlanLaws.{says-refused, says-refused-in, plan-unchecked, plan-unfound, plan-found, found-type, found-at}
+use Rattle.assemble.proofs.plan.plan_multi.Statement.{statement}
+use Rattle.assemble.proofs.plan.plan_multi.Tie as tie
+
+-- the checks are passed
+fit : (c : tie.After-enum-told) → made tt ≡ checked (now (c .before .before .before .before .before .args .picture)) (now (c .before .before .before .before .before .args .segments)) (c .before .before .before .before .before .args .gop)
+fit c = sym (ap checkedSays (c .enum-told .given .1)) ∙ c .before .before .check-input .ensures
+
+sound : (c : tie.After-enum-told) → Sound (c .before .before .before .before .before .args .gop) (now (c .before .before .before .before .before .args .segments))
+sound c = checked-sound (now (c .before .before .before .before .before .args .picture)) (now (c .before .before .before .before .before .args .segments)) (c .before .before .before .before .before .args .gop) (sym (fit c))
+
+check-input-requires : tie.Need-check-input-requires
+check-input-requires c κs = search needs
+
+enum-known-k : tie.Need-enum-known-k
+enum-known-k c = search needs
+
+cast-t13 : tie.Need-cast-t13
+cast-t13 c = search needs
+
+no-plan-requires : tie.Need-no-plan-requires
+no-plan-requires c κs = search needs
+
+enum-known-k-2 : tie.Need-enum-known-k-2
+enum-known-k-2 c = search needs
+
+cast-t15 : tie.Need-cast-t15
+cast-t15 c = search needs
+
+no-plan-requires-2 : tie.Need-no-plan-requires-2
+no-plan-requires-2 c κs = search needs
+
+enum-told : tie.Need-enum-told
+enum-told c = search needs
+
+unit-at-requires : tie.Need-unit-at-requires
+unit-at-requires c κs = omega (arith, sound c .some-there)
+
+first-sequence-requires : tie.Need-first-sequence-requires
+first-sequence-requires c κs = search needs
+
+enum-known-k-3 : tie.Need-enum-known-k-3
+enum-known-k-3 c = search needs
+
+cast-t20 : tie.Need-cast-t20
+cast-t20 c = search needs
+
+no-plan-requires-3 : tie.Need-no-plan-requires-3
+no-plan-requires-3 c κs = search needs
+
+enum-known-obu : tie.Need-enum-known-obu
+enum-known-obu c = search needs
+
+plan-header-requires : tie.Need-plan-header-requires
+plan-header-requires c κs =
+    let f = c .before .before .before in
+    (omega (arith, sound (f .before .before) .some-there), found-type _ _ (sym (ap (foundSays (now (f .before .unit-at .result))) (c .before .obu .given .1)) ∙ f .first-sequence .ensures))
+
+returns : tie.Need-returns
+returns c =
+    let a = c .before .before .before .before .before .before .before .args in
+    let s = now (a .picture) in
+    let rs = now (a .segments) in
+    let set : Settings = record { gop = a .gop; fps = a .fps; den = a .fps-den } in
+    says-refused s rs _ _ (c .no-plan .ensures)
+    ∙ plan-unchecked s rs set _ _ (sym (ap checkedSays (c .before .before .k .given .1)) ∙ c .before .before .before .before .check-input .ensures)
+
+returns-2 : tie.Need-returns-2
+returns-2 c =
+    let a = c .before .before .before .before .before .before .before .args in
+    let s = now (a .picture) in
+    let rs = now (a .segments) in
+    let set : Settings = record { gop = a .gop; fps = a .fps; den = a .fps-den } in
+    says-refused-in s rs _ _ _ (c .no-plan2 .ensures)
+    ∙ plan-unchecked s rs set _ _ (sym (ap checkedSays (c .before .before .k2 .given .1)) ∙ c .before .before .before .before .check-input .ensures)
+
+returns-3 : tie.Need-returns-3
+returns-3 c =
+    let a = c .before .before .before .before .before .before .before .before .before .before .before .args in
+    let s = now (a .picture) in
+    let rs = now (a .segments) in
+    let set : Settings = record { gop = a .gop; fps = a .fps; den = a .fps-den } in
+    let f = c .before .before .before .before in
+    says-refused-in s rs _ _ _ (c .no-plan3 .ensures)
+    ∙ plan-unfound s rs set (fit (f .before .before)) _ (sym (ap (foundSays (now (f .before .unit-at .result))) (c .before .before .k3 .given .1)) ∙ f .first-sequence .ensures ∙ ap firstSequence (f .before .unit-at .ensures))
+
+returns-4 : tie.Need-returns-4
+returns-4 c =
+    let a = c .before .before .before .before .before .before .before .before .before .before .before .args in
+    let s = now (a .picture) in
+    let rs = now (a .segments) in
+    let set : Settings = record { gop = a .gop; fps = a .fps; den = a .fps-den } in
+    let f = c .before .before .before .before in
+    let u = f .before .unit-at .ensures in
+    c .plan-header .ensures
+    ∙ plan-found s rs set (fit (f .before .before)) _ (found-at _ _ _ _ (c .before .before .obu .given .1) (f .first-sequence .ensures) u)
+
+pub plan-multi-spec : {M : Type 1} → statement M
+plan-multi-spec =
+    tie.close
+    (tie.spec
+    check-input-requires
+    enum-known-k
+    cast-t13
+    no-plan-requires
+    enum-known-k-2
+    cast-t15
+    no-plan-requires-2
+    enum-told
+    unit-at-requires
+    first-sequence-requires
+    enum-known-k-3
+    cast-t20
+    no-plan-requires-3
+    enum-known-obu
+    plan-header-requires
+    returns
+    returns-2
+    returns-3
+    returns-4)

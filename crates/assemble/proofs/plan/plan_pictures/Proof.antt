@@ -1,0 +1,63 @@
+use borrow.Author.Needs.{needs}
+use Prim.Native.Nat.{ℕ}
+use mathlib.Core.Path.{sym, ap, _∙_}
+use mathlib.Core.List.{List}
+use denote.Ref.{now}
+use Rattle.header.specs.Sequence.{sequenceOf}
+use Rattle.assemble.specs.Code.{allSegments, measured}
+use Rattle.assemble.specs.Says.{measuredSays}
+use Rattle.assemble.specs.Stages.{planSays}
+use Rattle.assemble.proofs.PlanLaws.{says-refused-in, pictures-refused, pictures-made}
+use Rattle.assemble.proofs.plan.plan_pictures.Statement.{statement}
+use Rattle.assemble.proofs.plan.plan_pictures.Tie as tie
+
+slice-aggregate-payload : tie.Need-slice-aggregate-payload
+slice-aggregate-payload c = search needs
+
+payload-requires : tie.Need-payload-requires
+payload-requires c κs = search needs
+
+measure-pictures-requires : tie.Need-measure-pictures-requires
+measure-pictures-requires c κs = search needs
+
+enum-known-k : tie.Need-enum-known-k
+enum-known-k c = search needs
+
+no-plan-requires : tie.Need-no-plan-requires
+no-plan-requires c κs = search needs
+
+enum-known-n : tie.Need-enum-known-n
+enum-known-n c = search needs
+
+returns : tie.Need-returns
+returns c =
+    let m = c .before .before .before .before in
+    let a = m .before .before .before .before .before .before .args in
+    let q = sequenceOf (a .basis .header) (a .points) in
+    says-refused-in (now (a .picture)) (now (a .segments)) _ _ _ (c .no-plan .ensures)
+    ∙ pictures-refused (now (a .picture)) (now (a .segments)) q (a .basis .rewriting) _ _ _ _
+    (sym (ap measuredSays (c .before .before .k .given .1)) ∙ m .measure-pictures .ensures
+    ∙ ap (λ (l : List ℕ). measured q (a .basis .rewriting) l (allSegments (now (a .picture)) (now (a .segments)))) (m .before .payload .ensures))
+
+returns-2 : tie.Need-returns-2
+unfolding planSays
+returns-2 c =
+    let m = c .before .before .before in
+    let a = m .before .before .before .before .before .before .args in
+    let q = sequenceOf (a .basis .header) (a .points) in
+    pictures-made (now (a .picture)) (now (a .segments)) q (a .basis .rewriting) _ _ _
+    (sym (ap measuredSays (c .before .n .given .1)) ∙ m .measure-pictures .ensures
+    ∙ ap (λ (l : List ℕ). measured q (a .basis .rewriting) l (allSegments (now (a .picture)) (now (a .segments)))) (m .before .payload .ensures))
+
+pub plan-pictures-spec : {M : Type 1} → statement M
+plan-pictures-spec =
+    tie.close
+    (tie.spec
+    slice-aggregate-payload
+    payload-requires
+    measure-pictures-requires
+    enum-known-k
+    no-plan-requires
+    enum-known-n
+    returns
+    returns-2)
