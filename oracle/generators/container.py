@@ -54,8 +54,8 @@ BAD_CONTAINER = [
     'room 1 1 1 stream', 'room 1 x 1 stream -', 'room 1 1 -1 packets', 'room 1 1 1 wstream ',
 ]
 
-# Header bytes of types 1, 2, 3, 5 and 6 with and without extension and size, and small numbers.
-TELLING = [8 * kind + flags for kind in (1, 2, 3, 5, 6) for flags in (0, 2, 4, 6)] + [0x00, 0x01, 0x80]
+# Header bytes of types 1, 2, 3, 5 and 6 with and without extension and size, one of a type that is refused, and small numbers.
+TELLING = [8 * kind + flags for kind in (1, 2, 3, 5, 6) for flags in (0, 2, 4, 6)] + [0x4a, 0x00, 0x01, 0x80]
 
 # The same for Annex B: small lengths, OBU headers with and without an extension, an open leb128.
 TELLING_ANNEXB = [0x00, 0x01, 0x02, 0x03, 0x04, 0x10, 0x34, 0x80]
@@ -66,7 +66,7 @@ PARTS = [bytes.fromhex(part) for part in '1200 160800 1201ff 3200 1a01b8 2a00 0a
 # Packets of every sort; the last two cannot be read.
 PACKETS = [b'', *map(bytes.fromhex, '1200 2a00 10 3200 12003200 2a001200 30 4a00 120080'.split(' '))]
 
-ON_ONE_STRING = ('stream', 'annexb', 'canon', 'wannexb')
+ON_ONE_STRING = ('stream', 'annexb', 'canon', 'wannexb', 'wstream')
 
 
 def picked_container():
@@ -94,6 +94,7 @@ def container(rng, count, exhaustive):
     yield from annexb_strings(6 if exhaustive else 5)
     yield from part_streams(6 if exhaustive else 5)
     yield from packet_lists(rng, 4 if exhaustive else 3)
+    yield from groupings(rng, 4 if exhaustive else 3)
     yield from small_annexb(rng)
     yield from room_requests(rng)
     yield from many_requests()
@@ -138,6 +139,27 @@ def packet_lists(rng, longest):
     for length in range(longest + 1):
         for packets in itertools.product(PACKETS, repeat=length):
             yield packets_request(rng, packets)
+
+
+def groupings(rng, longest):
+    """Every sequence of parts, cut into units at every choice of places."""
+    for length in range(1, longest + 1):
+        for parts in itertools.product(PARTS, repeat=length):
+            for cuts in itertools.product((False, True), repeat=length - 1):
+                units = grouped(parts, cuts)
+                yield packets_request(rng, units)
+                yield request('wstream', *units)
+                yield request('wannexb', *units)
+
+
+def grouped(parts, cuts):
+    units = [parts[0]]
+    for part, is_cut in zip(parts[1:], cuts):
+        if is_cut:
+            units.append(part)
+        else:
+            units[-1] += part
+    return units
 
 
 def packets_request(rng, packets):
@@ -248,7 +270,7 @@ def random_request(rng, corpus):
         data = rng.choice(corpus)[:2000]
         return request(rng.choice(ON_ONE_STRING), damaged(rng, damaged(rng, data)))
     line = random_listing(rng)
-    return rng.choice(list(in_every_room(line))) if rng.random() < 0.04 else line
+    return rng.choice(list(in_every_room(line))) if rng.random() < 0.1 else line
 
 
 def random_listing(rng):
@@ -316,7 +338,7 @@ def random_annexb(rng):
     if draw < 0.3:
         wrong = {rng.randrange(lengths_in(tree)): rng.choice((-1, 1, 1, rng.randrange(2 ** 40)))}
     data = annexb_of(tree, wrong, lambda value: padded_leb128(rng, value))
-    return damaged(rng, data) if 0.3 <= draw < 0.45 else data
+    return spoiled(rng, data) if 0.3 <= draw else data
 
 
 def random_frame_unit(rng):

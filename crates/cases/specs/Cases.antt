@@ -1,12 +1,17 @@
 -- The cases that 01 marks P: a row is an answer that the definitions compute, and what 01 says it is. One table, one check. Assumes nothing.
 use Prim.Native.Nat.{ℕ}
 use mathlib.Core.Path.{_≡_, refl}
-use mathlib.Core.List.{List, [], _∷_, map}
+use mathlib.Core.List.{List, [], _∷_, flatMap}
 use mathlib.Core.Bool.{Bool, true, false, _&&_}
 use lib.Dec.{eqb}
 use Rattle.bitio.specs.Parse.{Answer, refused, accepted, answer, many, manyF}
-use Rattle.bitio.specs.Leb.{Number, none, number, readLeb, lebRead, lebBytes, lebWrite, sized, framed}
-use Rattle.obu.specs.Obu.{passes, headObuOf, obusOf, obus, obuBytes}
+use Rattle.bitio.specs.Leb.{readLeb, lebRead, lebBytes, lebWrite, sized, framed}
+use Rattle.obu.specs.Obu.{passes, headObuOf, obusOf, obuBytes, unitBytes}
+use Rattle.obu.specs.Unit.{isType, count}
+use Rattle.container.specs.Stream.{cut, group, others, join, behind, joined, units, streamUnits, flat, streamBytes}
+use Rattle.container.specs.AnnexB.{innerObu, lengthObu, frameUnit, temporalUnit, annexbUnits, annexbUnit, annexbBytes}
+use Rattle.container.specs.Limits.{Room}
+use Rattle.container.specs.Container.{stream, annexb, read, write}
 use mir.Val.{boolByte}
 use Rattle.bitio.specs.Bits.{bitAt, bitsAt, bitsWithin, readBits}
 use Rattle.bitio.specs.Uvlc.{leadingZeros, uvlcSuffix, uvlc}
@@ -53,17 +58,19 @@ check (r ∷ rs) = same (r .0) (r .1) && check rs
 
 -- ---- what the rows ask
 
--- leb128 at the head: the number, and what stands behind it; 4 as in a stream
-abbrev leb : List ℕ → Answer (List (List ℕ))
-leb s = shown (readLeb s)
-  where
-    shown : Number → Answer (List (List ℕ))
-    shown none = refused 4
-    shown (number v r) = accepted ((v ∷ []) ∷ r ∷ [])
+abbrev ample : Room
+ample = record { bytes = 64; ends = 8 }
 
--- the OBUs, each written
-abbrev written : List ℕ → Answer (List (List ℕ))
-written s = answer (map obuBytes) (obus s)
+-- the units of a stream and of Annex B
+abbrev inStream : List ℕ → Answer (List (List ℕ))
+inStream s = read stream ample s
+
+abbrev inAnnexB : List ℕ → Answer (List (List ℕ))
+inAnnexB s = read annexb ample s
+
+-- units written as Annex B
+abbrev toAnnexB : List (List ℕ) → Answer (List (List ℕ))
+toAnnexB us = answer (λ bs. bs ∷ []) (write annexb ample us)
 
 abbrev after : {A B : Type 0} → Answer A → (A → Answer B) → Answer B
 after (refused k) f = refused k
@@ -92,16 +99,17 @@ payloadK = 0x00 ∷ 0x00 ∷ 0x00 ∷ 0x01 ∷ 0x9F ∷ 0xF8 ∷ 0x00 ∷ 0x00 �
 
 abbrev pub rows : List Row
 rows =
-    -- 01, 'Units from a stream': the size of `32 80 80 80 80 80 80 80 00`, and of the same with a last byte 80
-    (leb (0x80 ∷ 0x80 ∷ 0x80 ∷ 0x80 ∷ 0x80 ∷ 0x80 ∷ 0x80 ∷ 0x00 ∷ []), accepted ((0 ∷ []) ∷ [] ∷ []))
-    ∷ (leb (0x80 ∷ 0x80 ∷ 0x80 ∷ 0x80 ∷ 0x80 ∷ 0x80 ∷ 0x80 ∷ 0x80 ∷ []), refused 4)
-    -- their OBUs, and those of the other streams, each in written form
-    ∷ (written [], accepted [])
-    ∷ (written (0x30 ∷ []), accepted ((0x32 ∷ 0x00 ∷ []) ∷ []))
-    ∷ (written (0x32 ∷ 0x00 ∷ 0x12 ∷ 0x00 ∷ 0x2A ∷ 0x00 ∷ []), accepted ((0x32 ∷ 0x00 ∷ []) ∷ (0x12 ∷ 0x00 ∷ []) ∷ (0x2A ∷ 0x00 ∷ []) ∷ []))
-    ∷ (written (0x12 ∷ 0x00 ∷ 0x2A ∷ 0x00 ∷ 0x12 ∷ 0x00 ∷ 0x2A ∷ 0x00 ∷ []), accepted ((0x12 ∷ 0x00 ∷ []) ∷ (0x2A ∷ 0x00 ∷ []) ∷ (0x12 ∷ 0x00 ∷ []) ∷ (0x2A ∷ 0x00 ∷ []) ∷ []))
-    ∷ (written (0x32 ∷ 0x80 ∷ 0x80 ∷ 0x80 ∷ 0x80 ∷ 0x80 ∷ 0x80 ∷ 0x80 ∷ 0x00 ∷ []), accepted ((0x32 ∷ 0x00 ∷ []) ∷ []))
-    ∷ (written (0x32 ∷ 0x80 ∷ 0x80 ∷ 0x80 ∷ 0x80 ∷ 0x80 ∷ 0x80 ∷ 0x80 ∷ 0x80 ∷ []), refused 4)
+    -- 01, 'Units from a stream'
+    (inStream [], accepted [])
+    ∷ (inStream (0x30 ∷ []), accepted ((0x32 ∷ 0x00 ∷ []) ∷ []))
+    ∷ (inStream (0x32 ∷ 0x00 ∷ 0x12 ∷ 0x00 ∷ 0x2A ∷ 0x00 ∷ []), accepted ((0x12 ∷ 0x00 ∷ 0x32 ∷ 0x00 ∷ 0x2A ∷ 0x00 ∷ []) ∷ []))
+    ∷ (inStream (0x12 ∷ 0x00 ∷ 0x2A ∷ 0x00 ∷ 0x12 ∷ 0x00 ∷ 0x2A ∷ 0x00 ∷ []), accepted ((0x12 ∷ 0x00 ∷ 0x2A ∷ 0x00 ∷ 0x12 ∷ 0x00 ∷ 0x2A ∷ 0x00 ∷ []) ∷ []))
+    ∷ (inStream (0x32 ∷ 0x80 ∷ 0x80 ∷ 0x80 ∷ 0x80 ∷ 0x80 ∷ 0x80 ∷ 0x80 ∷ 0x00 ∷ []), accepted ((0x32 ∷ 0x00 ∷ []) ∷ []))
+    ∷ (inStream (0x32 ∷ 0x80 ∷ 0x80 ∷ 0x80 ∷ 0x80 ∷ 0x80 ∷ 0x80 ∷ 0x80 ∷ 0x80 ∷ []), refused 4)
+    -- 01, 'Units from and to Annex B': an empty unit, an OBU without a size, and a unit written
+    ∷ (inAnnexB (0x00 ∷ []), accepted ([] ∷ []))
+    ∷ (inAnnexB (0x03 ∷ 0x02 ∷ 0x01 ∷ 0x30 ∷ []), accepted ((0x32 ∷ 0x00 ∷ []) ∷ []))
+    ∷ (toAnnexB ((0x12 ∷ 0x00 ∷ 0x1A ∷ 0x01 ∷ 0xB8 ∷ []) ∷ []), accepted ((0x06 ∷ 0x05 ∷ 0x01 ∷ 0x10 ∷ 0x02 ∷ 0x18 ∷ 0xB8 ∷ []) ∷ []))
     -- 01, 'Sequence header, timed'
     ∷ (timedPayload 25 1 payloadK, accepted ((0x04 ∷ 0x00 ∷ 0x00 ∷ 0x00 ∷ 0x04 ∷ 0x00 ∷ 0x00 ∷ 0x00 ∷ 0x67 ∷ 0x00 ∷ 0x00 ∷ 0x00 ∷ 0x33 ∷ 0xFF ∷ 0x00 ∷ 0x00 ∷ 0x02 ∷ []) ∷ []))
     -- the frames of 01's units K and G, and the byte of a show unit of slot 3
@@ -111,5 +119,5 @@ rows =
     ∷ []
 
 pub cases : check rows ≡ true
-unfolding check map many manyF readLeb lebRead lebBytes lebWrite sized framed passes headObuOf obusOf obuBytes bitAt bitsAt bitsWithin readBits leadingZeros uvlcSuffix uvlc bitsOf halvings uvlcZeros readFlag readOr flagOr uvlcOr timingInfo decoderModelInfo opening operatingPoint operatingPoints frameSize frameIds codingTools screenTools filters colorDescription colorSampling coding sequenceHeader parseSequence retimed withTiming timed put putOr putFlag putFlagOr putUvlcOr fits fitsOr flagFitsOr uvlcFitsOr putTiming putModel putOpening putPoint putPoints putSize putIds putTools putScreen putFilters putColor putSampling putCoding putSequence timingFits modelFits openingFits pointFits pointsFit sizeFits idsFit toolsFit screenFits colorFits samplingFits codingFits emittable ofBits packN pack trailed sequenceBytes emitted showExisting frameStart orderHint removalTimes bufferRemoval frameInfo frameBits frameHeader parseFrameFrom
+unfolding check many manyF readLeb lebRead lebBytes lebWrite sized framed passes headObuOf obusOf obuBytes unitBytes flatMap isType count cut group others join behind joined units streamUnits flat streamBytes innerObu lengthObu frameUnit temporalUnit annexbUnits annexbUnit annexbBytes read write bitAt bitsAt bitsWithin readBits leadingZeros uvlcSuffix uvlc bitsOf halvings uvlcZeros readFlag readOr flagOr uvlcOr timingInfo decoderModelInfo opening operatingPoint operatingPoints frameSize frameIds codingTools screenTools filters colorDescription colorSampling coding sequenceHeader parseSequence retimed withTiming timed put putOr putFlag putFlagOr putUvlcOr fits fitsOr flagFitsOr uvlcFitsOr putTiming putModel putOpening putPoint putPoints putSize putIds putTools putScreen putFilters putColor putSampling putCoding putSequence timingFits modelFits openingFits pointFits pointsFit sizeFits idsFit toolsFit screenFits colorFits samplingFits codingFits emittable ofBits packN pack trailed sequenceBytes emitted showExisting frameStart orderHint removalTimes bufferRemoval frameInfo frameBits frameHeader parseFrameFrom
 cases = refl

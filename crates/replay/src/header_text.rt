@@ -2,7 +2,7 @@
 ghost use Prim.Native.Nat.{_≤_};
 use crate::output::Buffer;
 use crate::output::put_number;
-use crate::output::put_text;
+use crate::output::put_numbers;
 use header::seq_header::Coding;
 use header::seq_header::ColorDescription;
 use header::seq_header::ColorSampling;
@@ -17,123 +17,142 @@ use header::seq_header::SequenceHeader;
 use header::seq_header::TimingInfo;
 use header::seq_header::Tools;
 
-fn put_field(out: &mut Buffer, at: usize, v: u64) -> usize {
-    let to = put_text(out, at, b",");
-    put_number(out, to, v)
-}
-
-fn put_flag(out: &mut Buffer, at: usize, v: bool) -> usize {
-    if v {
-        return put_text(out, at, b",1");
-    }
-    put_text(out, at, b",0")
-}
-
 fn put_timing(out: &mut Buffer, at: usize, x: TimingInfo) -> usize {
-    let to = put_flag(out, at, x.timing_info_present);
-    let to = put_field(out, to, x.num_units_in_display_tick);
-    let to = put_field(out, to, x.time_scale);
-    let to = put_flag(out, to, x.equal_picture_interval);
-    put_field(out, to, x.num_ticks_per_picture_minus_1)
+    let fields = [
+        x.timing_info_present as u64,
+        x.num_units_in_display_tick,
+        x.time_scale,
+        x.equal_picture_interval as u64,
+        x.num_ticks_per_picture_minus_1,
+    ];
+    put_numbers(out, at, b",", &fields)
 }
 
 fn put_model(out: &mut Buffer, at: usize, x: DecoderModelInfo) -> usize {
-    let to = put_flag(out, at, x.decoder_model_info_present);
-    let to = put_field(out, to, x.buffer_delay_length_minus_1);
-    let to = put_field(out, to, x.num_units_in_decoding_tick);
-    let to = put_field(out, to, x.buffer_removal_time_length_minus_1);
-    put_field(out, to, x.frame_presentation_time_length_minus_1)
+    let fields = [
+        x.decoder_model_info_present as u64,
+        x.buffer_delay_length_minus_1,
+        x.num_units_in_decoding_tick,
+        x.buffer_removal_time_length_minus_1,
+        x.frame_presentation_time_length_minus_1,
+    ];
+    put_numbers(out, at, b",", &fields)
 }
 
 fn put_opening(out: &mut Buffer, at: usize, x: Opening) -> usize {
     let timing = x.timing;
     let model = x.model;
+    let flags = [
+        x.still_picture as u64,
+        x.reduced_still_picture_header as u64,
+    ];
+    let delay = [x.initial_display_delay_present as u64];
     let to = put_number(out, at, x.seq_profile);
-    let to = put_flag(out, to, x.still_picture);
-    let to = put_flag(out, to, x.reduced_still_picture_header);
+    let to = put_numbers(out, to, b",", &flags);
     let to = put_timing(out, to, timing);
     let to = put_model(out, to, model);
-    put_flag(out, to, x.initial_display_delay_present)
+    put_numbers(out, to, b",", &delay)
 }
 
 fn put_size(out: &mut Buffer, at: usize, x: FrameSize) -> usize {
-    let to = put_field(out, at, x.frame_width_bits_minus_1);
-    let to = put_field(out, to, x.frame_height_bits_minus_1);
-    let to = put_field(out, to, x.max_frame_width_minus_1);
-    put_field(out, to, x.max_frame_height_minus_1)
+    let fields = [
+        x.frame_width_bits_minus_1,
+        x.frame_height_bits_minus_1,
+        x.max_frame_width_minus_1,
+        x.max_frame_height_minus_1,
+    ];
+    put_numbers(out, at, b",", &fields)
 }
 
 fn put_ids(out: &mut Buffer, at: usize, x: FrameIds) -> usize {
-    let to = put_flag(out, at, x.frame_id_numbers_present);
-    let to = put_field(out, to, x.delta_frame_id_length_minus_2);
-    put_field(out, to, x.additional_frame_id_length_minus_1)
+    let fields = [
+        x.frame_id_numbers_present as u64,
+        x.delta_frame_id_length_minus_2,
+        x.additional_frame_id_length_minus_1,
+    ];
+    put_numbers(out, at, b",", &fields)
 }
 
 fn put_tools(out: &mut Buffer, at: usize, x: Tools) -> usize {
-    let to = put_flag(out, at, x.use_128x128_superblock);
-    let to = put_flag(out, to, x.enable_filter_intra);
-    let to = put_flag(out, to, x.enable_intra_edge_filter);
-    let to = put_flag(out, to, x.enable_interintra_compound);
-    let to = put_flag(out, to, x.enable_masked_compound);
-    put_more_tools(out, to, x)
-}
-
-fn put_more_tools(out: &mut Buffer, at: usize, x: Tools) -> usize {
-    let to = put_flag(out, at, x.enable_warped_motion);
-    let to = put_flag(out, to, x.enable_dual_filter);
-    let to = put_flag(out, to, x.enable_order_hint);
-    let to = put_flag(out, to, x.enable_jnt_comp);
-    put_flag(out, to, x.enable_ref_frame_mvs)
+    let fields = [
+        x.use_128x128_superblock as u64,
+        x.enable_filter_intra as u64,
+        x.enable_intra_edge_filter as u64,
+        x.enable_interintra_compound as u64,
+        x.enable_masked_compound as u64,
+        x.enable_warped_motion as u64,
+        x.enable_dual_filter as u64,
+        x.enable_order_hint as u64,
+        x.enable_jnt_comp as u64,
+        x.enable_ref_frame_mvs as u64,
+    ];
+    put_numbers(out, at, b",", &fields)
 }
 
 // order_hint_bits is 0 without an order hint.
-fn put_screen(out: &mut Buffer, at: usize, x: ScreenTools, has_hint: bool) -> usize {
-    let to = put_flag(out, at, x.seq_choose_screen_content_tools);
-    let to = put_field(out, to, x.seq_force_screen_content_tools);
-    let to = put_flag(out, to, x.seq_choose_integer_mv);
-    let to = put_field(out, to, x.seq_force_integer_mv);
+fn hint_bits(x: ScreenTools, has_hint: bool) -> u64 {
     if has_hint {
-        return put_field(out, to, x.order_hint_bits_minus_1 % 8 + 1);
+        x.order_hint_bits_minus_1 % 8 + 1
+    } else {
+        0
     }
-    put_field(out, to, 0)
+}
+
+fn put_screen(out: &mut Buffer, at: usize, x: ScreenTools, has_hint: bool) -> usize {
+    let fields = [
+        x.seq_choose_screen_content_tools as u64,
+        x.seq_force_screen_content_tools,
+        x.seq_choose_integer_mv as u64,
+        x.seq_force_integer_mv,
+        hint_bits(x, has_hint),
+    ];
+    put_numbers(out, at, b",", &fields)
 }
 
 fn put_filters(out: &mut Buffer, at: usize, x: Filters) -> usize {
-    let to = put_flag(out, at, x.enable_superres);
-    let to = put_flag(out, to, x.enable_cdef);
-    put_flag(out, to, x.enable_restoration)
+    let fields = [
+        x.enable_superres as u64,
+        x.enable_cdef as u64,
+        x.enable_restoration as u64,
+    ];
+    put_numbers(out, at, b",", &fields)
 }
 
 fn put_color(out: &mut Buffer, at: usize, x: ColorDescription) -> usize {
-    let to = put_flag(out, at, x.high_bitdepth);
-    let to = put_flag(out, to, x.twelve_bit);
-    let to = put_flag(out, to, x.mono_chrome);
-    let to = put_flag(out, to, x.color_description_present);
-    let to = put_field(out, to, x.color_primaries);
-    let to = put_field(out, to, x.transfer_characteristics);
-    put_field(out, to, x.matrix_coefficients)
+    let fields = [
+        x.high_bitdepth as u64,
+        x.twelve_bit as u64,
+        x.mono_chrome as u64,
+        x.color_description_present as u64,
+        x.color_primaries,
+        x.transfer_characteristics,
+        x.matrix_coefficients,
+    ];
+    put_numbers(out, at, b",", &fields)
 }
 
-// sRGB, which implies its color_range: the Rust keeps none, 2 in the protocol.
-fn is_implied(x: ColorDescription) -> bool {
+// sRGB implies its color_range: the Rust keeps none, 2 in the protocol.
+fn range_of(x: ColorDescription, range: bool) -> u64 {
     let srgb = (x.color_primaries == 1)
         & (x.transfer_characteristics == 13)
         & (x.matrix_coefficients == 0);
-    srgb & !x.mono_chrome
-}
-
-fn put_range(out: &mut Buffer, at: usize, color: ColorDescription, range: bool) -> usize {
-    if is_implied(color) {
-        return put_field(out, at, 2);
+    if srgb & !x.mono_chrome {
+        2
+    } else {
+        range as u64
     }
-    put_flag(out, at, range)
 }
 
-fn put_sampling(out: &mut Buffer, at: usize, x: ColorSampling) -> usize {
-    let to = put_flag(out, at, x.subsample_x);
-    let to = put_flag(out, to, x.subsample_y);
-    let to = put_field(out, to, x.chroma_sample_position);
-    put_flag(out, to, x.separate_uv_delta_q)
+fn put_sampling(out: &mut Buffer, at: usize, x: ColorSampling, range: u64, grain: bool) -> usize {
+    let fields = [
+        range,
+        x.subsample_x as u64,
+        x.subsample_y as u64,
+        x.chroma_sample_position,
+        x.separate_uv_delta_q as u64,
+        grain as u64,
+    ];
+    put_numbers(out, at, b",", &fields)
 }
 
 fn put_frame_tools(out: &mut Buffer, at: usize, x: Coding) -> usize {
@@ -152,27 +171,25 @@ fn put_frame_tools(out: &mut Buffer, at: usize, x: Coding) -> usize {
 fn put_coding(out: &mut Buffer, at: usize, x: Coding) -> usize {
     let color = x.color;
     let sampling = x.sampling;
+    let range = range_of(color, sampling.color_range);
     let to = put_frame_tools(out, at, x);
     let to = put_color(out, to, color);
-    let to = put_range(out, to, color, sampling.color_range);
-    let to = put_sampling(out, to, sampling);
-    put_flag(out, to, x.film_grain_params_present)
+    put_sampling(out, to, sampling, range, x.film_grain_params_present)
 }
 
 fn put_point(out: &mut Buffer, at: usize, x: OperatingPoint) -> usize {
-    let to = put_field(out, at, x.idc);
-    let to = put_field(out, to, x.seq_level_idx);
-    let to = put_flag(out, to, x.seq_tier);
-    let to = put_flag(out, to, x.decoder_model_present);
-    put_point_delays(out, to, x)
-}
-
-fn put_point_delays(out: &mut Buffer, at: usize, x: OperatingPoint) -> usize {
-    let to = put_field(out, at, x.decoder_buffer_delay);
-    let to = put_field(out, to, x.encoder_buffer_delay);
-    let to = put_flag(out, to, x.low_delay_mode);
-    let to = put_flag(out, to, x.initial_display_delay_present);
-    put_field(out, to, x.initial_display_delay_minus_1)
+    let fields = [
+        x.idc,
+        x.seq_level_idx,
+        x.seq_tier as u64,
+        x.decoder_model_present as u64,
+        x.decoder_buffer_delay,
+        x.encoder_buffer_delay,
+        x.low_delay_mode as u64,
+        x.initial_display_delay_present as u64,
+        x.initial_display_delay_minus_1,
+    ];
+    put_numbers(out, at, b",", &fields)
 }
 
 // How many of the array's 32 are operating points.

@@ -3,8 +3,6 @@ ghost use mathlib.Core.Path.{_≡_};
 ghost use lib.ListN.{length, drop, replicate};
 ghost use Rattle.replay.specs.Marked.{isMarked};
 use crate::output::Buffer;
-use crate::output::put_hex;
-use crate::output::put_number;
 use crate::output::put_text;
 
 // How much a line's prefix `room B E T ` lends.
@@ -29,6 +27,14 @@ impl Room {
     pub(crate) fn ends_or(self, ample: usize) -> usize {
         if self.is_given {
             self.ends as usize
+        } else {
+            ample
+        }
+    }
+
+    pub(crate) fn times_or(self, ample: usize) -> usize {
+        if self.is_given {
+            self.times as usize
         } else {
             ample
         }
@@ -65,21 +71,4 @@ pub(crate) fn end_line(memory: &[u8], n: usize, out: &mut Buffer, at: usize) -> 
         return put_text(out, at, b"\n");
     }
     put_text(out, at, b" dirty\n")
-}
-
-// The answer of a call that wrote the first n bytes of the memory.
-pub(crate) fn wrote(memory: &[u8], n: usize, out: &mut Buffer, at: usize) -> usize {
-    if n > memory.len() {
-        return put_text(out, at, b"ok dirty\n");
-    }
-    let to = put_text(out, at, b"ok ");
-    let to = put_hex(out, to, &memory[0..n]);
-    end_line(memory, n, out, to)
-}
-
-// The answer of a call that refused, and so wrote nothing.
-pub(crate) fn wrote_none(memory: &[u8], number: u64, out: &mut Buffer, at: usize) -> usize {
-    let to = put_text(out, at, b"no ");
-    let to = put_number(out, to, number);
-    end_line(memory, 0, out, to)
 }

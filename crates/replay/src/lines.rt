@@ -1,49 +1,19 @@
 // One line to its operation.
-use crate::bitio_ops;
 use crate::container_ops;
+use crate::container_ops::ENDS;
 use crate::fields::number;
-use crate::header_ops;
+use crate::fields::read_fields;
 use crate::lent::Room;
-use crate::obu_ops;
+use crate::operations::ROOM;
+use crate::operations::is_on_lists;
+use crate::operations::start;
 use crate::output::Buffer;
 use crate::output::bad_line;
+use crate::requests::Request;
+use crate::requests::answer_in;
+use crate::requests::lent_to;
 use crate::text::word_end;
 use crate::text::word_key;
-
-// Each name as word_key has it: the codes of its characters.
-const ROOM: u64 = 0x726f_6f6d;
-
-const BITS: u64 = 0x6269_7473;
-
-const UVLC: u64 = 0x7576_6c63;
-
-const LEB: u64 = 0x6c_6562;
-
-const LEBPUT: u64 = 0x6c65_6270_7574;
-
-const OBUS: u64 = 0x6f62_7573;
-
-const OBUPUT: u64 = 0x6f62_7570_7574;
-
-const SEQ: u64 = 0x73_6571;
-
-const SUPPORT: u64 = 0x73_7570_706f_7274;
-
-const EMIT: u64 = 0x656d_6974;
-
-const TIMED: u64 = 0x74_696d_6564;
-
-const FRAME: u64 = 0x66_7261_6d65;
-
-const STREAM: u64 = 0x7374_7265_616d;
-
-const ANNEXB: u64 = 0x616e_6e65_7862;
-
-const WSTREAM: u64 = 0x77_7374_7265_616d;
-
-const WANNEXB: u64 = 0x77_616e_6e65_7862;
-
-const CANON: u64 = 0x63_616e_6f6e;
 
 // What the prefix `room B E T ` says, and where the operation starts behind it.
 struct Prefix {
@@ -77,6 +47,98 @@ fn room_prefix(line: &[u8]) -> Prefix {
     }
 }
 
+// The answer of any other operation.
+fn answer_few(
+    key: u64,
+    room: Room,
+    line: &[u8],
+    from: usize,
+    decoded: &mut [u8],
+    lent: &mut [u8],
+    out: &mut Buffer,
+    at: usize,
+) -> usize {
+    let mut ends = [0u32; 4];
+    let mut numbers = [0u64; 4];
+    let fields = read_fields(line, decoded, &mut ends, &mut numbers, start(key, from));
+    let end = fields.bytes;
+    let request = Request {
+        key,
+        room,
+        middle: ends[0],
+        a: numbers[0],
+        b: numbers[1],
+    };
+    let n = lent_to(request, lent.len());
+    if !fields.is_all(line) || end > decoded.len() || n > lent.len() {
+        return bad_line(out, at);
+    }
+    answer_in(request, &decoded[0..end], &mut lent[0..n], out, at)
+}
+
+// The answer of an operation on lists, whose fields have room in `ends` and `times`.
+fn answer_list_with(
+    key: u64,
+    room: Room,
+    line: &[u8],
+    from: usize,
+    decoded: &mut [u8],
+    ends: &mut [u32],
+    times: &mut [u64],
+    lent: &mut [u8],
+    out: &mut Buffer,
+    at: usize,
+) -> usize {
+    let fields = read_fields(line, decoded, ends, times, start(key, from));
+    let end = fields.bytes;
+    let u = fields.ends;
+    let t = fields.numbers;
+    let n = room.bytes_or(lent.len());
+    if !fields.is_all(line) || end > decoded.len() || u > ends.len() || t > times.len() {
+        return bad_line(out, at);
+    }
+    if n > lent.len() {
+        return bad_line(out, at);
+    }
+    container_ops::answer(
+        key,
+        room,
+        &decoded[0..end],
+        &ends[0..u],
+        &times[0..t],
+        &mut lent[0..n],
+        out,
+        at,
+    )
+}
+
+// The answer of an operation on lists.
+fn answer_list(
+    key: u64,
+    room: Room,
+    line: &[u8],
+    from: usize,
+    decoded: &mut [u8],
+    lent: &mut [u8],
+    out: &mut Buffer,
+    at: usize,
+) -> usize {
+    let mut ends = [0u32; ENDS];
+    let mut times = [0u64; ENDS];
+    answer_list_with(
+        key,
+        room,
+        line,
+        from,
+        decoded,
+        &mut ends,
+        &mut times,
+        lent,
+        out,
+        at,
+    )
+}
+
 // The answer of one line.
 fn answer_line(
     line: &[u8],
@@ -86,31 +148,17 @@ fn answer_line(
     at: usize,
 ) -> usize {
     let prefix = room_prefix(line);
+    let room = prefix.room;
     let from = prefix.next;
     if from > line.len() {
         return bad_line(out, at);
     }
     let end = word_end(line, from);
-    let next = end + 1;
-    match word_key(&line[from..end]) {
-        BITS => bitio_ops::bits(line, next, decoded, out, at),
-        UVLC => bitio_ops::uvlc(line, next, decoded, out, at),
-        LEB => bitio_ops::leb(line, next, decoded, out, at),
-        LEBPUT => bitio_ops::lebput(line, next, prefix.room, lent, out, at),
-        OBUS => obu_ops::obus(line, next, decoded, out, at),
-        OBUPUT => obu_ops::obuput(line, next, decoded, prefix.room, lent, out, at),
-        SEQ => header_ops::seq(line, next, decoded, out, at),
-        SUPPORT => header_ops::support(line, next, decoded, out, at),
-        EMIT => header_ops::emit(line, next, decoded, prefix.room, lent, out, at),
-        TIMED => header_ops::timed(line, next, decoded, prefix.room, lent, out, at),
-        FRAME => header_ops::frame(line, next, decoded, out, at),
-        STREAM => container_ops::split(false, line, next, decoded, prefix.room, lent, out, at),
-        ANNEXB => container_ops::split(true, line, next, decoded, prefix.room, lent, out, at),
-        WSTREAM => container_ops::join(false, line, next, decoded, prefix.room, lent, out, at),
-        WANNEXB => container_ops::join(true, line, next, decoded, prefix.room, lent, out, at),
-        CANON => container_ops::canon(line, next, decoded, prefix.room, lent, out, at),
-        _ => bad_line(out, at),
+    let key = word_key(&line[from..end]);
+    if is_on_lists(key) {
+        return answer_list(key, room, line, end + 1, decoded, lent, out, at);
     }
+    answer_few(key, room, line, end + 1, decoded, lent, out, at)
 }
 
 // The answer of the line that was kept, if there was room for all of it.

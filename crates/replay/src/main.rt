@@ -7,8 +7,12 @@ mod header_text;
 mod lent;
 mod lines;
 mod obu_ops;
+mod operations;
+mod outcome;
 mod output;
+mod requests;
 mod text;
+mod unit_text;
 
 use lines::answer;
 use output::Buffer;

@@ -38,6 +38,19 @@ pub(crate) fn put_number(out: &mut Buffer, at: usize, v: u64) -> usize {
     put_text(out, at, &digits[..n])
 }
 
+// Numbers, each behind a separator.
+pub(crate) fn put_numbers(out: &mut Buffer, at: usize, separator: &[u8], list: &[u64]) -> usize {
+    let mut to = at;
+    let mut i: usize = 0;
+    while i < list.len() {
+        let v = list[i];
+        to = put_text(out, to, separator);
+        to = put_number(out, to, v);
+        i += 1;
+    }
+    to
+}
+
 fn put_hex_part(out: &mut Buffer, at: usize, s: &[u8]) -> usize
     requires { ⌜ length (now s) ≤ 64 ⌝ }
 {
@@ -69,18 +82,4 @@ pub(crate) fn put_hex(out: &mut Buffer, at: usize, s: &[u8]) -> usize {
 
 pub(crate) fn bad_line(out: &mut Buffer, at: usize) -> usize {
     put_text(out, at, b"bad line\n")
-}
-
-pub(crate) fn refused(out: &mut Buffer, at: usize, number: u64) -> usize {
-    let to = put_text(out, at, b"no ");
-    let to = put_number(out, to, number);
-    put_text(out, to, b"\n")
-}
-
-pub(crate) fn ok_numbers(out: &mut Buffer, at: usize, a: u64, b: u64) -> usize {
-    let to = put_text(out, at, b"ok ");
-    let to = put_number(out, to, a);
-    let to = put_text(out, to, b" ");
-    let to = put_number(out, to, b);
-    put_text(out, to, b"\n")
 }

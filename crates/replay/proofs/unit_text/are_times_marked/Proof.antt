@@ -2,14 +2,14 @@ use borrow.Author.Needs.{needs}
 use native.Mathlib.Omega.{arith}
 use Prim.Native.Nat.{_-_}
 use lib.ListN.{length}
-use Rattle.replay.proofs.container_ops.are_marked.Statement.{statement}
-use Rattle.replay.proofs.container_ops.are_marked.Tie as tie
+use Rattle.replay.proofs.unit_text.are_times_marked.Statement.{statement}
+use Rattle.replay.proofs.unit_text.are_times_marked.Tie as tie
 
 abbrev Inv-loop : tie.InvT-loop
-Inv-loop ends from i₀ i = Unit
+Inv-loop times from i₀ i = Unit
 
 abbrev μ-loop : tie.MeasureT-loop
-μ-loop ends from i₀ i = length ends - i
+μ-loop times from i₀ i = length times - i
 
 loop-holds : tie.Need-loop-holds Inv-loop μ-loop
 loop-holds c = tt
@@ -35,8 +35,8 @@ loop-again c = tt
 returns-2 : tie.Need-returns-2 Inv-loop μ-loop
 returns-2 c = search needs
 
-pub are-marked-spec : {M : Type 1} → statement M
-are-marked-spec =
+pub are-times-marked-spec : {M : Type 1} → statement M
+are-times-marked-spec =
     tie.close
     (tie.spec
     Inv-loop

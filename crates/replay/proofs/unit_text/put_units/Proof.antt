@@ -2,14 +2,14 @@ use borrow.Author.Needs.{needs}
 use native.Mathlib.Omega.{arith}
 use Prim.Native.Nat.{_-_, _≤_}
 use lib.ListN.{length}
-use Rattle.replay.proofs.container_ops.put_units.Statement.{statement}
-use Rattle.replay.proofs.container_ops.put_units.Tie as tie
+use Rattle.replay.proofs.unit_text.put_units.Statement.{statement}
+use Rattle.replay.proofs.unit_text.put_units.Tie as tie
 
 abbrev Inv-loop : tie.InvT-loop
-Inv-loop memory ends u out₀ at to₀ start₀ i₀ n out to start i = n ≤ length ends
+Inv-loop memory ends times u out₀ at to₀ start₀ i₀ n out to start i = n ≤ length ends
 
 abbrev μ-loop : tie.MeasureT-loop
-μ-loop memory ends u out₀ at to₀ start₀ i₀ n out to start i = n - i
+μ-loop memory ends times u out₀ at to₀ start₀ i₀ n out to start i = n - i
 
 least-requires : tie.Need-least-requires Inv-loop μ-loop
 least-requires c κs = search needs
@@ -24,7 +24,10 @@ shared-slice-read-end : tie.Need-shared-slice-read-end Inv-loop μ-loop
 shared-slice-read-end c = search needs
 
 cast-end : tie.Need-cast-end Inv-loop μ-loop
-cast-end c = omega (arith, c .shared-slice-known3 .given (c .before .before .loop .i))
+cast-end c = omega (arith, c .shared-slice-known4 .given (c .before .before .loop .i))
+
+put-time-requires : tie.Need-put-time-requires Inv-loop μ-loop
+put-time-requires c κs = search needs
 
 put-unit-requires : tie.Need-put-unit-requires Inv-loop μ-loop
 put-unit-requires c κs = search needs
@@ -52,6 +55,7 @@ put-units-spec =
     mul-end
     shared-slice-read-end
     cast-end
+    put-time-requires
     put-unit-requires
     add-i
     loop-less
