@@ -36,7 +36,83 @@ static void run(const struct stream_case *c) {
     failures += !good;
 }
 
+// Document 01's K and G, twice.
+static const uint8_t pictures_in[] = {
+    0x12, 0, 0x0A, 9, 0, 0, 0, 1, 0x9F, 0xF8, 0, 0, 0x10, 0x32, 1, 0x10, 0x12, 0, 0x32, 2, 0x38, 0x10,
+    0x12, 0, 0x0A, 9, 0, 0, 0, 1, 0x9F, 0xF8, 0, 0, 0x10, 0x32, 1, 0x10, 0x12, 0, 0x32, 2, 0x38, 0x10,
+};
+
+// K with its header timed 25/1, and G.
+static const uint8_t pictures_out[] = {
+    0x12, 0, 0x0A, 0x11, 4, 0, 0, 0, 4, 0, 0, 0, 0x67, 0, 0, 0, 0x33, 0xFF, 0, 0, 2, 0x32, 1, 0x10, 0x12, 0, 0x32, 2, 0x38, 0x10,
+    0x12, 0, 0x0A, 0x11, 4, 0, 0, 0, 4, 0, 0, 0, 0x67, 0, 0, 0, 0x33, 0xFF, 0, 0, 2, 0x32, 1, 0x10, 0x12, 0, 0x32, 2, 0x38, 0x10,
+};
+
+// An order of two segments: gop_size, frames, where the second golden ends, the rooms, and the answer.
+struct assemble_case {
+    const char *name;
+    uint64_t gop_size, frames[2], last_end;
+    size_t list, cues, pictures, ends, shows, header;
+    uint64_t answer;
+};
+
+struct handed_out {
+    uint32_t list[16], cues[16], ends[16];
+    uint8_t pictures[128], shows[32], header[64];
+    size_t units, cue_count, picture_len, header_len;
+    uint64_t slot;
+};
+
+// Document 01's listing, over memory that held 0xA5.
+static void expect_listing(struct handed_out *x) {
+    static const uint32_t list[] = {0, 1, 2, 2, 4}, cues[] = {1, 5}, ends[] = {24, 30, 54, 60};
+    static const uint8_t shows[] = {0x12, 0, 0x1A, 1, 0xB8, 0x12, 0, 0x1A, 1, 0xB8};
+    memcpy(x->list, list, sizeof list);
+    memcpy(x->cues, cues, sizeof cues);
+    memcpy(x->ends, ends, sizeof ends);
+    memcpy(x->pictures, pictures_out, sizeof pictures_out);
+    memcpy(x->shows, shows, sizeof shows);
+    memcpy(x->header, pictures_out + 2, 19);
+    x->units = 5;
+    x->cue_count = 2;
+    x->picture_len = 60;
+    x->header_len = 19;
+    x->slot = 3;
+}
+
+static void run_assemble(const struct assemble_case *c) {
+    struct handed_out got, want;
+    memset(&got, 0xA5, sizeof got);
+    memset(&want, 0xA5, sizeof want);
+    if (!c->answer) expect_listing(&want);
+    const uint64_t segments[] = {0, 16, 16, 22, c->frames[0], 22, 38, 38, c->last_end, c->frames[1]};
+    uint64_t answer = magbelo_assemble(pictures_in, sizeof pictures_in, segments, 10, c->gop_size, 25, 1, got.list, c->list,
+                                       got.cues, c->cues, got.pictures, c->pictures, got.ends, c->ends, got.shows, c->shows,
+                                       got.header, c->header, &got.units, &got.cue_count, &got.picture_len,
+                                       &got.header_len, &got.slot);
+    int good = answer == c->answer && !memcmp(&got, &want, sizeof got);
+    printf("%s: %s\n", c->name, good ? "ok" : "FAILED");
+    failures += !good;
+}
+
 int main(void) {
+    static const struct assemble_case orders[] = {
+        {"the listing, room to spare", 3, {4, 1}, 44, 16, 16, 128, 16, 32, 64, 0},
+        {"the listing, room just enough", 3, {4, 1}, 44, 5, 2, 60, 4, 10, 19, 0},
+        {"a list entry short", 3, {4, 1}, 44, 4, 2, 60, 4, 10, 19, 35},
+        {"a cue short", 3, {4, 1}, 44, 5, 1, 60, 4, 10, 19, 35},
+        {"a picture byte short", 3, {4, 1}, 44, 5, 2, 59, 4, 10, 19, 35},
+        {"an end short", 3, {4, 1}, 44, 5, 2, 60, 3, 10, 19, 35},
+        {"a show byte short", 3, {4, 1}, 44, 5, 2, 60, 4, 9, 19, 35},
+        {"a header byte short", 3, {4, 1}, 44, 5, 2, 60, 4, 10, 18, 35},
+        {"a range past the end", 3, {4, 1}, 45, 16, 16, 128, 16, 32, 64, 36},
+        {"gop_size 1", 1, {4, 1}, 44, 16, 16, 128, 16, 32, 64, 22},
+        {"one frame in all", 3, {1, 0}, 44, 16, 16, 128, 16, 32, 64, 23},
+        {"no frames in segment 1", 3, {4, 0}, 44, 16, 16, 128, 16, 32, 64, 24 + (2ull << 32)},
+        {"too many frames", 3, {5000000, 1}, 44, 16, 16, 128, 16, 32, 64, 25},
+        {"a golden without a frame in segment 1", 3, {4, 1}, 40, 16, 16, 128, 16, 32, 64, 28 + (2ull << 32)},
+        {"a golden cut in segment 1", 3, {4, 1}, 43, 16, 16, 128, 16, 32, 64, 5 + (2ull << 32)},
+    };
     static const struct stream_case cases[] = {
         {"empty stream", {0}, 0, 0, 0, 0, {0}, 0, {0}, 0},
         {"unsized frame", {0x30}, 1, 2, 1, 0, {0x32, 0x00}, 2, {2}, 1},
@@ -52,6 +128,8 @@ int main(void) {
         {"no end", {0x30}, 1, 2, 0, 35, {0}, 0, {0}, 0},
     };
     for (size_t i = 0; i < sizeof cases / sizeof *cases; i++) run(&cases[i]);
-    printf("%zu passed, %d failed\n", sizeof cases / sizeof *cases - (size_t)failures, failures);
+    for (size_t i = 0; i < sizeof orders / sizeof *orders; i++) run_assemble(&orders[i]);
+    size_t all = sizeof cases / sizeof *cases + sizeof orders / sizeof *orders;
+    printf("%zu passed, %d failed\n", all - (size_t)failures, failures);
     return failures != 0;
 }

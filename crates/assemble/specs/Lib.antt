@@ -8,4 +8,5 @@ pub mod Code
 pub mod Rewrite
 pub mod Says
 pub mod Stages
+pub mod Records
 pub mod Checks

@@ -6,6 +6,7 @@ pub mod multi;
 pub mod pictures;
 pub mod plan;
 pub mod rewrite;
+pub mod segments;
 pub mod sizes;
 pub mod slot;
 pub mod unit;

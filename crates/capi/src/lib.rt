@@ -3,7 +3,11 @@ ghost use mathlib.Core.Path.{_≡_};
 ghost use lib.ListN.{length};
 ghost use Rattle.container.specs.Units.{sizesOf, bytesAfter, endsAfter};
 ghost use Rattle.container.specs.Container.{stream, read};
-ghost use Rattle.capi.specs.Door.{codeOf, bytesOf, unitsOf};
+ghost use Rattle.assemble.specs.Assemble.{lentAfter};
+ghost use Rattle.assemble.specs.Says.{countsOf, outcome};
+ghost use Rattle.capi.specs.Door.{codeOf, bytesOf, unitsOf, assembledCode, numberAfter};
+use assemble::multi::Assembled;
+use assemble::multi::assemble_multi;
 use container::units::Split;
 
 // The units of a stream: 0, with their bytes in `out`, the end of each in `ends`, and how many there are of both; or
@@ -27,6 +31,66 @@ pub extern "C" fn magbelo_split_obu_stream(
         Split::Units(n, u) => {
             *bytes = n;
             *units = u;
+            0
+        }
+    }
+}
+
+// Assembly: 0, with all that is handed out in the lent slices and its counts; or document 01's number, with
+// (segment + 1) * 2^32 more where 01 adds the segment, and all is as it was. Segments are five numbers each.
+#[no_mangle]
+pub extern "C" fn magbelo_assemble(
+    picture: &[u8],
+    segments: &[u64],
+    gop_size: u64,
+    fps: u32,
+    fps_den: u32,
+    list: &mut [u32],
+    cues: &mut [u32],
+    pictures: &mut [u8],
+    ends: &mut [u32],
+    shows: &mut [u8],
+    header: &mut [u8],
+    units: &mut usize,
+    cue_count: &mut usize,
+    picture_len: &mut usize,
+    header_len: &mut usize,
+    golden_slot: &mut u64,
+) -> u64
+    ensures { λ r. ⌜ r ≡ assembledCode (countsOf (outcome (now (picture .entry)) (now (segments .entry)) «gop_size» fps «fps_den» (now (list .entry)) (now (cues .entry)) (now (pictures .entry)) (now (ends .entry)) (now (shows .entry)) (now (header .entry)))) ⌝ }
+    ensures { λ _. ⌜ now (list .exit) ≡ lentAfter (outcome (now (picture .entry)) (now (segments .entry)) «gop_size» fps «fps_den» (now (list .entry)) (now (cues .entry)) (now (pictures .entry)) (now (ends .entry)) (now (shows .entry)) (now (header .entry))) (λ o. o .list) (now (list .entry)) ⌝ }
+    ensures { λ _. ⌜ now (cues .exit) ≡ lentAfter (outcome (now (picture .entry)) (now (segments .entry)) «gop_size» fps «fps_den» (now (list .entry)) (now (cues .entry)) (now (pictures .entry)) (now (ends .entry)) (now (shows .entry)) (now (header .entry))) (λ o. o .cues) (now (cues .entry)) ⌝ }
+    ensures { λ _. ⌜ now (pictures .exit) ≡ lentAfter (outcome (now (picture .entry)) (now (segments .entry)) «gop_size» fps «fps_den» (now (list .entry)) (now (cues .entry)) (now (pictures .entry)) (now (ends .entry)) (now (shows .entry)) (now (header .entry))) (λ o. o .picture) (now (pictures .entry)) ⌝ }
+    ensures { λ _. ⌜ now (ends .exit) ≡ lentAfter (outcome (now (picture .entry)) (now (segments .entry)) «gop_size» fps «fps_den» (now (list .entry)) (now (cues .entry)) (now (pictures .entry)) (now (ends .entry)) (now (shows .entry)) (now (header .entry))) (λ o. o .ends) (now (ends .entry)) ⌝ }
+    ensures { λ _. ⌜ now (shows .exit) ≡ lentAfter (outcome (now (picture .entry)) (now (segments .entry)) «gop_size» fps «fps_den» (now (list .entry)) (now (cues .entry)) (now (pictures .entry)) (now (ends .entry)) (now (shows .entry)) (now (header .entry))) (λ o. o .shows) (now (shows .entry)) ⌝ }
+    ensures { λ _. ⌜ now (header .exit) ≡ lentAfter (outcome (now (picture .entry)) (now (segments .entry)) «gop_size» fps «fps_den» (now (list .entry)) (now (cues .entry)) (now (pictures .entry)) (now (ends .entry)) (now (shows .entry)) (now (header .entry))) (λ o. o .header) (now (header .entry)) ⌝ }
+    ensures { λ _. ⌜ now (units .exit) ≡ numberAfter (countsOf (outcome (now (picture .entry)) (now (segments .entry)) «gop_size» fps «fps_den» (now (list .entry)) (now (cues .entry)) (now (pictures .entry)) (now (ends .entry)) (now (shows .entry)) (now (header .entry)))) (λ c. c .units) (now (units .entry)) ⌝ }
+    ensures { λ _. ⌜ now («cue_count» .exit) ≡ numberAfter (countsOf (outcome (now (picture .entry)) (now (segments .entry)) «gop_size» fps «fps_den» (now (list .entry)) (now (cues .entry)) (now (pictures .entry)) (now (ends .entry)) (now (shows .entry)) (now (header .entry)))) (λ c. c .cues) (now («cue_count» .entry)) ⌝ }
+    ensures { λ _. ⌜ now («picture_len» .exit) ≡ numberAfter (countsOf (outcome (now (picture .entry)) (now (segments .entry)) «gop_size» fps «fps_den» (now (list .entry)) (now (cues .entry)) (now (pictures .entry)) (now (ends .entry)) (now (shows .entry)) (now (header .entry)))) (λ c. c .picture) (now («picture_len» .entry)) ⌝ }
+    ensures { λ _. ⌜ now («header_len» .exit) ≡ numberAfter (countsOf (outcome (now (picture .entry)) (now (segments .entry)) «gop_size» fps «fps_den» (now (list .entry)) (now (cues .entry)) (now (pictures .entry)) (now (ends .entry)) (now (shows .entry)) (now (header .entry)))) (λ c. c .header) (now («header_len» .entry)) ⌝ }
+    ensures { λ _. ⌜ now («golden_slot» .exit) ≡ numberAfter (countsOf (outcome (now (picture .entry)) (now (segments .entry)) «gop_size» fps «fps_den» (now (list .entry)) (now (cues .entry)) (now (pictures .entry)) (now (ends .entry)) (now (shows .entry)) (now (header .entry)))) (λ c. c .«golden_slot») (now («golden_slot» .entry)) ⌝ }
+{
+    match assemble_multi(
+        picture,
+        segments,
+        gop_size,
+        fps,
+        fps_den,
+        list,
+        cues,
+        pictures,
+        ends,
+        shows,
+        header,
+    ) {
+        Assembled::Refused(k) => k,
+        Assembled::RefusedIn(k, i) => k % 4294967296 + (i as u64 % 4294967295 + 1) * 4294967296,
+        Assembled::Made(c) => {
+            *units = c.units;
+            *cue_count = c.cues;
+            *picture_len = c.picture;
+            *header_len = c.header;
+            *golden_slot = c.golden_slot;
             0
         }
     }

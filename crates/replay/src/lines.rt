@@ -4,11 +4,13 @@ use crate::container_ops::ENDS;
 use crate::fields::number;
 use crate::fields::read_fields;
 use crate::lent::Room;
+use crate::operations::PLAY;
 use crate::operations::ROOM;
 use crate::operations::is_on_lists;
 use crate::operations::start;
 use crate::output::Buffer;
 use crate::output::bad_line;
+use crate::play_ops;
 use crate::requests::Request;
 use crate::requests::answer_in;
 use crate::requests::lent_to;
@@ -155,6 +157,9 @@ fn answer_line(
     }
     let end = word_end(line, from);
     let key = word_key(&line[from..end]);
+    if key == PLAY {
+        return play_ops::play(line, end + 1, decoded, out, at);
+    }
     if is_on_lists(key) {
         return answer_list(key, room, line, end + 1, decoded, lent, out, at);
     }

@@ -10,6 +10,7 @@ mod obu_ops;
 mod operations;
 mod outcome;
 mod output;
+mod play_ops;
 mod requests;
 mod text;
 mod unit_text;

@@ -38,6 +38,8 @@ pub(crate) const CANON: u64 = 0x63_616e_6f6e;
 
 pub(crate) const PACKETS: u64 = 0x70_6163_6b65_7473;
 
+pub(crate) const PLAY: u64 = 0x706c_6179;
+
 // The kinds of fields that an operation has; those of no operation are no kind.
 fn kinds(key: u64) -> u64 {
     match key {

@@ -1,0 +1,150 @@
+-- Laws of segments as structs: their numbers copied one segment after the other, and assembly from the copy. Assumes nothing.
+use Prim.Native.Nat.{ℕ, suc, _+_, _-_, _*_, _/_, _≤_, _<_}
+use native.Mathlib.Omega.{arith}
+use native.Mathlib.Numerals.{add-one}
+use mathlib.Core.Path.{_≡_, refl, sym, ap, ap₂, _∙_}
+use mathlib.Core.List.{List, [], _∷_, _++_}
+use mathlib.Core.Bool.{Bool, true, false, cond as pick}
+use mathlib.Core.Option.{none}
+use lib.ListN.{length, getD, set, take, drop, length-append, length-take, drop-of-length-le}
+use lib.Seq.{drop-cons, getD-take, take-all}
+use lib.Dec.{leb}
+use borrow.Author.Tests.{le-leb, lt-leb, leb-true}
+use Rattle.bitio.specs.Lent.{pasted}
+use Rattle.bitio.proofs.ParseLaws.{pick-cases}
+use Rattle.bitio.proofs.LentLaws.{pasted-nil, pasted-sets, pasted-more, pasted-length, pasted-take-end}
+use Rattle.assemble.specs.Assemble.{Outcome, stopped, Output}
+use Rattle.assemble.specs.Says.{outcome}
+use Rattle.assemble.specs.Records.{fiveOf, numbersOf, copyCount, numbersAfter, copiedOutcome, recordsOutcome}
+use Rattle.assemble.specs.declared.segments.Segment.{Segment}
+
+-- ---- how many are copied
+
+pub copy-all : (count room : ℕ) → count ≤ room / 5 → count ≡ copyCount count room
+copy-all count room h = simp (le-leb (5 * count) room (omega arith))
+
+pub copy-none : (count room : ℕ) → room / 5 < count → 0 ≡ copyCount count room
+copy-none count room h = simp (lt-leb (5 * count) room (omega arith))
+
+pub copied-within : (count room : ℕ) → copyCount count room ≤ count
+copied-within count room = pick-cases (λ n. n ≤ count) (leb (5 * count) room) (λ e. omega arith) (λ e. omega arith)
+
+pub copied-room : (count room : ℕ) → 5 * copyCount count room ≤ room
+copied-room count room = pick-cases (λ n. 5 * n ≤ room) (leb (5 * count) room) (λ e. let h = leb-true (5 * count) room e in omega arith) (λ e. omega arith)
+
+-- ---- one segment
+
+pub numbers-put : (d : List ℕ) (at : ℕ) (x : Segment) → at + 5 ≤ length d
+    → set (set (set (set (set d at (x .«key_start»)) (at + 1) (x .«key_end»)) (at + 2) (x .«golden_start»)) (at + 3) (x .«golden_end»)) (at + 4) (x .frames) ≡ pasted d at (fiveOf x)
+numbers-put d at x h =
+    let a : at + 1 ≡ suc at = omega arith in
+    let b : at + 2 ≡ suc (suc at) = omega arith in
+    let c : at + 3 ≡ suc (suc (suc at)) = omega arith in
+    let e : at + 4 ≡ suc (suc (suc (suc at))) = omega arith in
+    rw (a, b, c, e) (pasted-sets d at (fiveOf x) (omega arith))
+
+-- ---- all segments
+
+-- what stands for a segment where there is none
+abbrev pub noSegment : Segment
+noSegment = record { «key_start» = 0; «key_end» = 0; «golden_start» = 0; «golden_end» = 0; frames = 0 }
+
+pub numbers-length : (xs : List Segment) → length (numbersOf xs) ≡ 5 * length xs
+unfolding numbersOf
+numbers-length [] = refl
+numbers-length (x ∷ xs) = let e = numbers-length xs in length-append (fiveOf x) (numbersOf xs) ∙ omega (arith, e)
+
+numbers-nil : numbersOf [] ≡ []
+unfolding numbersOf
+numbers-nil = refl
+
+numbers-cons : (x : Segment) (xs : List Segment) → numbersOf (x ∷ xs) ≡ fiveOf x ++ numbersOf xs
+unfolding numbersOf
+numbers-cons x xs = refl
+
+-- the numbers of i segments stand in d, which held d₀
+pub record Copying (xs : List Segment) (d₀ d : List ℕ) (at i : ℕ) : Type 0 where
+  pub within : i ≤ copyCount (length xs) (length d₀)
+  pub place : at ≡ 5 * i
+  pub len : length d ≡ length d₀
+  pub rest : pasted d at (numbersOf (drop i (take (copyCount (length xs) (length d₀)) xs))) ≡ numbersAfter xs d₀
+
+pub copy-start : (xs : List Segment) (d : List ℕ) → Copying xs d d 0 0
+unfolding numbersAfter
+copy-start xs d =
+    record {
+      within = omega arith;
+      place = refl;
+      len = refl;
+      rest = go (leb (5 * length xs) (length d));
+    }
+  where
+    go : (b : Bool) → pasted d 0 (numbersOf (drop 0 (take (pick b (length xs) 0) xs))) ≡ pick b (pasted d 0 (numbersOf xs)) d
+    go true = ap (λ (l : List Segment). pasted d 0 (numbersOf l)) (take-all (length xs) xs (omega arith))
+    go false = ap (pasted d 0) numbers-nil ∙ pasted-nil d 0
+
+module _ {xs : List Segment} {d₀ d : List ℕ} {at i : ℕ} (r : Copying xs d₀ d at i) where
+  pub copy-end : copyCount (length xs) (length d₀) ≤ i → d ≡ numbersAfter xs d₀
+  copy-end h =
+      let n = copyCount (length xs) (length d₀) in
+      let e : drop i (take n xs) ≡ [] = drop-of-length-le (take n xs) {i = i} (omega (arith, length-take n xs)) in
+      sym (pasted-nil d at) ∙ ap (pasted d at) (sym (ap numbersOf e ∙ numbers-nil)) ∙ r .rest
+
+  module _ (h : i < copyCount (length xs) (length d₀)) where
+    pub copy-less : i < length xs
+    copy-less = omega (arith, copied-within (length xs) (length d₀))
+
+    pub copy-room : at + 5 ≤ length d
+    copy-room = omega (arith, copied-room (length xs) (length d₀), r .place, r .len)
+
+    pub copy-turn : (m : ℕ) (d′ : List ℕ) → m ≡ at + 5 → d′ ≡ pasted d at (fiveOf (getD xs i noSegment)) → Copying xs d₀ d′ m (i + 1)
+    copy-turn m d′ e f =
+        let n = copyCount (length xs) (length d₀) in
+        let x = getD xs i noSegment in
+        let l : i < length (take n xs) = omega (arith, length-take n xs, copied-within (length xs) (length d₀)) in
+        let behind : drop i (take n xs) ≡ x ∷ drop (i + 1) (take n xs) =
+        drop-cons (take n xs) i noSegment l ∙ ap₂ (λ (y : Segment) (k : ℕ). y ∷ drop k (take n xs)) (getD-take n xs i noSegment h) (sym (add-one i)) in
+        record {
+          within = omega arith;
+          place = omega (arith, r .place, e);
+          len = ap length f ∙ pasted-length d at (fiveOf x) copy-room ∙ r .len;
+          rest =
+              ap₂ (λ (y : List ℕ) (k : ℕ). pasted y k (numbersOf (drop (i + 1) (take n xs)))) f e
+              ∙ pasted-more d at (fiveOf x) (omega (arith, copy-room)) (numbersOf (drop (i + 1) (take n xs)))
+              ∙ ap (pasted d at) (sym (ap numbersOf behind ∙ numbers-cons x (drop (i + 1) (take n xs))))
+              ∙ r .rest;
+        }
+
+-- ---- assembly from the copy
+
+pub head-part : (n : ℕ) (d : List ℕ) → take (n - 0) (drop 0 d) ≡ take n d
+head-part n d = let e : n - 0 ≡ n = omega arith in ap (λ (m : ℕ). take m d) e
+
+module _ (s : List ℕ) (count : ℕ) (d : List ℕ) (gop fps den : ℕ) (list cues pictures ends shows header : List ℕ) where
+  pub copied-refused : length d / 5 < count → stopped 35 none ≡ copiedOutcome s count d gop fps den list cues pictures ends shows header
+  unfolding copiedOutcome
+  copied-refused h = simp (lt-leb (5 * count) (length d) (omega arith))
+
+  pub copied-made : (rs : List ℕ) → count ≤ length d / 5 → rs ≡ take (5 * count) d → outcome s rs gop fps den list cues pictures ends shows header ≡ copiedOutcome s count d gop fps den list cues pictures ends shows header
+  unfolding copiedOutcome
+  copied-made rs h e = ap (λ (l : List ℕ). outcome s l gop fps den list cues pictures ends shows header) e ∙ simp (le-leb (5 * count) (length d) (omega arith))
+
+module _ (s : List ℕ) (xs : List Segment) (d : List ℕ) (gop fps den : ℕ) (list cues pictures ends shows header : List ℕ) where
+  -- from the numbers as they stand once the segments are copied
+  pub copied-is : copiedOutcome s (length xs) (numbersAfter xs d) gop fps den list cues pictures ends shows header ≡ recordsOutcome s xs d gop fps den list cues pictures ends shows header
+  unfolding copiedOutcome recordsOutcome numbersAfter
+  copied-is = go (leb (5 * length xs) (length d)) refl
+    where
+      from : List ℕ → Outcome Output
+      from rs = outcome s rs gop fps den list cues pictures ends shows header
+
+      go : (b : Bool) → leb (5 * length xs) (length d) ≡ b
+          → pick (leb (5 * length xs) (length (pick b (pasted d 0 (numbersOf xs)) d))) (from (take (5 * length xs) (pick b (pasted d 0 (numbersOf xs)) d))) (stopped 35 none) ≡ pick b (from (numbersOf xs)) (stopped 35 none)
+      go true e =
+          let h = leb-true (5 * length xs) (length d) e in
+          let n = numbers-length xs in
+          let k : length (pasted d 0 (numbersOf xs)) ≡ length d = pasted-length d 0 (numbersOf xs) (omega (arith, n)) in
+          let z : 5 * length xs ≡ 0 + length (numbersOf xs) = omega (arith, n) in
+          let t : take (5 * length xs) (pasted d 0 (numbersOf xs)) ≡ numbersOf xs = ap (λ (m : ℕ). take m (pasted d 0 (numbersOf xs))) z ∙ pasted-take-end d 0 (numbersOf xs) (omega arith) in
+          ap₂ (λ (m : Bool) (l : List ℕ). pick m (from l) (stopped 35 none)) (ap (leb (5 * length xs)) k ∙ e) t
+      go false e = ap (λ (m : Bool). pick m (from (take (5 * length xs) d)) (stopped 35 none)) e

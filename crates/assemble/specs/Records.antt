@@ -1,0 +1,44 @@
+-- Segments as structs (01: a lent list of range records), and assembly from them by way of a lent slice of numbers. Assumes nothing.
+use Prim.Native.Nat.{ℕ, _*_}
+use mathlib.Core.List.{List, [], _∷_, _++_}
+use mathlib.Core.Bool.{Bool, cond as pick}
+use mathlib.Core.Option.{none}
+use lib.ListN.{length, take}
+use lib.Dec.{leb}
+use Rattle.bitio.specs.Lent.{pasted}
+use Rattle.assemble.specs.Assemble.{Outcome, stopped, Output}
+use Rattle.assemble.specs.Says.{outcome}
+use Rattle.assemble.specs.declared.segments.Segment.{Segment}
+
+-- the five numbers of a segment, as assembly reads them
+abbrev pub fiveOf : Segment → List ℕ
+fiveOf x = x .«key_start» ∷ x .«key_end» ∷ x .«golden_start» ∷ x .«golden_end» ∷ x .frames ∷ []
+
+-- those of all segments, one after the other
+unfoldable pub numbersOf : List Segment → List ℕ
+numbersOf [] = []
+numbersOf (x ∷ xs) = fiveOf x ++ numbersOf xs
+
+-- room for five numbers a segment
+abbrev pub held : ℕ → List ℕ → Bool
+held count d = leb (5 * count) (length d)
+
+-- what the lent numbers hold afterwards: those of the segments at their head, or, without room, what they held
+unfoldable pub numbersAfter : List Segment → List ℕ → List ℕ
+numbersAfter xs d = pick (held (length xs) d) (pasted d 0 (numbersOf xs)) d
+
+-- assembly from structs; 35 leads here, where the lent numbers d have no room: without it nothing can be read
+unfoldable pub recordsOutcome : (s : List ℕ) (xs : List Segment) (d : List ℕ) (gop fps den : ℕ) (list cues pictures ends shows header : List ℕ) → Outcome Output
+recordsOutcome s xs d gop fps den list cues pictures ends shows header =
+    pick (held (length xs) d) (outcome s (numbersOf xs) gop fps den list cues pictures ends shows header) (stopped 35 none)
+
+-- ---- the parts of the code
+
+-- how many of count segments are copied: all, or none without room
+abbrev pub copyCount : ℕ → ℕ → ℕ
+copyCount count room = pick (leb (5 * count) room) count 0
+
+-- assembly from the first count segments whose numbers stand in d; 35 where d has no room for so many
+unfoldable pub copiedOutcome : (s : List ℕ) (count : ℕ) (d : List ℕ) (gop fps den : ℕ) (list cues pictures ends shows header : List ℕ) → Outcome Output
+copiedOutcome s count d gop fps den list cues pictures ends shows header =
+    pick (held count d) (outcome s (take (5 * count) d) gop fps den list cues pictures ends shows header) (stopped 35 none)

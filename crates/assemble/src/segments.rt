@@ -1,0 +1,141 @@
+// Assembly from a lent list of range records (document 01): each is copied into the flat numbers that the core takes.
+// A slice of structs is proved by hand, so that copy_segments and assemble_segments do no more than they must.
+ghost use mathlib.Core.Path.{_≡_};
+ghost use Prim.Native.Nat.{_+_, _≤_};
+ghost use lib.ListN.{length};
+ghost use Rattle.bitio.specs.Lent.{pasted};
+ghost use Rattle.assemble.specs.Assemble.{lentAfter};
+ghost use Rattle.assemble.specs.Says.{assembledSays, countsOf};
+ghost use Rattle.assemble.specs.Records.{fiveOf, copyCount, numbersAfter, copiedOutcome, recordsOutcome};
+use crate::multi::Assembled;
+use crate::multi::assemble_multi;
+
+// Where its key and its golden lie in the picture bytes, and its frames.
+pub struct Segment {
+    pub key_start: u64,
+    pub key_end: u64,
+    pub golden_start: u64,
+    pub golden_end: u64,
+    pub frames: u64,
+}
+
+// How many of count segments are copied: all, or none where there is no room for five numbers each.
+fn copy_count(count: usize, room: usize) -> usize
+    ensures { λ r. ⌜ r ≡ copyCount count room ⌝ }
+{
+    if count <= room / 5 {
+        return count;
+    }
+    0
+}
+
+// One segment. Says where the next one goes.
+fn put_numbers(at: usize, segment: Segment, numbers: &mut [u64]) -> usize
+    requires { ⌜ at + 5 ≤ length (now numbers) ⌝ }
+    ensures { λ r. ⌜ (r ≡ at + 5) × (now (numbers .exit) ≡ pasted (now (numbers .entry)) at (fiveOf segment)) ⌝ }
+{
+    numbers[at] = segment.key_start;
+    numbers[at + 1] = segment.key_end;
+    numbers[at + 2] = segment.golden_start;
+    numbers[at + 3] = segment.golden_end;
+    numbers[at + 4] = segment.frames;
+    at + 5
+}
+
+// All segments, or none without room. Says how many there are.
+fn copy_segments(segments: &[Segment], numbers: &mut [u64]) -> usize
+    ensures { λ r. ⌜ (r ≡ length (now (segments .entry))) × (now (numbers .exit) ≡ numbersAfter (now (segments .entry)) (now (numbers .entry))) ⌝ }
+{
+    let end = copy_count(segments.len(), numbers.len());
+    let mut at: usize = 0;
+    let mut i: usize = 0;
+    while i < end {
+        at = put_numbers(at, segments[i], &mut *numbers);
+        i += 1;
+    }
+    segments.len()
+}
+
+// Assembly from the numbers of so many segments, at the head of the lent ones.
+fn assemble_copied(
+    picture: &[u8],
+    count: usize,
+    numbers: &mut [u64],
+    gop_size: u64,
+    fps: u32,
+    fps_den: u32,
+    list: &mut [u32],
+    cues: &mut [u32],
+    pictures: &mut [u8],
+    ends: &mut [u32],
+    shows: &mut [u8],
+    header: &mut [u8],
+) -> Assembled
+    ensures answer { λ r. ⌜ assembledSays r ≡ countsOf (copiedOutcome (now (picture .entry)) count (now (numbers .entry)) «gop_size» fps «fps_den» (now (list .entry)) (now (cues .entry)) (now (pictures .entry)) (now (ends .entry)) (now (shows .entry)) (now (header .entry))) ⌝ }
+    ensures numbers { λ _. ⌜ now (numbers .exit) ≡ now (numbers .entry) ⌝ }
+    ensures list { λ _. ⌜ now (list .exit) ≡ lentAfter (copiedOutcome (now (picture .entry)) count (now (numbers .entry)) «gop_size» fps «fps_den» (now (list .entry)) (now (cues .entry)) (now (pictures .entry)) (now (ends .entry)) (now (shows .entry)) (now (header .entry))) (λ o. o .list) (now (list .entry)) ⌝ }
+    ensures cues { λ _. ⌜ now (cues .exit) ≡ lentAfter (copiedOutcome (now (picture .entry)) count (now (numbers .entry)) «gop_size» fps «fps_den» (now (list .entry)) (now (cues .entry)) (now (pictures .entry)) (now (ends .entry)) (now (shows .entry)) (now (header .entry))) (λ o. o .cues) (now (cues .entry)) ⌝ }
+    ensures pictures { λ _. ⌜ now (pictures .exit) ≡ lentAfter (copiedOutcome (now (picture .entry)) count (now (numbers .entry)) «gop_size» fps «fps_den» (now (list .entry)) (now (cues .entry)) (now (pictures .entry)) (now (ends .entry)) (now (shows .entry)) (now (header .entry))) (λ o. o .picture) (now (pictures .entry)) ⌝ }
+    ensures ends { λ _. ⌜ now (ends .exit) ≡ lentAfter (copiedOutcome (now (picture .entry)) count (now (numbers .entry)) «gop_size» fps «fps_den» (now (list .entry)) (now (cues .entry)) (now (pictures .entry)) (now (ends .entry)) (now (shows .entry)) (now (header .entry))) (λ o. o .ends) (now (ends .entry)) ⌝ }
+    ensures shows { λ _. ⌜ now (shows .exit) ≡ lentAfter (copiedOutcome (now (picture .entry)) count (now (numbers .entry)) «gop_size» fps «fps_den» (now (list .entry)) (now (cues .entry)) (now (pictures .entry)) (now (ends .entry)) (now (shows .entry)) (now (header .entry))) (λ o. o .shows) (now (shows .entry)) ⌝ }
+    ensures header { λ _. ⌜ now (header .exit) ≡ lentAfter (copiedOutcome (now (picture .entry)) count (now (numbers .entry)) «gop_size» fps «fps_den» (now (list .entry)) (now (cues .entry)) (now (pictures .entry)) (now (ends .entry)) (now (shows .entry)) (now (header .entry))) (λ o. o .header) (now (header .entry)) ⌝ }
+{
+    if count > numbers.len() / 5 {
+        return Assembled::Refused(35);
+    }
+    assemble_multi(
+        picture,
+        &numbers[0..5 * count],
+        gop_size,
+        fps,
+        fps_den,
+        list,
+        cues,
+        pictures,
+        ends,
+        shows,
+        header,
+    )
+}
+
+// Assembly from segments. The lent numbers are working memory, of which document 01 says nothing: five a segment, put at
+// their head. Where there is no room for them the answer is 35 before all else, since nothing can be read without.
+pub fn assemble_segments(
+    picture: &[u8],
+    segments: &[Segment],
+    numbers: &mut [u64],
+    gop_size: u64,
+    fps: u32,
+    fps_den: u32,
+    list: &mut [u32],
+    cues: &mut [u32],
+    pictures: &mut [u8],
+    ends: &mut [u32],
+    shows: &mut [u8],
+    header: &mut [u8],
+) -> Assembled
+    ensures answer { λ r. ⌜ assembledSays r ≡ countsOf (recordsOutcome (now (picture .entry)) (now (segments .entry)) (now (numbers .entry)) «gop_size» fps «fps_den» (now (list .entry)) (now (cues .entry)) (now (pictures .entry)) (now (ends .entry)) (now (shows .entry)) (now (header .entry))) ⌝ }
+    ensures numbers { λ _. ⌜ now (numbers .exit) ≡ numbersAfter (now (segments .entry)) (now (numbers .entry)) ⌝ }
+    ensures list { λ _. ⌜ now (list .exit) ≡ lentAfter (recordsOutcome (now (picture .entry)) (now (segments .entry)) (now (numbers .entry)) «gop_size» fps «fps_den» (now (list .entry)) (now (cues .entry)) (now (pictures .entry)) (now (ends .entry)) (now (shows .entry)) (now (header .entry))) (λ o. o .list) (now (list .entry)) ⌝ }
+    ensures cues { λ _. ⌜ now (cues .exit) ≡ lentAfter (recordsOutcome (now (picture .entry)) (now (segments .entry)) (now (numbers .entry)) «gop_size» fps «fps_den» (now (list .entry)) (now (cues .entry)) (now (pictures .entry)) (now (ends .entry)) (now (shows .entry)) (now (header .entry))) (λ o. o .cues) (now (cues .entry)) ⌝ }
+    ensures pictures { λ _. ⌜ now (pictures .exit) ≡ lentAfter (recordsOutcome (now (picture .entry)) (now (segments .entry)) (now (numbers .entry)) «gop_size» fps «fps_den» (now (list .entry)) (now (cues .entry)) (now (pictures .entry)) (now (ends .entry)) (now (shows .entry)) (now (header .entry))) (λ o. o .picture) (now (pictures .entry)) ⌝ }
+    ensures ends { λ _. ⌜ now (ends .exit) ≡ lentAfter (recordsOutcome (now (picture .entry)) (now (segments .entry)) (now (numbers .entry)) «gop_size» fps «fps_den» (now (list .entry)) (now (cues .entry)) (now (pictures .entry)) (now (ends .entry)) (now (shows .entry)) (now (header .entry))) (λ o. o .ends) (now (ends .entry)) ⌝ }
+    ensures shows { λ _. ⌜ now (shows .exit) ≡ lentAfter (recordsOutcome (now (picture .entry)) (now (segments .entry)) (now (numbers .entry)) «gop_size» fps «fps_den» (now (list .entry)) (now (cues .entry)) (now (pictures .entry)) (now (ends .entry)) (now (shows .entry)) (now (header .entry))) (λ o. o .shows) (now (shows .entry)) ⌝ }
+    ensures header { λ _. ⌜ now (header .exit) ≡ lentAfter (recordsOutcome (now (picture .entry)) (now (segments .entry)) (now (numbers .entry)) «gop_size» fps «fps_den» (now (list .entry)) (now (cues .entry)) (now (pictures .entry)) (now (ends .entry)) (now (shows .entry)) (now (header .entry))) (λ o. o .header) (now (header .entry)) ⌝ }
+{
+    let count = copy_segments(segments, &mut *numbers);
+    assemble_copied(
+        picture,
+        count,
+        numbers,
+        gop_size,
+        fps,
+        fps_den,
+        list,
+        cues,
+        pictures,
+        ends,
+        shows,
+        header,
+    )
+}
