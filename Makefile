@@ -9,7 +9,7 @@ test:
 check:
 	rt check
 
-# The main job. Until boardlist is there: some operations by hand, by the line protocol of replay.
+# The main job: the unit list of a sample file of two segments.
 run:
-	rt check replay
-	@printf 'leb e58e26\nlebput 624485\nbits 9c40 3 7\nuvlc 2c 0\n' | target/bin/replay
+	rt check boardlist
+	@target/bin/boardlist <crates/boardlist/stdin

@@ -12,14 +12,13 @@ ghost use Rattle.assemble.specs.Assemble.{lentAfter};
 ghost use Rattle.assemble.specs.Says.{assembledSays, countsOf, outcome};
 use crate::blocks::count_cues;
 use crate::blocks::put_list;
-use crate::frames::GoldenSlot;
-use crate::frames::golden_slot;
 use crate::pictures::put_pictures;
 use crate::pictures::put_shows;
+use crate::pictures::slot_or_zero;
+use crate::pictures::unit_at;
 use crate::plan::Basis;
 use crate::plan::Planned;
 use crate::plan::plan_multi;
-use crate::plan::unit_at;
 use crate::sizes::total_frames;
 use header::seq_header::OperatingPoint;
 use obu::reader::payload;
@@ -53,10 +52,7 @@ fn first_slot(picture: &[u8], segments: &[u64], basis: Basis, points: [Operating
     let key = unit_at(picture, segments, 0);
     let golden = unit_at(picture, segments, 2);
     let header = basis.header;
-    match golden_slot(key, golden, header, points, basis.rewriting) {
-        GoldenSlot::Lowest(slot) => slot,
-        GoldenSlot::Refused(_) => 0,
-    }
+    slot_or_zero(key, golden, header, points, basis.rewriting)
 }
 
 // The payload of the first key's own sequence header.

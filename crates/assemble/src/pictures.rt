@@ -27,7 +27,7 @@ pub enum Measured {
 }
 
 // The unit that starts and ends where the two numbers at `at` say.
-fn unit_at<'a, 'b>(picture: &'a [u8], segments: &'b [u64], at: usize) -> &'a [u8]
+pub(crate) fn unit_at<'a, 'b>(picture: &'a [u8], segments: &'b [u64], at: usize) -> &'a [u8]
     requires { ⌜ at + 2 ≤ length (now segments) ⌝ }
     ensures { λ r. ⌜ now r ≡ part (now (picture .entry)) (getD (now (segments .entry)) at 0) (getD (now (segments .entry)) (at + 1) 0) ⌝ }
 {
@@ -135,7 +135,7 @@ pub(crate) fn put_pictures(
 }
 
 // The slot that the show units of a segment name; 0 for a segment that is refused.
-fn slot_or_zero(
+pub(crate) fn slot_or_zero(
     key: &[u8],
     golden: &[u8],
     header: SequenceHeader,

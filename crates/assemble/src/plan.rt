@@ -19,6 +19,7 @@ use crate::headers::read_supported;
 use crate::headers::same_headers;
 use crate::pictures::Measured;
 use crate::pictures::measure_pictures;
+use crate::pictures::unit_at;
 use crate::sizes::Checked;
 use crate::sizes::check_ranges;
 use crate::sizes::check_sizes;
@@ -59,14 +60,6 @@ pub struct Plan {
     pub points: [OperatingPoint; 32],
     // the payload that replaces sequence headers, at the head
     pub new: [u8; 400],
-}
-
-// The unit whose two numbers stand at `at`.
-pub(crate) fn unit_at<'a, 'b>(picture: &'a [u8], segments: &'b [u64], at: usize) -> &'a [u8]
-    requires { ⌜ at + 2 ≤ length (now segments) ⌝ }
-    ensures { λ r. ⌜ now r ≡ part (now (picture .entry)) (getD (now (segments .entry)) at 0) (getD (now (segments .entry)) (at + 1) 0) ⌝ }
-{
-    payload(picture, segments[at] as usize, segments[at + 1] as usize)
 }
 
 // Nothing is written.

@@ -4,6 +4,11 @@ ghost use mathlib.Core.Bool.{cond as pick};
 ghost use lib.ListN.{length};
 ghost use lib.Dec.{leb};
 ghost use Rattle.bitio.specs.Lent.{lent};
+ghost use Rattle.container.specs.Units.{sizesOf, bytesAfter, endsAfter, countOf, outAfter};
+ghost use Rattle.container.specs.Container.{stream, annexb, read, writeAt};
+ghost use Rattle.bench.specs.Counts.{unitsOrNone, bytesOrNone};
+use container::units::Joined;
+use container::units::Split;
 
 // The copy that every writer makes: src to the front of out, or nothing and 0 if it has no room.
 #[no_mangle]
@@ -15,4 +20,54 @@ pub extern "C" fn bench_put_bytes(src: &[u8], out: &mut [u8]) -> usize
         return 0;
     }
     obu::writer::put_bytes(out, 0, src)
+}
+
+// The units of a stream: how many there are, or 0 after a refusal.
+#[no_mangle]
+pub extern "C" fn bench_split_obu_stream(data: &[u8], out: &mut [u8], ends: &mut [u32]) -> usize
+    ensures { λ r. ⌜ r ≡ unitsOrNone (sizesOf (read stream (record { bytes = length (now (out .entry)); ends = length (now (ends .entry)) }) (now («data» .entry)))) ⌝ }
+    ensures { λ _. ⌜ now (out .exit) ≡ bytesAfter (read stream (record { bytes = length (now (out .entry)); ends = length (now (ends .entry)) }) (now («data» .entry))) (now (out .entry)) ⌝ }
+    ensures { λ _. ⌜ now (ends .exit) ≡ endsAfter (read stream (record { bytes = length (now (out .entry)); ends = length (now (ends .entry)) }) (now («data» .entry))) (now (ends .entry)) ⌝ }
+{
+    match container::stream::split_obu_stream(data, out, ends) {
+        Split::Refused(_) => 0,
+        Split::Units(_, u) => u,
+    }
+}
+
+// The units of Annex B: how many there are, or 0 after a refusal.
+#[no_mangle]
+pub extern "C" fn bench_split_annexb(data: &[u8], out: &mut [u8], ends: &mut [u32]) -> usize
+    ensures { λ r. ⌜ r ≡ unitsOrNone (sizesOf (read annexb (record { bytes = length (now (out .entry)); ends = length (now (ends .entry)) }) (now («data» .entry)))) ⌝ }
+    ensures { λ _. ⌜ now (out .exit) ≡ bytesAfter (read annexb (record { bytes = length (now (out .entry)); ends = length (now (ends .entry)) }) (now («data» .entry))) (now (out .entry)) ⌝ }
+    ensures { λ _. ⌜ now (ends .exit) ≡ endsAfter (read annexb (record { bytes = length (now (out .entry)); ends = length (now (ends .entry)) }) (now («data» .entry))) (now (ends .entry)) ⌝ }
+{
+    match container::annexb::split_annexb(data, out, ends) {
+        Split::Refused(_) => 0,
+        Split::Units(_, u) => u,
+    }
+}
+
+// A stream of units: how many bytes it has, or 0 after a refusal.
+#[no_mangle]
+pub extern "C" fn bench_write_obu_stream(units: &[u8], unit_ends: &[u32], out: &mut [u8]) -> usize
+    ensures { λ r. ⌜ r ≡ bytesOrNone (countOf (writeAt stream (record { bytes = length (now (out .entry)); ends = 0 }) (now (units .entry)) (now («unit_ends» .entry)))) ⌝ }
+    ensures { λ _. ⌜ now (out .exit) ≡ outAfter (writeAt stream (record { bytes = length (now (out .entry)); ends = 0 }) (now (units .entry)) (now («unit_ends» .entry))) (now (out .entry)) ⌝ }
+{
+    match container::stream::write_obu_stream(units, unit_ends, out) {
+        Joined::Refused(_) => 0,
+        Joined::Bytes(n) => n,
+    }
+}
+
+// Annex B of units: how many bytes it has, or 0 after a refusal.
+#[no_mangle]
+pub extern "C" fn bench_write_annexb(units: &[u8], unit_ends: &[u32], out: &mut [u8]) -> usize
+    ensures { λ r. ⌜ r ≡ bytesOrNone (countOf (writeAt annexb (record { bytes = length (now (out .entry)); ends = 0 }) (now (units .entry)) (now («unit_ends» .entry)))) ⌝ }
+    ensures { λ _. ⌜ now (out .exit) ≡ outAfter (writeAt annexb (record { bytes = length (now (out .entry)); ends = 0 }) (now (units .entry)) (now («unit_ends» .entry))) (now (out .entry)) ⌝ }
+{
+    match container::annexb::write_annexb(units, unit_ends, out) {
+        Joined::Refused(_) => 0,
+        Joined::Bytes(n) => n,
+    }
 }

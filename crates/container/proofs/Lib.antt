@@ -6,6 +6,8 @@ pub mod Carry
 pub mod RangeLaws
 pub mod ExtentLaws
 pub mod ExtentTurns
+pub mod BoundLaws
+pub mod SurveyLaws
 pub mod StreamTurns
 pub mod ListLaws
 pub mod SpanLaws

@@ -175,7 +175,7 @@ ext-most none = omega arith
 ext-most (some x) = omega arith
 
 -- an OBU is written in at most twelve times its bytes
-step-most : (keep : Bool) {s : List ℕ} {a m : ℕ} {o : Obu} → Step s a o m → length (keptOne keep o) ≤ 12 * (m - a)
+pub step-most : (keep : Bool) {s : List ℕ} {a m : ℕ} {o : Obu} → Step s a o m → length (keptOne keep o) ≤ 12 * (m - a)
 step-most keep {s} {a} {m} {o} p = rw kept-length (go (isKept keep (o .type)))
   where
     go : (x : Bool) → pick x (obuLength (o .ext) (length (o .payload))) 0 ≤ 12 * (m - a)

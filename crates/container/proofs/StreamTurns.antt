@@ -3,10 +3,10 @@ use Prim.Native.Nat.{ℕ, suc, _+_, _-_, _*_, _^_, _≤_, _<_}
 use native.Mathlib.Omega.{arith}
 use mathlib.Core.Path.{_≡_, refl, sym, ap, ap₂, _∙_}
 use mathlib.Core.List.{List, [], _∷_, _++_, map, flatMap}
-use mathlib.Core.Bool.{Bool, true, false, cond as pick, not, _||_, _&&_}
+use mathlib.Core.Bool.{Bool, true, false, cond as pick, _&&_}
 use lib.ListN.{length, set, length-append, length-map, length-set}
-use lib.Dec.{leb, ltb}
-use borrow.Author.Tests.{le-leb, lt-leb, leb-true, leb-false, lt-ltb, le-ltb, not-true, not-false}
+use lib.Dec.{leb}
+use borrow.Author.Tests.{le-leb, lt-leb, leb-true}
 use Rattle.bitio.specs.Parse.{Answer, refused, accepted, answer}
 use Rattle.bitio.specs.Lent.{pasted}
 use Rattle.bitio.proofs.LentLaws.{pasted-nil, pasted-one, pasted-more, pasted-length}
@@ -18,9 +18,11 @@ use Rattle.container.specs.Limits.{Room, fits, fitUnits}
 use Rattle.container.specs.Units.{endsOf, Sizes, sizesOf, bytesAfter, endsAfter}
 use Rattle.container.specs.Container.{stream, read}
 use Rattle.container.specs.Ranges.{keptBytes, Ranged, Measured, Roomy, Wrote, WroteKept}
+use Rattle.container.specs.Survey.{Tally, tallyOf, Surveyed, sizesFit}
 use Rattle.container.specs.Extents.{Frames, FirstUnit, UnitRanges, UnitLength, UnitRoom, UnitWrote, StreamFrames, StreamRoom}
 use Rattle.container.proofs.StreamLaws.{bytes-append, bytes-flat}
 use Rattle.container.proofs.RangeLaws.{range-within, range-same, range-end, range-whole, range-most, wrote-more}
+use Rattle.container.proofs.BoundLaws.{mostUnits, units-bytes-most, units-few}
 use Rattle.container.proofs.ExtentTurns.{units-none}
 
 -- ---- one unit
@@ -98,17 +100,26 @@ stream-units s os e = rw e
 sizes-are : (s : List ℕ) (os : List Obu) → obus s ≡ accepted os → sizesOf (streamUnits s) ≡ accepted (record { bytes = bytesLeft os; units = length (units os) })
 sizes-are s os e = rw (stream-units s os e, bytes-flat, length-map)
 
-pub sizing-start : {s : List ℕ} {n : ℕ} → StreamFrames s n → Sizing s 0 n 0 0
-sizing-start {s} f =
+sizes-start : {s : List ℕ} {n : ℕ} (f : StreamFrames s n)
+    → sizesOf (streamUnits s) ≡ accepted (record { bytes = 0 + bytesLeft (f .all); units = 0 + length (units (f .all)) })
+sizes-start {s} f =
     let z : bytesLeft (f .all) ≡ 0 + bytesLeft (f .all) = omega arith in
     let y : length (units (f .all)) ≡ 0 + length (units (f .all)) = omega arith in
-    record {
-      short = f .short;
-      rest = stream-frames f;
-      small = omega arith;
-      few = omega arith;
-      sizes = sizes-are s (f .all) (f .reads) ∙ ap₂ (λ i j. accepted (record { bytes = i; units = j })) z y;
-    }
+    sizes-are s (f .all) (f .reads) ∙ ap₂ (λ i j. accepted (record { bytes = i; units = j })) z y
+
+pub sizing-start : {s : List ℕ} {n : ℕ} → StreamFrames s n → Sizing s 0 n 0 0
+sizing-start f = record { short = f .short; rest = stream-frames f; small = omega arith; few = omega arith; sizes = sizes-start f }
+
+-- at the end nothing is left
+sizes-end : {s : List ℕ} {at left n u : ℕ} (r : Frames s at left)
+    → sizesOf (streamUnits s) ≡ accepted (record { bytes = n + bytesLeft (r .all); units = u + length (units (r .all)) })
+    → length s ≤ at → sizesOf (streamUnits s) ≡ accepted (record { bytes = n; units = u })
+unfolding flat unitBytes flatMap
+sizes-end {n} {u} r q h =
+    let e : units (r .all) ≡ [] = ap units (range-end (r .range) h) ∙ units-none in
+    let x : n + bytesLeft (r .all) ≡ n = let y = ap (λ us. length (unitBytes (flat us))) e in omega arith in
+    let w : u + length (units (r .all)) ≡ u = let y = ap length e in omega arith in
+    q ∙ ap₂ (λ i j. accepted (record { bytes = i; units = j })) x w
 
 -- the units of what is left: the first, and those behind it
 module _ {s : List ℕ} {at left a b c d : ℕ} (r : Frames s at left) (f : FirstUnit s at left a b c d) where
@@ -129,12 +140,7 @@ module _ {s : List ℕ} {at left a b c d : ℕ} (r : Frames s at left) (f : Firs
 
 module _ {s : List ℕ} {at left n u : ℕ} (z : Sizing s at left n u) where
   pub sizing-end : length s ≤ at → sizesOf (streamUnits s) ≡ accepted (record { bytes = n; units = u })
-  unfolding flat unitBytes flatMap
-  sizing-end h =
-      let e : units (z .rest .all) ≡ [] = ap units (range-end (z .rest .range) h) ∙ units-none in
-      let x : n + bytesLeft (z .rest .all) ≡ n = let y = ap (λ us. length (unitBytes (flat us))) e in omega arith in
-      let w : u + length (units (z .rest .all)) ≡ u = let y = ap length e in omega arith in
-      z .sizes ∙ ap₂ (λ i j. accepted (record { bytes = i; units = j })) x w
+  sizing-end h = sizes-end (z .rest) (z .sizes) h
 
   module _ {a b c d k : ℕ} (f : FirstUnit s at left a b c d) (y : UnitLength s a b c d k) where
     size : k ≡ length (unitBytes (f .leading ++ others (f .inner)))
@@ -172,6 +178,7 @@ pub record Writing (s : List ℕ) (at left : ℕ) (d e : List ℕ) (w u : ℕ) (
   pub slots : u + length (units (rest .all)) ≤ length m
   pub bytes : bytesAfter (streamUnits s) d ≡ pasted o w (streamBytes (written (rest .all)))
   pub ends : endsAfter (streamUnits s) e ≡ pasted m u (endsOf w (written (rest .all)))
+  pub sizes : sizesOf (streamUnits s) ≡ accepted (record { bytes = w + bytesLeft (rest .all); units = u + length (units (rest .all)) })
 
 pub writing-start : {s : List ℕ} {n : ℕ} {d e : List ℕ} → StreamRoom s n d e → Writing s 0 n d e 0 0 d e
 writing-start {s} r =
@@ -186,15 +193,21 @@ writing-start {s} r =
       slots = omega (arith, r .slots);
       bytes = rw q;
       ends = rw q;
+      sizes = sizes-start f;
     }
 
 module _ {s : List ℕ} {at left : ℕ} {d e : List ℕ} {w u : ℕ} {o m : List ℕ} (z : Writing s at left d e w u o m) where
-  pub writing-end : length s ≤ at → (o ≡ bytesAfter (streamUnits s) d) × (m ≡ endsAfter (streamUnits s) e)
+  pub writing-end : length s ≤ at
+      → (sizesOf (streamUnits s) ≡ accepted (record { bytes = w; units = u }))
+      × ((o ≡ bytesAfter (streamUnits s) d) × (m ≡ endsAfter (streamUnits s) e))
   unfolding streamBytes flat endsOf
   writing-end h =
       let q : units (z .rest .all) ≡ [] = ap units (range-end (z .rest .range) h) ∙ units-none in (
-        sym (z .bytes ∙ ap (λ us. pasted o w (streamBytes (map unitBytes us))) q ∙ pasted-nil o w),
-        sym (z .ends ∙ ap (λ us. pasted m u (endsOf w (map unitBytes us))) q ∙ pasted-nil m u),
+        sizes-end (z .rest) (z .sizes) h,
+        (
+          sym (z .bytes ∙ ap (λ us. pasted o w (streamBytes (map unitBytes us))) q ∙ pasted-nil o w),
+          sym (z .ends ∙ ap (λ us. pasted m u (endsOf w (map unitBytes us))) q ∙ pasted-nil m u),
+        ),
       )
 
   module _ {a b c x : ℕ} (f : FirstUnit s at left a b c x) where
@@ -245,6 +258,8 @@ module _ {s : List ℕ} {at left : ℕ} {d e : List ℕ} {w u : ℕ} {o m : List
           let i = bytes-next (z .rest) f in
           let j = count-left (z .rest) f in
           let l = length-set m u v in
+          let g : w + bytesLeft (z .rest .all) ≡ v + bytesLeft (f .rest) = omega (arith, here-wrote .next) in
+          let h : u + length (units (z .rest .all)) ≡ u + 1 + length (units (f .rest)) = omega arith in
           record {
             rest = frames-next (z .rest) f k;
             long = p-long ∙ z .long;
@@ -254,33 +269,28 @@ module _ {s : List ℕ} {at left : ℕ} {d e : List ℕ} {w u : ℕ} {o m : List
             slots = omega (arith, z .slots);
             bytes = z .bytes ∙ bytes-then;
             ends = z .ends ∙ ends-then;
+            sizes = z .sizes ∙ ap₂ (λ x y. accepted (record { bytes = x; units = y })) g h;
           }
 
 -- ---- what reading comes to
 
-pub stream-counted : (s : List ℕ) (n : ℕ) → length s ≤ limit → answer (count isFrame) (obus s) ≡ accepted n → StreamFrames s n
-stream-counted s n l e = go (obus s) refl e
+abbrev tallyIn : Answer Tally → Tally
+tallyIn (refused k) = record { frames = 0; bytes = 0 }
+tallyIn (accepted z) = z
+
+pub surveyed : (s : List ℕ) (n b : ℕ) → length s ≤ limit → accepted (record { frames = n; bytes = b }) ≡ answer tallyOf (obus s) → Surveyed s n b
+surveyed s n b l e = go (obus s) refl e
   where
-    go : (x : Answer (List Obu)) → obus s ≡ x → answer (count isFrame) x ≡ accepted n → StreamFrames s n
+    go : (x : Answer (List Obu)) → obus s ≡ x → accepted (record { frames = n; bytes = b }) ≡ answer tallyOf x → Surveyed s n b
     go (refused k) q e = let z : _≡_ {A = ℕ} 0 1 = cc in absurd (omega arith)
-    go (accepted os) q e = record { short = l; all = os; reads = q; frames = cc }
+    go (accepted os) q e =
+        let i : n ≡ count isFrame os = ap (λ x. (tallyIn x) .frames) e in
+        let j : b ≡ length (unitBytes os) = ap (λ x. (tallyIn x) .bytes) e in
+        record { stream = record { short = l; all = os; reads = q; frames = sym i }; bytes = sym j }
 
 answer-refused : {A B : Type 0} (f : A → B) (x : Answer A) (k : ℕ) → answer f x ≡ refused k → x ≡ refused k
 answer-refused f (refused j) k e = let q : j ≡ k = cc in ap refused q
 answer-refused f (accepted a) k e = let z : _≡_ {A = ℕ} 0 1 = cc in absurd (omega arith)
-
-over-not : (a n : ℕ) → ltb a n ≡ not (leb n a)
-over-not a n = go (leb n a) refl
-  where
-    go : (b : Bool) → leb n a ≡ b → ltb a n ≡ not b
-    go true e = le-ltb a n (leb-true n a e)
-    go false e = lt-ltb a n (leb-false n a e)
-
-none-over : (x y z : Bool) → ((not x || not y) || not z) ≡ not (x && (y && z))
-none-over true true true = refl
-none-over true true false = refl
-none-over true false z = refl
-none-over false y z = refl
 
 abbrev sizesIn : Answer Sizes → Sizes
 sizesIn (refused k) = record { bytes = 0; units = 0 }
@@ -316,49 +326,54 @@ module _ (s d e : List ℕ) where
     unfolding read
     read-short p y q = rw (le-leb (length s) limit short, p) q
 
-    pub read-bad : (k : ℕ) → answer (count isFrame) (obus s) ≡ refused k → Refuses k
+    pub read-bad : (k : ℕ) → answer tallyOf (obus s) ≡ refused k → Refuses k
     unfolding streamUnits
-    read-bad k p = refuses (read-short {x = refused k} (rw (answer-refused (count isFrame) (obus s) k p)) (refused k) refl)
+    read-bad k p = refuses (read-short {x = refused k} (rw (answer-refused tallyOf (obus s) k p)) (refused k) refl)
 
-    module _ (b u : ℕ) (sizes : sizesOf (streamUnits s) ≡ accepted (record { bytes = b; units = u })) where
-      abbrev pub over : Bool
-      over = (ltb limit b || ltb (length d) b) || ltb (length e) u
+    fitted : (x : Answer (List (List ℕ))) (z : Sizes) → sizesOf x ≡ accepted z → fitUnits room x ≡ pick (sizesFit (sizesOf x) room) x (refused 35)
+    fitted (refused k) z q = let z : _≡_ {A = ℕ} 0 1 = cc in absurd (omega arith)
+    fitted (accepted us) z q = refl
 
-      over-fits : over ≡ not (fits b u room)
-      over-fits = rw (over-not limit b, over-not (length d) b, over-not (length e) u) (none-over (leb b limit) (leb b (length d)) (leb u (length e)))
+    module _ {n : ℕ} (f : StreamFrames s n) where
+      sizes : sizesOf (streamUnits s) ≡ accepted (record { bytes = bytesLeft (f .all); units = length (units (f .all)) })
+      sizes = sizes-are s (f .all) (f .reads)
 
-      fitted : (x : Answer (List (List ℕ))) → sizesOf x ≡ accepted (record { bytes = b; units = u }) → fitUnits room x ≡ pick (fits b u room) x (refused 35)
-      fitted (refused k) q = let z : _≡_ {A = ℕ} 0 1 = cc in absurd (omega arith)
-      fitted (accepted us) q =
-          let i : length (streamBytes us) ≡ b = ap (λ x. (sizesIn x) .bytes) q in
-          let j : length us ≡ u = ap (λ x. (sizesIn x) .units) q in
-          rw (i, j)
+      pub read-full : sizesFit (sizesOf (streamUnits s)) room ≡ false → Refuses 35
+      read-full o = refuses (read-short refl (refused 35) (fitted (streamUnits s) _ sizes ∙ rw o))
 
-      pub read-full : over ≡ true → Refuses 35
-      read-full o =
-          let f : fits b u room ≡ false = not-true _ (sym over-fits ∙ o) in
-          refuses (read-short refl (refused 35) (fitted (streamUnits s) sizes ∙ rw f))
-
-      module _ (o : over ≡ false) where
-        fit : fits b u room ≡ true
-        fit = not-false _ (sym over-fits ∙ o)
-
+      module _ (o : sizesFit (sizesOf (streamUnits s)) room ≡ true) where
         done : result ≡ streamUnits s
-        done = read-short refl (streamUnits s) (fitted (streamUnits s) sizes ∙ rw fit)
+        done = read-short refl (streamUnits s) (fitted (streamUnits s) _ sizes ∙ rw o)
 
-        pub read-room : {n : ℕ} → StreamFrames s n → StreamRoom s n d e
-        read-room f =
-            let z = sym (sizes-are s (f .all) (f .reads)) ∙ sizes in
-            let i : bytesLeft (f .all) ≡ b = ap (λ x. (sizesIn x) .bytes) z in
-            let j : length (units (f .all)) ≡ u = ap (λ x. (sizesIn x) .units) z in
-            let l = three (leb b limit) (leb b (length d)) (leb u (length e)) fit in
+        pub read-room : StreamRoom s n d e
+        read-room =
+            let b = bytesLeft (f .all) in
+            let u = length (units (f .all)) in
+            let l = three (leb b limit) (leb b (length d)) (leb u (length e)) (sym (ap (λ x. sizesFit x room) sizes) ∙ o) in
             record {
               stream = f;
-              small = omega (arith, leb-true b limit (l .0));
-              room = omega (arith, leb-true b (length d) (l .1));
-              slots = omega (arith, leb-true u (length e) (l .2));
+              small = leb-true b limit (l .0);
+              room = leb-true b (length d) (l .1);
+              slots = leb-true u (length e) (l .2);
             }
 
-        pub read-done : {p q : List ℕ} → p ≡ bytesAfter (streamUnits s) d → q ≡ endsAfter (streamUnits s) e
+        pub read-done : {b u : ℕ} {p q : List ℕ} → sizesOf (streamUnits s) ≡ accepted (record { bytes = b; units = u })
+            → p ≡ bytesAfter (streamUnits s) d → q ≡ endsAfter (streamUnits s) e
             → (accepted (record { bytes = b; units = u }) ≡ sizesOf result) × ((p ≡ bytesAfter result d) × (q ≡ endsAfter result e))
-        read-done x y = (sym (ap (λ x. sizesOf x) done ∙ sizes), (x ∙ sym (ap (λ x. bytesAfter x d) done), y ∙ sym (ap (λ x. endsAfter x e) done)))
+        read-done z x y = (sym (ap (λ x. sizesOf x) done ∙ z), (x ∙ sym (ap (λ x. bytesAfter x d) done), y ∙ sym (ap (λ x. endsAfter x e) done)))
+
+-- ---- whether the units have room
+
+-- they have if all OBUs have
+pub roomy-most : {s : List ℕ} {n b : ℕ} (room : Room) → Surveyed s n b → fits b (mostUnits n) room ≡ true → true ≡ sizesFit (sizesOf (streamUnits s)) room
+roomy-most {s} {n} {b} room v k =
+    let f = v .stream in
+    let l = three (leb b limit) (leb b (room .bytes)) (leb (mostUnits n) (room .ends)) k in
+    let w = units-bytes-most (f .all) in
+    let m = units-few (f .all) in
+    let z = v .bytes in
+    let c = ap mostUnits (f .frames) in
+    let i = le-leb (bytesLeft (f .all)) limit (omega (arith, leb-true b limit (l .0))) in
+    let j = le-leb (bytesLeft (f .all)) (room .bytes) (omega (arith, leb-true b (room .bytes) (l .1))) in
+    let h = le-leb (length (units (f .all))) (room .ends) (omega (arith, leb-true (mostUnits n) (room .ends) (l .2))) in
+    sym (ap (λ x. sizesFit x room) (sizes-are s (f .all) (f .reads)) ∙ rw (i, j, h))

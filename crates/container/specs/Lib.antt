@@ -5,6 +5,7 @@ pub mod Limits
 pub mod Units
 pub mod Ranges
 pub mod Extents
+pub mod Survey
 pub mod Lists
 pub mod Container
 pub mod Spans

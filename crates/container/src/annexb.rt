@@ -4,6 +4,7 @@ ghost use lib.ListN.{length};
 ghost use Rattle.container.specs.Container.{annexb, read, writeAt};
 ghost use Rattle.container.specs.Units.{splitSays, sizesOf, bytesAfter, endsAfter, joinedSays, countOf, outAfter};
 use crate::lists::check_ends;
+use crate::room::has_room;
 use crate::units::Joined;
 use crate::units::Split;
 
@@ -11,7 +12,6 @@ mod count;
 mod fill;
 mod measure;
 mod part;
-mod room;
 mod write;
 
 // The units of Annex B in written form into out, the end of each into ends; a refusal changes nothing.
@@ -30,7 +30,7 @@ pub fn split_annexb(data: &[u8], out: &mut [u8], ends: &mut [u32]) -> Split
     let Split::Units(bytes, units) = found else {
         return found;
     };
-    if !room::has_room(bytes, units, out.len(), ends.len()) {
+    if !has_room(bytes, units, out.len(), ends.len()) {
         return Split::Refused(35);
     }
     fill::fill(data, out, ends);
@@ -52,7 +52,7 @@ pub fn write_annexb(units: &[u8], unit_ends: &[u32], out: &mut [u8]) -> Joined
     let Joined::Bytes(bytes) = found else {
         return found;
     };
-    if !room::has_room(bytes, 0, out.len(), 0) {
+    if !has_room(bytes, 0, out.len(), 0) {
         return Joined::Refused(35);
     }
     write::put_units(units, unit_ends, out);

@@ -4,7 +4,7 @@ ghost use Rattle.container.specs.Lists.{accepts};
 ghost use Rattle.container.specs.Units.{unitsAt};
 
 // Whether the ends never fall and the last (0 if there is none) is the byte count.
-pub(crate) fn check_ends(units: &[u8], ends: &[u32]) -> bool
+pub fn check_ends(units: &[u8], ends: &[u32]) -> bool
     ensures { λ r. ⌜ r ≡ accepts (unitsAt (now (units .entry)) (now (ends .entry))) ⌝ }
 {
     let len = units.len();

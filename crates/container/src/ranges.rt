@@ -25,7 +25,7 @@ fn is_kept(t: u8, keep: bool) -> bool
 }
 
 // How many bytes an OBU has, written, if it is kept.
-fn kept_len(o: Obu, keep: bool) -> usize
+pub(crate) fn kept_len(o: Obu, keep: bool) -> usize
     requires { ⌜ (o .start ≤ o .end) × (o .end ≤ limit) ⌝ }
     ensures { λ r. ⌜ r ≡ pick (isKept keep (o .«obu_type»)) (obuLength (extensionSays (o .extension)) (o .end - o .start)) 0 ⌝ }
 {

@@ -1,10 +1,13 @@
 // Units from a stream, and a stream from units (document 01).
 ghost use mathlib.Core.Path.{_≡_};
+ghost use mathlib.Core.Bool.{cond as pick};
 ghost use lib.ListN.{length};
+ghost use lib.Dec.{eqb};
 ghost use Rattle.bitio.specs.Parse.{accepted};
 ghost use Rattle.container.specs.Stream.{streamUnits};
 ghost use Rattle.container.specs.Units.{sizesOf, bytesAfter, endsAfter, splitSays, countOf, outAfter, joinedSays};
 ghost use Rattle.container.specs.Container.{stream, read, writeAt};
+ghost use Rattle.container.specs.Survey.{Surveyed, sizesFit};
 ghost use Rattle.container.specs.Extents.{UnitRanges, UnitLength, UnitRoom, UnitWrote, StreamFrames, StreamRoom};
 use crate::extents::Extent;
 use crate::extents::less;
@@ -12,11 +15,11 @@ use crate::extents::next_unit;
 use crate::lists::check_ends;
 use crate::ranges::put_written;
 use crate::ranges::written_len;
+use crate::room::has_room;
+use crate::survey::Seen;
+use crate::survey::survey;
 use crate::units::Joined;
 use crate::units::Split;
-use obu::unit::Counted;
-use obu::unit::Kind;
-use obu::unit::count_obus;
 use obu::writer::put_bytes;
 
 struct Size {
@@ -61,9 +64,32 @@ fn measure(s: &[u8], frames: usize) -> Size
     Size { bytes, units }
 }
 
+// How many units a stream with so many frames has at most.
+fn most_units(frames: usize) -> usize
+    ensures { λ r. ⌜ r ≡ pick (eqb frames 0) 1 frames ⌝ }
+{
+    if frames == 0 {
+        return 1;
+    }
+    frames
+}
+
+// Whether the units have room. They are measured only where all OBUs, with every delimiter, have none.
+fn is_roomy(s: &[u8], frames: usize, bytes: usize, out_len: usize, ends_len: usize) -> bool
+    requires { ⌜ Surveyed (now s) frames bytes ⌝ }
+    ensures { λ r. ⌜ r ≡ sizesFit (sizesOf (streamUnits (now (s .entry)))) (record { bytes = «out_len»; ends = «ends_len» }) ⌝ }
+{
+    if has_room(bytes, most_units(frames), out_len, ends_len) {
+        return true;
+    }
+    let size = measure(s, frames);
+    has_room(size.bytes, size.units, out_len, ends_len)
+}
+
 // Writes all units, where their room is known.
-fn write(s: &[u8], frames: usize, out: &mut [u8], ends: &mut [u32])
+fn write(s: &[u8], frames: usize, out: &mut [u8], ends: &mut [u32]) -> Size
     requires { ⌜ StreamRoom (now s) frames (now out) (now ends) ⌝ }
+    ensures { λ r. ⌜ sizesOf (streamUnits (now (s .entry))) ≡ accepted (record { bytes = r .bytes; units = r .units }) ⌝ }
     ensures { λ _. ⌜ now (out .exit) ≡ bytesAfter (streamUnits (now (s .entry))) (now (out .entry)) ⌝ }
     ensures { λ _. ⌜ now (ends .exit) ≡ endsAfter (streamUnits (now (s .entry))) (now (ends .entry)) ⌝ }
 {
@@ -79,6 +105,7 @@ fn write(s: &[u8], frames: usize, out: &mut [u8], ends: &mut [u32])
         left = less(left);
         at = x.end;
     }
+    Size { bytes: w, units: u }
 }
 
 // A stream's units: their bytes to `out`, the end of each to `ends`. A refusal changes neither.
@@ -91,20 +118,16 @@ pub fn split_obu_stream(data: &[u8], out: &mut [u8], ends: &mut [u32]) -> Split
     if input > 4_000_000_000 {
         return Split::Refused(34);
     }
-    let frames = match count_obus(data, Kind::Frame) {
-        Counted::Refused(k) => {
-            return Split::Refused(k);
+    match survey(data) {
+        Seen::Refused(k) => Split::Refused(k),
+        Seen::Stream(frames, bytes) => {
+            if !is_roomy(data, frames, bytes, out.len(), ends.len()) {
+                return Split::Refused(35);
+            }
+            let size = write(data, frames, out, ends);
+            Split::Units(size.bytes, size.units)
         }
-        Counted::Count(n) => n,
-    };
-    let size = measure(data, frames);
-    let bytes = size.bytes;
-    let units = size.units;
-    if (bytes > 4_000_000_000) | (bytes > out.len()) | (units > ends.len()) {
-        return Split::Refused(35);
     }
-    write(data, frames, out, ends);
-    Split::Units(bytes, units)
 }
 
 // A stream of units: their bytes as they are. A refusal changes nothing.

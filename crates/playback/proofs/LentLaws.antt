@@ -13,7 +13,7 @@ use Rattle.container.specs.Limits.{Room}
 use Rattle.container.specs.Container.{Container, write, writeAt}
 
 -- units laid one behind the other, by their ends
-units-there : (at : ℕ) (us : List (List ℕ)) → unitsFrom at (flat us) (endsOf at us) ≡ accepted us
+pub units-there : (at : ℕ) (us : List (List ℕ)) → unitsFrom at (flat us) (endsOf at us) ≡ accepted us
 unfolding unitsFrom flat endsOf
 units-there at [] = refl
 units-there at (u ∷ us) =

@@ -10,3 +10,7 @@ pub mod AssembleLaws
 pub mod Turns
 pub mod Demand3
 pub mod Listing
+pub mod GatherLaws
+pub mod ShownLaws
+pub mod WayLaws
+pub mod WalkLaws

@@ -1,0 +1,119 @@
+-- Laws of what boardlist prints: from lent memory, from answers, from a file. Assumes nothing.
+use Prim.Native.Nat.{ℕ, _+_, _-_, _*_, _≤_}
+use native.Mathlib.Omega.{arith}
+use mathlib.Core.Path.{_≡_, refl, sym, ap, ap₂, _∙_}
+use mathlib.Core.List.{List}
+use mathlib.Core.Option.{Option, none, some}
+use lib.ListN.{length, take}
+use Rattle.bitio.specs.Parse.{Answer, accepted}
+use Rattle.bitio.specs.Lent.{pasted, placed, lent}
+use Rattle.bitio.proofs.LentLaws.{pasted-take-end, pasted-length, placed-says-room}
+use Rattle.assemble.specs.Assemble.{Outcome, stopped, made, andAlso, Output, lentAfter}
+use Rattle.assemble.specs.Says.{counts, countsOf, outcome}
+use Rattle.assemble.specs.declared.multi.Counts.{Counts}
+use Rattle.listing.specs.File.{Reading, bad, full, read, pictureCount, numbersOf, readInto, numbersAfter}
+use Rattle.listing.specs.Text.{listing, refusedText, refusedInText, badFile}
+use Rattle.listing.specs.declared.file.Layout.{Layout}
+use Rattle.listing.proofs.FileLaws.{ReadIs, read-is}
+use Rattle.boardlist.specs.Printed.{textOf, between, madeText, CountsFit, LayoutFits, assembly, printedOf, printed}
+use Rattle.boardlist.proofs.MadeLaws.{Held}
+
+-- the same text by another name
+pub retold : (d : List ℕ) {t u : List ℕ} {p : Answer ℕ} {d′ : List ℕ} → t ≡ u → (p ≡ placed d 0 t) × (d′ ≡ lent d 0 t) → (p ≡ placed d 0 u) × (d′ ≡ lent d 0 u)
+retold d e h = (h .0 ∙ ap (placed d 0) e, h .1 ∙ ap (lent d 0) e)
+
+-- what was put at the head of lent memory
+front-is : (d xs : List ℕ) (n : ℕ) → n ≡ length xs → length xs ≤ length d → between 0 n (pasted d 0 xs) ≡ xs
+front-is d xs n e h =
+    let k : n - 0 ≡ 0 + length xs = omega arith in
+    ap (λ (m : ℕ). take m (pasted d 0 xs)) k ∙ pasted-take-end d 0 xs (omega arith)
+
+head-room : (d xs : List ℕ) (n : ℕ) → n ≡ length xs → length xs ≤ length d → n ≤ length (pasted d 0 xs)
+head-room d xs n e h = omega (arith, pasted-length d 0 xs (omega arith))
+
+-- ---- assembly's answers
+
+-- lent memory after an accepted assembly holds what its counts say
+pub made-is : (x : Outcome Output) (c : Counts) (list pictures ends shows : List ℕ) {list′ pictures′ ends′ shows′ : List ℕ}
+    → ((o : Output) → x ≡ made o → Held o list pictures ends shows) → made c ≡ countsOf x
+    → list′ ≡ lentAfter x (λ o. o .list) list → pictures′ ≡ lentAfter x (λ o. o .picture) pictures → ends′ ≡ lentAfter x (λ o. o .ends) ends
+    → shows′ ≡ lentAfter x (λ o. o .shows) shows
+    → CountsFit c list′ pictures′ ends′ shows′ × (madeText c list′ pictures′ ends′ shows′ ≡ textOf x)
+unfolding andAlso
+made-is (stopped n i) c list pictures ends shows held e p q r s = let z : _≡_ {A = ℕ} 0 1 = cc in absurd (omega arith)
+made-is (made o) c list pictures ends shows {list′} {pictures′} {ends′} {shows′} held e p q r s =
+    let w : c ≡ counts o = cc in
+    let h = held o refl in
+    let a : c .units ≡ length (o .list) = ap (λ (k : Counts). k .units) w in
+    let b : c .picture ≡ length (o .picture) = ap (λ (k : Counts). k .picture) w in
+    let f : c .ends ≡ length (o .ends) = ap (λ (k : Counts). k .ends) w in
+    let g : c .shows ≡ length (o .shows) = ap (λ (k : Counts). k .shows) w in
+    let l : between 0 (c .units) list′ ≡ o .list = ap (between 0 (c .units)) p ∙ front-is list (o .list) (c .units) a (h .list-room) in
+    let m : between 0 (c .picture) pictures′ ≡ o .picture = ap (between 0 (c .picture)) q ∙ front-is pictures (o .picture) (c .picture) b (h .picture-room) in
+    let n : between 0 (c .ends) ends′ ≡ o .ends = ap (between 0 (c .ends)) r ∙ front-is ends (o .ends) (c .ends) f (h .ends-room) in
+    let t : between 0 (c .shows) shows′ ≡ o .shows = ap (between 0 (c .shows)) s ∙ front-is shows (o .shows) (c .shows) g (h .shows-room) in
+    let u : c .cues ≡ length (o .cues) = ap (λ (k : Counts). k .cues) w in (
+      record {
+        units = rw p (head-room list (o .list) (c .units) a (h .list-room));
+        picture = rw q (head-room pictures (o .picture) (c .picture) b (h .picture-room));
+        ends-there = rw r (head-room ends (o .ends) (c .ends) f (h .ends-room));
+        shows-there = rw s (head-room shows (o .shows) (c .shows) g (h .shows-room));
+      },
+      ap₂ (λ (x : List ℕ) (k : ℕ). listing x k (between 0 (c .picture) pictures′) (between 0 (c .ends) ends′) (between 0 (c .shows) shows′)) l u
+          ∙ ap₂ (λ (x y : List ℕ). listing (o .list) (length (o .cues)) x y (between 0 (c .shows) shows′)) m n
+          ∙ ap (λ (x : List ℕ). listing (o .list) (length (o .cues)) (o .picture) (o .ends) x) t,
+    )
+
+stopped-is : (x : Outcome Output) (k : ℕ) (i : Option ℕ) → stopped k i ≡ countsOf x → x ≡ stopped k i
+unfolding andAlso
+stopped-is (stopped n j) k i e =
+    let a : k ≡ n = cc in
+    let b : i ≡ j = cc in
+    rw (a, b) refl
+stopped-is (made o) k i e = let z : _≡_ {A = ℕ} 0 1 = cc in absurd (omega arith)
+
+pub refused-is : (x : Outcome Output) (k : ℕ) → stopped k none ≡ countsOf x → refusedText k ≡ textOf x
+refused-is x k e = ap textOf (sym (stopped-is x k none e))
+
+pub refused-in-is : (x : Outcome Output) (k i : ℕ) → stopped k (some i) ≡ countsOf x → refusedInText k i ≡ textOf x
+refused-in-is x k i e = ap textOf (sym (stopped-is x k (some i) e))
+
+-- ---- a file's answers
+
+module _ (s numbers list cues pictures ends shows header : List ℕ) where
+  abbrev text : List ℕ
+  text = printed s numbers list cues pictures ends shows header
+
+  pub bad-is : bad ≡ readInto numbers s → badFile ≡ text
+  unfolding printed
+  bad-is e = ap (λ (r : Reading). printedOf r s list cues pictures ends shows header) e
+
+  pub full-is : full ≡ readInto numbers s → refusedText 35 ≡ text
+  unfolding printed
+  full-is e = ap (λ (r : Reading). printedOf r s list cues pictures ends shows header) e
+
+  module _ (l : Layout) (numbers′ : List ℕ) (e : read l ≡ readInto numbers s) (w : numbers′ ≡ numbersAfter numbers s) where
+    after : ReadIs numbers s l
+    after = read-is numbers s l e
+
+    pub layout-fits : LayoutFits l s numbers′
+    layout-fits =
+        let a = after in
+        let x : l .start ≡ 4 = ap (λ (k : Layout). k .start) (a .whole .layout) in
+        let y : l .end ≡ 4 + pictureCount s = ap (λ (k : Layout). k .end) (a .whole .layout) in
+        let n = ap length (w ∙ a .after) ∙ pasted-length numbers 0 (numbersOf s) (omega (arith, a .room)) in
+        record { start-first = omega (arith, x, y); picture = omega (arith, y, a .whole .sized); numbers-there = omega (arith, n, a .room, a .count) }
+
+    pub read-text : textOf (outcome (between (l .start) (l .end) s) (between 0 (5 * l .segments) numbers′) (l .«gop_size») (l .fps) (l .«fps_den») list cues pictures ends shows header) ≡ text
+    unfolding printed
+    read-text =
+        let a = after in
+        let n : between 0 (5 * l .segments) numbers′ ≡ numbersOf s =
+        ap (between 0 (5 * l .segments)) (w ∙ a .after) ∙ front-is numbers (numbersOf s) (5 * l .segments) (sym (a .count)) (a .room) in
+        ap (λ (rs : List ℕ). textOf (outcome (between (l .start) (l .end) s) rs (l .«gop_size») (l .fps) (l .«fps_den») list cues pictures ends shows header)) n
+        ∙ ap (λ (r : Reading). printedOf r s list cues pictures ends shows header) e
+
+-- ---- the end of the text lies within the memory that it was put into
+
+pub end-within : (d t : List ℕ) (n : ℕ) → accepted n ≡ placed d 0 t → n ≤ length d
+end-within d t n e = let h = placed-says-room d 0 t n (sym e) in omega (arith, h .0, h .1)

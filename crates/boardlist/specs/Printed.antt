@@ -1,0 +1,53 @@
+-- What boardlist prints for any bytes (01, 'Unit list and cue list'). Assumes nothing.
+use Prim.Native.Nat.{ℕ, _-_, _*_, _≤_}
+use mathlib.Core.List.{List}
+use mathlib.Core.Option.{none, some}
+use lib.ListN.{length, take, drop}
+use Rattle.assemble.specs.Assemble.{Outcome, stopped, made, Output}
+use Rattle.assemble.specs.Says.{outcome}
+use Rattle.assemble.specs.declared.multi.Counts.{Counts}
+use Rattle.listing.specs.File.{Reading, bad, full, read, numbersOf, readInto}
+use Rattle.listing.specs.Text.{listing, refusedText, refusedInText, badFile}
+use Rattle.listing.specs.declared.file.Layout.{Layout}
+
+-- 01: the listing of an accepted list, a refused one `refused N segment I`, or `refused N`
+abbrev pub textOf : Outcome Output → List ℕ
+textOf (made o) = listing (o .list) (length (o .cues)) (o .picture) (o .ends) (o .shows)
+textOf (stopped k none) = refusedText k
+textOf (stopped k (some i)) = refusedInText k i
+
+-- the elements from a to e
+abbrev pub between : ℕ → ℕ → List ℕ → List ℕ
+between a e l = take (e - a) (drop a l)
+
+-- the assembly of a file whose layout was read, its picture bytes lying in s
+abbrev pub assembly : Layout → (s list cues pictures ends shows header : List ℕ) → Outcome Output
+assembly l s list cues pictures ends shows header =
+    outcome (between (l .start) (l .end) s) (numbersOf s) (l .«gop_size») (l .fps) (l .«fps_den») list cues pictures ends shows header
+
+abbrev pub printedOf : Reading → (s list cues pictures ends shows header : List ℕ) → List ℕ
+printedOf bad s list cues pictures ends shows header = badFile
+printedOf full s list cues pictures ends shows header = refusedText 35
+printedOf (read l) s list cues pictures ends shows header = textOf (assembly l s list cues pictures ends shows header)
+
+-- the text for the bytes s, with these lent slices
+unfoldable pub printed : (s numbers list cues pictures ends shows header : List ℕ) → List ℕ
+printed s numbers list cues pictures ends shows header = printedOf (readInto numbers s) s list cues pictures ends shows header
+
+-- ---- what the inner functions are told, and say
+
+-- the listing of what counts tell of lent memory
+abbrev pub madeText : Counts → (list pictures ends shows : List ℕ) → List ℕ
+madeText c list pictures ends shows =
+    listing (between 0 (c .units) list) (c .cues) (between 0 (c .picture) pictures) (between 0 (c .ends) ends) (between 0 (c .shows) shows)
+
+pub record CountsFit (c : Counts) (list pictures ends shows : List ℕ) : Type 0 where
+  pub units : c .units ≤ length list
+  pub picture : c .picture ≤ length pictures
+  pub ends-there : c .ends ≤ length ends
+  pub shows-there : c .shows ≤ length shows
+
+pub record LayoutFits (l : Layout) (s numbers : List ℕ) : Type 0 where
+  pub start-first : l .start ≤ l .end
+  pub picture : l .end ≤ length s
+  pub numbers-there : 5 * l .segments ≤ length numbers

@@ -1,0 +1,118 @@
+// The text that boardlist prints for any bytes, made in lent memory. What the other lent slices hold afterwards is of no use.
+ghost use mathlib.Core.Path.{_≡_};
+ghost use Prim.Native.Nat.{_*_};
+ghost use Rattle.bitio.specs.Lent.{placed, lent};
+ghost use Rattle.bitio.specs.Leb.{putSays};
+ghost use Rattle.assemble.specs.Says.{outcome};
+ghost use Rattle.boardlist.specs.Printed.{textOf, madeText, CountsFit, LayoutFits, between, printed};
+use assemble::multi::Assembled;
+use assemble::multi::Counts;
+use assemble::multi::assemble_multi;
+use bitio::leb128::Put;
+use listing::file::FileAnswer;
+use listing::file::Layout;
+use listing::file::read_file;
+use listing::text::put_bad_file;
+use listing::text::put_listing;
+use listing::text::put_refused;
+use listing::text::put_refused_in;
+
+// The listing of what was made.
+fn put_made<'a>(
+    counts: Counts,
+    list: &[u32],
+    pictures: &'a [u8],
+    ends: &[u32],
+    shows: &'a [u8],
+    out: &mut [u8],
+) -> Put
+    requires { ⌜ CountsFit counts (now list) (now pictures) (now ends) (now shows) ⌝ }
+    ensures answer { λ r. ⌜ putSays r ≡ placed (now (out .entry)) 0 (madeText counts (now (list .entry)) (now (pictures .entry)) (now (ends .entry)) (now (shows .entry))) ⌝ }
+    ensures out { λ _. ⌜ now (out .exit) ≡ lent (now (out .entry)) 0 (madeText counts (now (list .entry)) (now (pictures .entry)) (now (ends .entry)) (now (shows .entry))) ⌝ }
+{
+    let units = counts.units;
+    let picture = counts.picture;
+    let e = counts.ends;
+    let s = counts.shows;
+    put_listing(
+        out,
+        &list[0..units],
+        counts.cues,
+        &pictures[0..picture],
+        &ends[0..e],
+        &shows[0..s],
+    )
+}
+
+// The text of a file's segments, assembled or refused.
+fn put_assembly(
+    file: &[u8],
+    layout: Layout,
+    numbers: &[u64],
+    list: &mut [u32],
+    cues: &mut [u32],
+    pictures: &mut [u8],
+    ends: &mut [u32],
+    shows: &mut [u8],
+    header: &mut [u8],
+    out: &mut [u8],
+) -> Put
+    requires { ⌜ LayoutFits layout (now file) (now numbers) ⌝ }
+    ensures answer { λ r. ⌜ putSays r ≡ placed (now (out .entry)) 0 (textOf (outcome (between (layout .start) (layout .end) (now (file .entry))) (between 0 (5 * layout .segments) (now (numbers .entry))) (layout .«gop_size») (layout .fps) (layout .«fps_den») (now (list .entry)) (now (cues .entry)) (now (pictures .entry)) (now (ends .entry)) (now (shows .entry)) (now (header .entry)))) ⌝ }
+    ensures out { λ _. ⌜ now (out .exit) ≡ lent (now (out .entry)) 0 (textOf (outcome (between (layout .start) (layout .end) (now (file .entry))) (between 0 (5 * layout .segments) (now (numbers .entry))) (layout .«gop_size») (layout .fps) (layout .«fps_den») (now (list .entry)) (now (cues .entry)) (now (pictures .entry)) (now (ends .entry)) (now (shows .entry)) (now (header .entry)))) ⌝ }
+{
+    let start = layout.start;
+    let end = layout.end;
+    let n = 5 * layout.segments;
+    let made = assemble_multi(
+        &file[start..end],
+        &numbers[0..n],
+        layout.gop_size,
+        layout.fps,
+        layout.fps_den,
+        list,
+        cues,
+        pictures,
+        ends,
+        shows,
+        header,
+    );
+    match made {
+        Assembled::Made(counts) => put_made(counts, list, pictures, ends, shows, out),
+        Assembled::Refused(k) => put_refused(out, k),
+        Assembled::RefusedIn(k, i) => put_refused_in(out, k, i),
+    }
+}
+
+// The text for any bytes, or nothing where it has no room.
+pub(crate) fn answer(
+    file: &[u8],
+    numbers: &mut [u64],
+    list: &mut [u32],
+    cues: &mut [u32],
+    pictures: &mut [u8],
+    ends: &mut [u32],
+    shows: &mut [u8],
+    header: &mut [u8],
+    out: &mut [u8],
+) -> Put
+    ensures answer { λ r. ⌜ putSays r ≡ placed (now (out .entry)) 0 (printed (now (file .entry)) (now (numbers .entry)) (now (list .entry)) (now (cues .entry)) (now (pictures .entry)) (now (ends .entry)) (now (shows .entry)) (now (header .entry))) ⌝ }
+    ensures out { λ _. ⌜ now (out .exit) ≡ lent (now (out .entry)) 0 (printed (now (file .entry)) (now (numbers .entry)) (now (list .entry)) (now (cues .entry)) (now (pictures .entry)) (now (ends .entry)) (now (shows .entry)) (now (header .entry))) ⌝ }
+{
+    match read_file(file, numbers) {
+        FileAnswer::Read(layout) => put_assembly(
+            file,
+            layout,
+            numbers,
+            list,
+            cues,
+            pictures,
+            ends,
+            shows,
+            header,
+            out,
+        ),
+        FileAnswer::Bad => put_bad_file(out),
+        FileAnswer::Full => put_refused(out, 35),
+    }
+}

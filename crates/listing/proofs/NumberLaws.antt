@@ -1,0 +1,182 @@
+-- Laws of the file's numbers: read, summed, and written five a segment. Assumes nothing.
+use Prim.Native.Nat.{ℕ, zero, suc, _+_, _-_, _*_, _/_, _%_, _^_, _≤_, _<_}
+use native.Mathlib.Omega.{arith}
+use native.Mathlib.Nat.{pow-suc}
+use native.Mathlib.Numerals.{add-one}
+use mathlib.Core.Path.{_≡_, refl, sym, ap, ap₂, _∙_}
+use mathlib.Core.List.{List, [], _∷_, _++_, append-assoc}
+use lib.ListN.{length, getD, set, length-append}
+use lib.Pow.{pow-mono, pow-add}
+use lib.Seq.{getD-append-seam}
+use Rattle.bitio.specs.Lent.{pasted}
+use Rattle.bitio.proofs.LentLaws.{pasted-sets, pasted-nil, pasted-more, pasted-length}
+use Rattle.listing.specs.File.{numberAt, u32At, lengths, segmentEnd, segmentNumbers, numbersFrom}
+
+-- ---- a number, from its highest byte down
+
+-- the bytes from i on come to v
+pub record Reads (s : List ℕ) (at n i v : ℕ) : Type 0 where
+  pub within : i ≤ n
+  pub same : v ≡ numberAt s (at + i) (n - i)
+  pub small : v < 2 ^ (8 * (n - i))
+
+pub reads-start : (s : List ℕ) (at n : ℕ) → Reads s at n n 0
+unfolding numberAt
+reads-start s at n =
+    let z : n - n ≡ 0 = omega arith in
+    record { within = omega arith; same = rw z; small = rw z (omega arith) }
+
+module _ {s : List ℕ} {at n i v : ℕ} (r : Reads s at n i v) where
+  pub reads-room : n ≤ 8 → 1 ≤ i → v < 2 ^ 56
+  reads-room h k = let p = pow-mono {i = 8 * (n - i)} {j = 56} (omega arith) in omega (arith, r .small)
+
+  pub reads-turn : 1 ≤ i → getD s (at + (i - 1)) 0 < 256 → Reads s at n (i - 1) (256 * v + getD s (at + (i - 1)) 0)
+  unfolding numberAt
+  reads-turn h b =
+      let k : n - (i - 1) ≡ suc (n - i) = omega arith in
+      let e : suc (at + (i - 1)) ≡ at + i = omega arith in
+      let m : 8 * (n - (i - 1)) ≡ 8 * (n - i) + 8 = omega arith in
+      let p = pow-add 2 (8 * (n - i)) 8 in
+      record {
+        within = omega (arith, r .within);
+        same = rw (k, e) (omega (arith, r .same));
+        small = rw m (omega (arith, p, r .small));
+      }
+
+  pub reads-end : i ≤ 0 → (v ≡ numberAt s at n) × (v < 2 ^ (8 * n))
+  reads-end h =
+      let a : at + i ≡ at = omega arith in
+      let k : n - i ≡ n = omega arith in
+      (r .same ∙ ap₂ (numberAt s) a k, rw (← k) (r .small))
+
+-- ---- the sum of the lengths
+
+pub record Summing (s : List ℕ) (from count i sum : ℕ) : Type 0 where
+  pub within : i ≤ count
+  pub small : sum ≤ i * 8589934592
+  pub whole : sum + lengths s (count - i) (from + 16 * i) ≡ lengths s count from
+
+pub sum-start : (s : List ℕ) (from count : ℕ) → Summing s from count 0 0
+sum-start s from count =
+    let a : from + 16 * 0 ≡ from = omega arith in
+    let k : count - 0 ≡ count = omega arith in
+    record { within = omega arith; small = omega arith; whole = omega (arith, ap₂ (lengths s) k a) }
+
+module _ {s : List ℕ} {from count i sum : ℕ} (r : Summing s from count i sum) where
+  lengths-more : i < count → lengths s (count - i) (from + 16 * i) ≡ u32At s (from + 16 * i) + u32At s (from + 16 * i + 4) + lengths s (count - (i + 1)) (from + 16 * (i + 1))
+  unfolding lengths
+  lengths-more h =
+      let k : count - i ≡ suc (count - (i + 1)) = omega arith in
+      let a : from + 16 * i + 16 ≡ from + 16 * (i + 1) = omega arith in
+      rw k (ap (λ (q : ℕ). u32At s (from + 16 * i) + u32At s (from + 16 * i + 4) + lengths s (count - (i + 1)) q) a)
+
+  pub sum-turn : (x y : ℕ) → i < count → (x ≡ u32At s (from + 16 * i)) × (x < 2 ^ 32) → (y ≡ u32At s (from + 16 * i + 4)) × (y < 2 ^ 32) → Summing s from count (i + 1) (sum + x + y)
+  sum-turn x y h p q =
+      record { within = omega arith; small = omega (arith, r .small, p .1, q .1); whole = omega (arith, r .whole, lengths-more h, p .0, q .0) }
+
+  pub sum-end : count ≤ i → sum ≡ lengths s count from
+  unfolding lengths
+  sum-end h =
+      let k : count - i ≡ 0 = omega arith in
+      let z : lengths s (count - i) (from + 16 * i) ≡ 0 = rw k in
+      omega (arith, r .whole, z)
+
+-- ---- five numbers a segment
+
+-- five stores
+pub five : (d : List ℕ) (w a b c e f : ℕ) → w + 5 ≤ length d
+    → set (set (set (set (set d w a) (w + 1) b) (w + 2) c) (w + 3) e) (w + 4) f ≡ pasted d w (a ∷ b ∷ c ∷ e ∷ f ∷ [])
+five d w a b c e f h =
+    let k₁ : w + 1 ≡ suc w = omega arith in
+    let k₂ : w + 2 ≡ suc (suc w) = omega arith in
+    let k₃ : w + 3 ≡ suc (suc (suc w)) = omega arith in
+    let k₄ : w + 4 ≡ suc (suc (suc (suc w))) = omega arith in
+    rw (k₁, k₂, k₃, k₄) (pasted-sets d w (a ∷ b ∷ c ∷ e ∷ f ∷ []) h)
+
+-- the five numbers of a segment, from what was read
+pub segment-put : (s d : List ℕ) {d′ : List ℕ} (w q a : ℕ) {x y z : ℕ} → x ≡ u32At s q → y ≡ u32At s (q + 4) → z ≡ numberAt s (q + 8) 8
+    → d′ ≡ pasted d w (a ∷ (a + x) ∷ (a + x) ∷ (a + x + y) ∷ z ∷ []) → d′ ≡ pasted d w (segmentNumbers s q a)
+segment-put s d {d′} w q a {x} {y} {z} e f g h =
+    h ∙ ap₂ (λ (m n : ℕ). pasted d w (a ∷ (a + m) ∷ (a + m) ∷ (a + m + n) ∷ z ∷ [])) e f
+    ∙ ap (λ (n : ℕ). pasted d w (a ∷ (a + u32At s q) ∷ (a + u32At s q) ∷ segmentEnd s q a ∷ n ∷ [])) g
+
+numbers-none : (s : List ℕ) (q a : ℕ) → numbersFrom s 0 q a ≡ []
+unfolding numbersFrom
+numbers-none s q a = refl
+
+numbers-more : (s : List ℕ) (k q a : ℕ) → numbersFrom s (suc k) q a ≡ segmentNumbers s q a ++ numbersFrom s k (q + 16) (segmentEnd s q a)
+unfolding numbersFrom
+numbers-more s k q a = refl
+
+pub numbers-length : (s : List ℕ) (k q a : ℕ) → length (numbersFrom s k q a) ≡ 5 * k
+numbers-length s zero q a = ap length (numbers-none s q a)
+numbers-length s (suc k) q a =
+    let i = numbers-length s k (q + 16) (segmentEnd s q a) in
+    ap length (numbers-more s k q a) ∙ omega (arith, i)
+
+-- i segments are written, the next key starting at a: what stands there, with what is left, is the whole
+pub record Numbering (s d₀ : List ℕ) (from count : ℕ) (d : List ℕ) (i a : ℕ) : Type 0 where
+  pub within : i ≤ count
+  pub small : a ≤ i * 8589934592
+  pub kept : length d ≡ length d₀
+  pub same : pasted d (5 * i) (numbersFrom s (count - i) (from + 16 * i) a) ≡ pasted d₀ 0 (numbersFrom s count from 0)
+
+pub numbering-start : (s d : List ℕ) (from count : ℕ) → Numbering s d from count d 0 0
+numbering-start s d from count =
+    let q : from + 16 * 0 ≡ from = omega arith in
+    let k : count - 0 ≡ count = omega arith in
+    record { within = omega arith; small = omega arith; kept = refl; same = ap₂ (λ (m n : ℕ). pasted d 0 (numbersFrom s m n 0)) k q }
+
+module _ {s d₀ : List ℕ} {from count : ℕ} {d : List ℕ} {i a : ℕ} (r : Numbering s d₀ from count d i a) where
+  pub numbering-turn : (d′ : List ℕ) (b : ℕ) → i < count → 5 * count ≤ length d₀ → (b ≡ segmentEnd s (from + 16 * i) a) × (b < a + 2 ^ 33)
+      → d′ ≡ pasted d (5 * i) (segmentNumbers s (from + 16 * i) a) → Numbering s d₀ from count d′ (i + 1) b
+  numbering-turn d′ b h room e w =
+      let q : from + 16 * i + 16 ≡ from + 16 * (i + 1) = omega arith in
+      let k : count - i ≡ suc (count - (i + 1)) = omega arith in
+      let t : 5 * i + 5 ≡ 5 * (i + 1) = omega arith in
+      let x = segmentNumbers s (from + 16 * i) a in
+      let y = numbersFrom s (count - (i + 1)) (from + 16 * (i + 1)) b in
+      let m : numbersFrom s (count - i) (from + 16 * i) a ≡ x ++ y =
+      ap (λ (n : ℕ). numbersFrom s n (from + 16 * i) a) k ∙ numbers-more s (count - (i + 1)) (from + 16 * i) a
+      ∙ ap₂ (λ (n o : ℕ). x ++ numbersFrom s (count - (i + 1)) n o) q (sym (e .0)) in
+      record {
+        within = omega arith;
+        small = omega (arith, e .1, r .small);
+        kept = ap length w ∙ pasted-length d (5 * i) x (omega (arith, r .kept)) ∙ r .kept;
+        same =
+            ap₂ (λ (l : List ℕ) (n : ℕ). pasted l n y) w (sym t) ∙ pasted-more d (5 * i) x (omega (arith, r .kept)) y ∙ ap (pasted d (5 * i)) (sym m) ∙ r .same;
+      }
+
+  pub numbering-end : count ≤ i → d ≡ pasted d₀ 0 (numbersFrom s count from 0)
+  numbering-end h =
+      let k : count - i ≡ 0 = omega arith in
+      let z : numbersFrom s (count - i) (from + 16 * i) a ≡ [] = ap (λ (n : ℕ). numbersFrom s n (from + 16 * i) a) k ∙ numbers-none s (from + 16 * i) a in
+      sym (pasted-nil d (5 * i)) ∙ ap (pasted d (5 * i)) (sym z) ∙ r .same
+
+-- ---- a number written, the lowest byte first, and read back
+
+unfoldable pub bytesOf : ℕ → ℕ → List ℕ
+bytesOf zero v = []
+bytesOf (suc n) v = (v % 256) ∷ bytesOf n (v / 256)
+
+number-none : (s : List ℕ) (at : ℕ) → numberAt s at 0 ≡ 0
+unfolding numberAt
+number-none s at = refl
+
+number-more : (s : List ℕ) (at n : ℕ) → numberAt s at (suc n) ≡ getD s at 0 + 256 * numberAt s (suc at) n
+unfolding numberAt
+number-more s at n = refl
+
+-- wherever it stands, with any bytes before and behind it
+pub number-back : (front : List ℕ) (n v : ℕ) (behind : List ℕ) → v < 256 ^ n → numberAt (front ++ (bytesOf n v ++ behind)) (length front) n ≡ v
+unfolding bytesOf
+number-back front zero v behind h = number-none (front ++ behind) (length front) ∙ omega arith
+number-back front (suc n) v behind h =
+    let x = v % 256 in
+    let l = bytesOf n (v / 256) ++ behind in
+    let a : getD (front ++ (x ∷ l)) (length front) 0 ≡ x = getD-append-seam front x l 0 in
+    let k : suc (length front) ≡ length (front ++ (x ∷ [])) = sym (length-append front (x ∷ []) ∙ add-one (length front)) in
+    let e : numberAt (front ++ (x ∷ l)) (suc (length front)) n ≡ v / 256 =
+    ap₂ (λ (s : List ℕ) (at : ℕ). numberAt s at n) (sym (append-assoc front (x ∷ []) l)) k
+    ∙ number-back (front ++ (x ∷ [])) n (v / 256) behind (omega (arith, pow-suc 256 n)) in
+    number-more (front ++ (x ∷ l)) (length front) n ∙ omega (arith, a, e)

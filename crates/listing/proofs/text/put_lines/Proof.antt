@@ -1,0 +1,60 @@
+-- `listing::text::put_lines` meets its contract. The loop's invariant: what stands there, with what is left, is the whole. Assumes nothing.
+use borrow.Author.Needs.{needs}
+use Prim.Native.Nat.{_-_}
+use lib.ListN.{length}
+use Rattle.listing.proofs.TextLaws.{Lining, lining-start, lining-room, lining-turn, lining-end}
+use Rattle.listing.proofs.text.put_lines.Statement.{statement}
+use Rattle.listing.proofs.text.put_lines.Tie as tie
+
+abbrev Inv-loop : tie.InvT-loop
+Inv-loop out₀ at list pictures ends shows to₀ i₀ out to i = Lining pictures ends shows list out₀ at out i to
+
+abbrev μ-loop : tie.MeasureT-loop
+μ-loop out₀ at list pictures ends shows to₀ i₀ out to i = length list - i
+
+loop-holds : tie.Need-loop-holds Inv-loop μ-loop
+loop-holds c = lining-start _ _ _ _ _ _
+
+add-put-line : tie.Need-add-put-line Inv-loop μ-loop
+add-put-line c = search needs
+
+mul-put-line : tie.Need-mul-put-line Inv-loop μ-loop
+mul-put-line c = search needs
+
+shared-slice-read-put-line : tie.Need-shared-slice-read-put-line Inv-loop μ-loop
+shared-slice-read-put-line c = search needs
+
+put-line-requires : tie.Need-put-line-requires Inv-loop μ-loop
+put-line-requires c κs = lining-room (c .before .before .before .loop .inv) (c .before .before .loop-test .taken) (c .before .before .before .before .before .before .before .before .before .pre)
+
+add-i : tie.Need-add-i Inv-loop μ-loop
+add-i c = search needs
+
+loop-less : tie.Need-loop-less Inv-loop μ-loop
+loop-less c = search needs
+
+loop-again : tie.Need-loop-again Inv-loop μ-loop
+loop-again c = lining-turn (c .before .before .before .before .before .before .loop .inv) (c .before .before .before .before .before .loop-test .taken) (c .before .before .before .before .before .before .before .before .before .before .before .before .pre) (c .before .before .put-line .ensures)
+
+same-length : tie.Need-same-length Inv-loop μ-loop
+same-length c = c .before .loop .inv .kept
+
+returns : tie.Need-returns Inv-loop μ-loop
+returns c = lining-end (c .before .loop .inv) (c .loop-test .left)
+
+pub put-lines-spec : {M : Type 1} → statement M
+put-lines-spec =
+    tie.close
+    (tie.spec
+    Inv-loop
+    μ-loop
+    loop-holds
+    add-put-line
+    mul-put-line
+    shared-slice-read-put-line
+    put-line-requires
+    add-i
+    loop-less
+    loop-again
+    same-length
+    returns)

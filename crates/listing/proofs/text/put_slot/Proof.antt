@@ -1,0 +1,46 @@
+-- `listing::text::put_slot` meets its contract. Assumes nothing.
+use borrow.Author.Needs.{needs}
+use native.Mathlib.Omega.{arith}
+use denote.Ref.{now}
+use mathlib.Core.Path.{ap}
+use lib.ListN.{length}
+use Rattle.listing.proofs.TextLaws.{slot-key, slot-other}
+use Rattle.listing.proofs.text.put_slot.Statement.{statement}
+use Rattle.listing.proofs.text.put_slot.Tie as tie
+
+put-two-requires : tie.Need-put-two-requires
+put-two-requires c κs = omega (arith, c .before .before .before .before .pre, ap length (slot-key (now (c .before .before .before .before .args .shows)) (c .before .before .before .before .args .entry) (c .before .if1 .taken)))
+
+same-length : tie.Need-same-length
+same-length c = search needs
+
+returns : tie.Need-returns
+returns c = rw (slot-key (now (c .before .before .before .before .before .before .before .args .shows)) (c .before .before .before .before .before .before .before .args .entry) (c .before .before .before .before .if1 .taken)) (c .before .before .put-two .ensures)
+
+cast-slot-of : tie.Need-cast-slot-of
+cast-slot-of c = search needs
+
+slot-of-requires : tie.Need-slot-of-requires
+slot-of-requires c κs = search needs
+
+put-field-requires : tie.Need-put-field-requires
+put-field-requires c κs = rw (c .before .slot-of .ensures) (omega (arith, c .before .before .before .before .before .pre, ap length (slot-other (now (c .before .before .before .before .before .args .shows)) (c .before .before .before .before .before .args .entry) (c .before .before .if1 .left))))
+
+same-length-2 : tie.Need-same-length-2
+same-length-2 c = search needs
+
+returns-2 : tie.Need-returns-2
+returns-2 c = rw (slot-other (now (c .before .before .before .before .before .before .before .before .args .shows)) (c .before .before .before .before .before .before .before .before .args .entry) (c .before .before .before .before .before .if1 .left), ← c .before .before .before .before .slot-of .ensures) (c .before .before .put-field .ensures)
+
+pub put-slot-spec : {M : Type 1} → statement M
+put-slot-spec =
+    tie.close
+    (tie.spec
+    put-two-requires
+    same-length
+    returns
+    cast-slot-of
+    slot-of-requires
+    put-field-requires
+    same-length-2
+    returns-2)

@@ -1,0 +1,5 @@
+pub mod File
+pub mod Says
+pub mod Decimal
+pub mod Text
+pub mod Checks

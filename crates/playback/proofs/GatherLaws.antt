@@ -1,0 +1,214 @@
+-- Laws of the units of a list, measured and then gathered in lent memory. Assumes nothing.
+use Prim.Native.Nat.{ℕ, suc, _+_, _≤_, _<_, min}
+use native.Mathlib.Omega.{arith}
+use native.Mathlib.Numerals.{add-one}
+use mathlib.Core.Path.{_≡_, refl, sym, ap, _∙_}
+use mathlib.Core.List.{List, [], _∷_, _++_}
+use mathlib.Core.Bool.{Bool, true, false, cond as pick, _||_, _&&_}
+use lib.ListN.{length, getD, drop, set, length-append, length-map, length-set, drop-of-length-le}
+use lib.Seq.{drop-cons}
+use lib.Dec.{leb, ltb}
+use borrow.Author.Tests.{le-leb, leb-true, le-ltb, ltb-false}
+use Rattle.bitio.specs.Limits.{limit}
+use Rattle.bitio.specs.Parse.{Answer, refused, accepted}
+use Rattle.bitio.specs.Lent.{pasted}
+use Rattle.bitio.proofs.LentLaws.{pasted-nil, pasted-one, pasted-more, pasted-length}
+use Rattle.container.specs.Stream.{flat, streamBytes}
+use Rattle.container.specs.Limits.{Room}
+use Rattle.container.specs.Units.{endsOf, bytesAfter, endsAfter}
+use Rattle.container.proofs.SplitLaws.{Says, says-refused}
+use Rattle.assemble.specs.Assemble.{named}
+use Rattle.playback.specs.Gather.{listed, gathered, CanGather}
+
+module _ (l p e s : List ℕ) where
+  -- the units from entry i on
+  abbrev pub left : ℕ → List (List ℕ)
+  left i = listed (drop i l) p e s
+
+  pub left-next : (i : ℕ) → i < length l → left i ≡ named p e s (getD l i 0) ∷ left (i + 1)
+  unfolding listed
+  left-next i h = rw (drop-cons l i 0 h, add-one i)
+
+  pub left-none : (i : ℕ) → length l ≤ i → left i ≡ []
+  unfolding listed
+  left-none i h = rw (drop-of-length-le l h)
+
+  pub listed-length : length (listed l p e s) ≡ length l
+  unfolding listed
+  listed-length = length-map l (named p e s)
+
+-- ---- measured
+
+-- us are all units, rest those not yet measured, n the bytes of the others
+pub record Measuring (us rest : List (List ℕ)) (n : ℕ) : Type 0 where
+  pub low : n ≤ 4000000001
+  pub sum : min (length (streamBytes us)) 4000000001 ≡ min (n + length (streamBytes rest)) 4000000001
+
+pub measuring-start : (us : List (List ℕ)) → Measuring us us 0
+measuring-start us = record { low = omega arith; sum = omega arith }
+
+bytes-length : (u : List ℕ) (us : List (List ℕ)) → length (streamBytes (u ∷ us)) ≡ length u + length (streamBytes us)
+unfolding streamBytes flat
+bytes-length u us = length-append u (flat us)
+
+bytes-none : length (streamBytes []) ≡ 0
+unfolding streamBytes flat
+bytes-none = refl
+
+pub measuring-next : {us all rest : List (List ℕ)} {u v : List ℕ} {n m : ℕ} → Measuring us all n → all ≡ u ∷ rest → v ≡ u → m ≡ min (n + length v) 4000000001 → Measuring us rest m
+measuring-next {rest = rest} {u} {v} z q w k =
+    let a = ap (λ x. length (streamBytes x)) q ∙ bytes-length u rest in
+    let b : length v ≡ length u = ap length w in
+    record { low = omega (arith, k); sum = omega (arith, z .sum, a, b, k) }
+
+pub measuring-end : {us rest : List (List ℕ)} {n : ℕ} → Measuring us rest n → rest ≡ [] → n ≡ min (length (streamBytes us)) 4000000001
+measuring-end z q =
+    let a = ap (λ x. length (streamBytes x)) q ∙ bytes-none in
+    omega (arith, z .sum, z .low, a)
+
+-- ---- written
+
+-- us are all units, rest those not yet written; lent memory was d and e
+pub record Putting (us rest : List (List ℕ)) (d e : List ℕ) (w i : ℕ) (o m : List ℕ) : Type 0 where
+  pub long : length o ≡ length d
+  pub slots-long : length m ≡ length e
+  pub small : w + length (streamBytes rest) ≤ limit
+  pub room : w + length (streamBytes rest) ≤ length o
+  pub slots : i + length rest ≤ length m
+  pub bytes : pasted d 0 (streamBytes us) ≡ pasted o w (streamBytes rest)
+  pub ends : pasted e 0 (endsOf 0 us) ≡ pasted m i (endsOf w rest)
+
+pub putting-start : {us : List (List ℕ)} {d e : List ℕ} → CanGather d e us → Putting us us d e 0 0 d e
+putting-start r =
+    record {
+      long = refl;
+      slots-long = refl;
+      small = omega (arith, r .small);
+      room = omega (arith, r .room);
+      slots = omega (arith, r .slots);
+      bytes = refl;
+      ends = refl;
+    }
+
+module _ {us all : List (List ℕ)} {d e : List ℕ} {w i : ℕ} {o m : List ℕ} (z : Putting us all d e w i o m) where
+  pub putting-end : all ≡ [] → (o ≡ pasted d 0 (streamBytes us)) × (m ≡ pasted e 0 (endsOf 0 us))
+  unfolding streamBytes flat endsOf
+  putting-end q = (
+    sym (z .bytes ∙ ap (λ x. pasted o w (streamBytes x)) q ∙ pasted-nil o w),
+    sym (z .ends ∙ ap (λ x. pasted m i (endsOf w x)) q ∙ pasted-nil m i),
+  )
+
+  module _ {u v : List ℕ} {rest : List (List ℕ)} (q : all ≡ u ∷ rest) (t : v ≡ u) where
+    all-bytes : length (streamBytes all) ≡ length v + length (streamBytes rest)
+    all-bytes = ap (λ x. length (streamBytes x)) q ∙ bytes-length u rest ∙ ap (λ x. length x + length (streamBytes rest)) (sym t)
+
+    all-count : length all ≡ suc (length rest)
+    all-count = ap length q
+
+    pub putting-room : w + length v ≤ length o
+    putting-room = omega (arith, z .room, all-bytes)
+
+    pub putting-slot : i < length m
+    putting-slot = omega (arith, z .slots, all-count)
+
+    module _ {x : ℕ} (k : x ≡ w + length v) where
+      pub putting-small : x ≤ limit
+      putting-small = omega (arith, z .small, all-bytes, k)
+
+      module _ {p : List ℕ} (g : p ≡ pasted o w v) where
+        p-long : length p ≡ length o
+        p-long = ap length g ∙ pasted-length o w v putting-room
+
+        bytes-then : pasted o w (streamBytes all) ≡ pasted p x (streamBytes rest)
+        unfolding streamBytes flat
+        bytes-then =
+            ap (λ y. pasted o w (flat y)) q ∙ ap (λ y. pasted o w (y ++ flat rest)) (sym t)
+            ∙ sym (ap (λ y. pasted y x (flat rest)) g ∙ ap (λ y. pasted (pasted o w v) y (flat rest)) k ∙ pasted-more o w v (omega (arith, putting-room)) (flat rest))
+
+        x-is : x ≡ w + length u
+        x-is = k ∙ ap (λ y. w + length y) t
+
+        ends-then : pasted m i (endsOf w all) ≡ pasted (set m i x) (i + 1) (endsOf x rest)
+        unfolding endsOf
+        ends-then =
+            ap (λ y. pasted m i (endsOf w y)) q
+            ∙ ap (λ y. pasted m i (y ∷ endsOf y rest)) (sym x-is)
+            ∙ sym (ap (λ y. pasted y (i + 1) (endsOf x rest)) (pasted-one m i x putting-slot) ∙ pasted-more m i (x ∷ []) (omega (arith, putting-slot)) (endsOf x rest))
+
+        pub putting-next : Putting us rest d e x (i + 1) p (set m i x)
+        putting-next =
+            let n = length-set m i x in
+            record {
+              long = p-long ∙ z .long;
+              slots-long = n ∙ z .slots-long;
+              small = omega (arith, z .small, all-bytes, k);
+              room = omega (arith, z .room, all-bytes, k, p-long);
+              slots = omega (arith, z .slots, all-count, n);
+              bytes = z .bytes ∙ bytes-then;
+              ends = z .ends ∙ ends-then;
+            }
+
+-- ---- the whole
+
+or-false : (x y : Bool) → (x || y) ≡ false → (x ≡ false) × (y ≡ false)
+or-false true y q = let z : _≡_ {A = ℕ} 0 1 = cc in absurd (omega arith)
+or-false false y q = (refl, q)
+
+module _ (l p e s d m : List ℕ) where
+  abbrev us : List (List ℕ)
+  us = listed l p e s
+
+  abbrev room : Room
+  room = record { bytes = length d; ends = length m }
+
+  abbrev result : Answer (List (List ℕ))
+  result = gathered room l p e s
+
+  abbrev size : ℕ
+  size = length (streamBytes us)
+
+  gathered-is : result ≡ pick (leb size limit && (leb size (length d) && leb (length us) (length m))) (accepted us) (refused 35)
+  unfolding gathered
+  gathered-is = refl
+
+  module _ {n : ℕ} (k : n ≡ min size 4000000001) where
+    pub gather-full : ((ltb limit n || ltb (length d) n) || ltb (length m) (length l)) ≡ true → Says result (refused 35) d m d m
+    gather-full t =
+        let f : (leb size limit && (leb size (length d) && leb (length us) (length m))) ≡ false = go (leb size limit) (leb size (length d)) (leb (length us) (length m)) refl refl refl in
+        says-refused d m (gathered-is ∙ ap (λ b. pick b (accepted us) (refused 35)) f)
+      where
+        go : (x y z : Bool) → leb size limit ≡ x → leb size (length d) ≡ y → leb (length us) (length m) ≡ z → (x && (y && z)) ≡ false
+        go false y z a b c = refl
+        go true false z a b c = refl
+        go true true false a b c = refl
+        go true true true a b c =
+            let u = leb-true size limit a in
+            let v = leb-true size (length d) b in
+            let w = leb-true (length us) (length m) c in
+            let f : ((ltb limit n || ltb (length d) n) || ltb (length m) (length l)) ≡ false =
+            rw (le-ltb limit n (omega (arith, k, u)), le-ltb (length d) n (omega (arith, k, v)), le-ltb (length m) (length l) (omega (arith, w, listed-length l p e s))) in
+            let z : _≡_ {A = ℕ} 0 1 = cc in absurd (omega arith)
+
+    module _ (t : ((ltb limit n || ltb (length d) n) || ltb (length m) (length l)) ≡ false) where
+      pub gather-room : CanGather d m us
+      gather-room =
+          let (x, c) = or-false (ltb limit n || ltb (length d) n) (ltb (length m) (length l)) t in
+          let (a, b) = or-false (ltb limit n) (ltb (length d) n) x in
+          let u = ltb-false limit n a in
+          let v = ltb-false (length d) n b in
+          let w = ltb-false (length m) (length l) c in
+          record { small = omega (arith, k, u); room = omega (arith, k, u, v); slots = omega (arith, w, listed-length l p e s) }
+
+      gathered-all : result ≡ accepted us
+      gathered-all =
+          let r = gather-room in
+          gathered-is ∙ rw (le-leb size limit (r .small), le-leb size (length d) (r .room), le-leb (length us) (length m) (r .slots))
+
+      pub gather-done : {o f : List ℕ} → o ≡ pasted d 0 (streamBytes us) → f ≡ pasted m 0 (endsOf 0 us)
+          → Says result (accepted (record { bytes = n; units = length l })) d m o f
+      gather-done x y =
+          let q = gathered-all in
+          let r = gather-room in
+          let i : n ≡ size = omega (arith, k, r .small) in
+          let j : length l ≡ length us = sym (listed-length l p e s) in
+          (rw (q, i, j), (x ∙ sym (ap (λ a. bytesAfter a d) q), y ∙ sym (ap (λ a. endsAfter a m) q)))

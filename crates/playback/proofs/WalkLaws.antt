@@ -1,0 +1,188 @@
+-- Laws of the whole way: assembly, and what follows it. Assumes nothing.
+use Prim.Native.Nat.{ℕ, _-_, _+_, _≤_}
+use native.Mathlib.Omega.{arith}
+use mathlib.Core.Path.{_≡_, refl, sym, ap, _∙_}
+use mathlib.Core.List.{List}
+use mathlib.Core.Option.{Option, none}
+use mathlib.Core.Bool.{Bool, true, false, cond as pick}
+use lib.ListN.{length, take, drop}
+use lib.Dec.{leb, ltb}
+use borrow.Author.Tests.{leb-true}
+use Rattle.bitio.specs.Limits.{limit}
+use Rattle.bitio.specs.Parse.{Answer, refused, accepted}
+use Rattle.bitio.proofs.LentLaws.{pasted-length}
+use Rattle.container.specs.Units.{bytesAfter, endsAfter, countOf, outAfter}
+use Rattle.container.specs.Container.{Container}
+use Rattle.container.proofs.SplitLaws.{and-true}
+use Rattle.assemble.specs.Segments.{Segment, segmentsOf}
+use Rattle.assemble.specs.Prepare.{Settings}
+use Rattle.assemble.specs.Assemble.{Outcome, stopped, made, andAlso, overall, Output, Room, fits, assembled, assemble, lentAfter}
+use Rattle.assemble.specs.Says.{counts, countsOf, outcome}
+use Rattle.assemble.specs.declared.multi.Counts.{Counts}
+use Rattle.playback.specs.declared.play.Shows.{Shows}
+use Rattle.playback.specs.declared.play.Shows.the-variants.{Positions, Refused as ShowsRefused}
+use Rattle.playback.specs.Shown.{showsSay}
+use Rattle.playback.specs.Way.{gatheredIn, writtenIn, backIn, shownIn}
+use Rattle.playback.specs.Walk.{walk, numberOf, stepAfter}
+use Rattle.playback.proofs.WayLaws.{Showed, head-is}
+
+none-made : {A : Type 0} {k : ℕ} {i : Option ℕ} {a : A} → stopped k i ≡ made a → ⊥
+none-made e = let z : _≡_ {A = ℕ} 0 1 = cc in omega arith
+
+-- ---- what assembly has handed out has room
+
+pub record Has (room : Room) (o : Output) : Type 0 where
+  pub list : length (o .list) ≤ room .list
+  pub picture : length (o .picture) ≤ room .picture
+  pub ends : length (o .ends) ≤ room .ends
+  pub shows : length (o .shows) ≤ room .shows
+
+fits-has : (room : Room) (o : Output) → fits room o ≡ true → Has room o
+unfolding fits
+fits-has room o q =
+    let a = and-true _ (leb (length (o .header)) (room .header)) q in
+    let b = and-true _ (leb (length (o .shows)) (room .shows)) (a .0) in
+    let c = and-true _ (leb (length (o .ends)) (room .ends)) (b .0) in
+    let d = and-true _ (leb (length (o .picture)) (room .picture)) (c .0) in
+    let e = and-true _ (leb (length (o .cues)) (room .cues)) (d .0) in
+    let f = and-true (leb (length (o .picture) + length (o .shows) + length (o .header)) limit) (leb (length (o .list)) (room .list)) (e .0) in
+    record {
+      list = leb-true (length (o .list)) (room .list) (f .1);
+      picture = leb-true (length (o .picture)) (room .picture) (d .1);
+      ends = leb-true (length (o .ends)) (room .ends) (c .1);
+      shows = leb-true (length (o .shows)) (room .shows) (b .1);
+    }
+
+assemble-has : (room : Room) (set : Settings) (s rs : List ℕ) (o : Output) → assemble room set s rs ≡ made o → Has room o
+unfolding assemble andAlso overall
+assemble-has room set s rs o q = lead (ltb limit (length s)) q
+  where
+    last : (x : Output) (b : Bool) → fits room x ≡ b → pick b (made x) (stopped 35 none) ≡ made o → Has room o
+    last x true t q = let e : x ≡ o = cc in fits-has room o (ap (fits room) (sym e) ∙ t)
+    last x false t q = absurd (none-made q)
+
+    then : (y : Outcome Output) → andAlso y (λ r. pick (fits room r) (made r) (stopped 35 none)) ≡ made o → Has room o
+    then (stopped n i) q = absurd (none-made q)
+    then (made x) q = last x (fits room x) refl q
+
+    cut : (y : Answer (List Segment)) → andAlso (overall y) (λ xs. andAlso (assembled set xs) (λ r. pick (fits room r) (made r) (stopped 35 none))) ≡ made o → Has room o
+    cut (refused n) q = absurd (none-made q)
+    cut (accepted xs) q = then (assembled set xs) q
+
+    lead : (b : Bool) → pick b (stopped 34 none) (andAlso (overall (segmentsOf s rs)) (λ xs. andAlso (assembled set xs) (λ r. pick (fits room r) (made r) (stopped 35 none)))) ≡ made o → Has room o
+    lead true q = absurd (none-made q)
+    lead false q = cut (segmentsOf s rs) q
+
+-- ---- what the answers say
+
+pub behind-all : (n : ℕ) {s : Shows} → s ≡ Positions n → made n ≡ overall (showsSay s)
+unfolding overall
+behind-all n q = ap (λ z. overall (showsSay z)) (sym q)
+
+pub behind-none : (k : ℕ) {s : Shows} → s ≡ ShowsRefused k → _≡_ {A = Outcome ℕ} (stopped k none) (overall (showsSay s))
+unfolding overall
+behind-none k q = ap (λ z. overall (showsSay z)) (sym q)
+
+stops : (x : Outcome Output) (k : ℕ) (i : Option ℕ) → stopped k i ≡ countsOf x → x ≡ stopped k i
+unfolding andAlso
+stops (stopped n j) k i q = let a : n ≡ k = cc in let b : j ≡ i = cc in rw (a, b)
+stops (made o) k i q = absurd (none-made q)
+
+makes : (x : Outcome Output) (t : Counts) → made t ≡ countsOf x → (o : Output) × (x ≡ made o) × (t ≡ counts o)
+unfolding andAlso
+makes (stopped n j) t q = absurd (none-made (sym q))
+makes (made o) t q = (o, refl, cc)
+
+-- xs is what stands at the head of the buffer, n long
+pub record Head (xs : List ℕ) (n : ℕ) (d : List ℕ) : Type 0 where
+  pub within : n ≤ length d
+  pub is : take (n - 0) (drop 0 d) ≡ xs
+
+head-of : (x : Outcome Output) (sel : Output → List ℕ) (r : Output) → x ≡ made r → (d : List ℕ) → length (sel r) ≤ length d → {d′ : List ℕ} {n : ℕ}
+    → d′ ≡ lentAfter x sel d → n ≡ length (sel r) → Head (sel r) n d′
+head-of x sel r q d l {n = n} e k =
+    let w = e ∙ ap (λ y. lentAfter y sel d) q in
+    record {
+      within = omega (arith, ap length w, pasted-length d 0 (sel r) (omega (arith, l)), l, k);
+      is = ap (λ y. take (n - 0) (drop 0 y)) w ∙ head-is d (sel r) n k;
+    }
+
+pub record HasIn (li pi en sh : List ℕ) (o : Output) : Type 0 where
+  pub list : length (o .list) ≤ length li
+  pub picture : length (o .picture) ≤ length pi
+  pub ends : length (o .ends) ≤ length en
+  pub shows : length (o .shows) ≤ length sh
+
+pub outcome-has : (s rs : List ℕ) (gop fps den : ℕ) (list cues pictures ends shows header : List ℕ) (o : Output)
+    → outcome s rs gop fps den list cues pictures ends shows header ≡ made o → HasIn list pictures ends shows o
+unfolding outcome
+outcome-has s rs gop fps den list cues pictures ends shows header o q =
+    let h = assemble-has (record { list = length list; cues = length cues; picture = length pictures; ends = length ends; shows = length shows; header = length header }) (record { gop = gop; fps = fps; den = den }) s rs o q in
+    record { list = h .list; picture = h .picture; ends = h .ends; shows = h .shows }
+
+-- ---- the whole
+
+module _ (c : Container) (x : Outcome Output) (cue : ℕ) (d m o b f g : List ℕ) where
+  -- the units' buffers, as they are in the end
+  abbrev pub Walks : Outcome ℕ → (d′ m′ o′ b′ f′ g′ : List ℕ) → Type 0
+  Walks a d′ m′ o′ b′ f′ g′ =
+      (a ≡ numberOf (walk c x cue d m o b f g))
+      × ((d′ ≡ stepAfter x (λ r. bytesAfter (gatheredIn c (r .list) (r .picture) (r .ends) (r .shows) d m) d) d)
+      × ((m′ ≡ stepAfter x (λ r. endsAfter (gatheredIn c (r .list) (r .picture) (r .ends) (r .shows) d m) m) m)
+      × ((o′ ≡ stepAfter x (λ r. outAfter (writtenIn c (r .list) (r .picture) (r .ends) (r .shows) d m o) o) o)
+      × ((b′ ≡ stepAfter x (λ r. bytesAfter (backIn c (r .list) (r .picture) (r .ends) (r .shows) d m o b f) b) b)
+      × ((f′ ≡ stepAfter x (λ r. endsAfter (backIn c (r .list) (r .picture) (r .ends) (r .shows) d m o b f) f) f)
+      × (g′ ≡ stepAfter x (λ r. outAfter (shownIn c (r .list) (r .picture) (r .ends) (r .shows) cue d m o b f g) g) g))))))
+
+  pub walk-stop : (k : ℕ) (i : Option ℕ) → stopped k i ≡ countsOf x → Walks (stopped k i) d m o b f g
+  unfolding walk andAlso
+  walk-stop k i q = let e = stops x k i q in rw e (refl, (refl, (refl, (refl, (refl, (refl, refl))))))
+
+-- assembly has handed out, li to sh being the buffers that it was lent
+module _ (x : Outcome Output) (t : Counts) (q : made t ≡ countsOf x) (li pi en sh : List ℕ) (h : (r : Output) → x ≡ made r → HasIn li pi en sh r)
+    {li′ pi′ en′ sh′ : List ℕ} (el : li′ ≡ lentAfter x (λ r. r .list) li) (ep : pi′ ≡ lentAfter x (λ r. r .picture) pi)
+    (ee : en′ ≡ lentAfter x (λ r. r .ends) en) (es : sh′ ≡ lentAfter x (λ r. r .shows) sh) where
+  abbrev r : Output
+  r = makes x t q .0
+
+  r-is : x ≡ made r
+  r-is = makes x t q .1
+
+  t-is : t ≡ counts r
+  t-is = makes x t q .2
+
+  in-list : Head (r .list) (t .units) li′
+  in-list = head-of x (λ y. y .list) r r-is li (h r r-is .list) el (ap (λ y. y .units) t-is)
+
+  in-picture : Head (r .picture) (t .picture) pi′
+  in-picture = head-of x (λ y. y .picture) r r-is pi (h r r-is .picture) ep (ap (λ y. y .picture) t-is)
+
+  in-ends : Head (r .ends) (t .ends) en′
+  in-ends = head-of x (λ y. y .ends) r r-is en (h r r-is .ends) ee (ap (λ y. y .ends) t-is)
+
+  in-shows : Head (r .shows) (t .shows) sh′
+  in-shows = head-of x (λ y. y .shows) r r-is sh (h r r-is .shows) es (ap (λ y. y .shows) t-is)
+
+  pub handed-list : t .units ≤ length li′
+  handed-list = in-list .within
+
+  pub handed-picture : t .picture ≤ length pi′
+  handed-picture = in-picture .within
+
+  pub handed-ends : t .ends ≤ length en′
+  handed-ends = in-ends .within
+
+  pub handed-shows : t .shows ≤ length sh′
+  handed-shows = in-shows .within
+
+  module _ (c : Container) (d m o b f : List ℕ) where
+    module _ (cue : ℕ) (g : List ℕ) where
+      pub walk-go : {d′ m′ o′ b′ f′ g′ : List ℕ} {a : Answer ℕ} {z : Outcome ℕ} → z ≡ overall a
+          → Showed c (take (t .units - 0) (drop 0 li′)) (take (t .picture - 0) (drop 0 pi′)) (take (t .ends - 0) (drop 0 en′)) (take (t .shows - 0) (drop 0 sh′)) d m o b f cue g a d′ m′ o′ b′ f′ g′
+          → Walks c x cue d m o b f g z d′ m′ o′ b′ f′ g′
+      unfolding walk andAlso overall
+      walk-go v w = let (i, rest) = rw (in-list .is, in-picture .is, in-ends .is, in-shows .is) at w in rw r-is (v ∙ ap overall i ∙ go (shownIn c (r .list) (r .picture) (r .ends) (r .shows) cue d m o b f g), rest)
+        where
+          go : (y : Answer (List ℕ)) → overall (countOf y) ≡ andAlso (overall y) (λ xs. made (length xs))
+          go (refused k) = refl
+          go (accepted xs) = refl

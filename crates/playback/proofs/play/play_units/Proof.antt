@@ -1,0 +1,77 @@
+use borrow.Author.Needs.{needs}
+use native.Mathlib.Omega.{arith}
+use Prim.Native.Nat.{_-_}
+use mathlib.Core.Path.{refl}
+use lib.ListN.{length}
+use Rattle.player.specs.Code.{stateSays}
+use Rattle.playback.proofs.ShownLaws.{Playing, playing-start, playing-slot, playing-next, playing-long, playing-end}
+use Rattle.playback.proofs.play.play_units.Statement.{statement}
+use Rattle.playback.proofs.play.play_units.Tie as tie
+
+abbrev Inv-loop : tie.InvT-loop
+Inv-loop units ends cue shown₀ state₀ i₀ k₀ shown state i k = Playing units ends cue shown₀ (stateSays state) i k shown
+
+abbrev μ-loop : tie.MeasureT-loop
+μ-loop units ends cue shown₀ state₀ i₀ k₀ shown state i k = length ends - i
+
+start-state-requires : tie.Need-start-state-requires Inv-loop μ-loop
+start-state-requires c κs = search needs
+
+sub-i : tie.Need-sub-i Inv-loop μ-loop
+sub-i c = omega (arith, c .before .before .before .before .pre .from)
+
+loop-holds : tie.Need-loop-holds Inv-loop μ-loop
+loop-holds c = playing-start (c .before .before .before .before .pre) (c .start-state .ensures) refl
+
+play-at-requires : tie.Need-play-at-requires Inv-loop μ-loop
+play-at-requires c κs = search needs
+
+number-of-requires : tie.Need-number-of-requires Inv-loop μ-loop
+number-of-requires c κs = search needs
+
+mul-shown : tie.Need-mul-shown Inv-loop μ-loop
+mul-shown c = search needs
+
+slice-write-shown : tie.Need-slice-write-shown Inv-loop μ-loop
+slice-write-shown c = let t = c .before .before .before in playing-slot (t .before .loop .inv) (t .loop-test .taken)
+
+add-i : tie.Need-add-i Inv-loop μ-loop
+add-i c = search needs
+
+add-k : tie.Need-add-k Inv-loop μ-loop
+add-k c = search needs
+
+loop-less : tie.Need-loop-less Inv-loop μ-loop
+loop-less c = search needs
+
+loop-again : tie.Need-loop-again Inv-loop μ-loop
+loop-again c =
+    let p = c .before .before in
+    let t = p .before in
+    playing-next (t .before .loop .inv) (t .loop-test .taken) (p .play-at .result) (p .play-at .ensures .0) (p .play-at .ensures .1) (c .number-of .ensures)
+
+same-length : tie.Need-same-length Inv-loop μ-loop
+same-length c = playing-long (c .before .loop .inv)
+
+returns : tie.Need-returns Inv-loop μ-loop
+returns c = playing-end (c .before .loop .inv) (c .loop-test .left)
+
+pub play-units-spec : {M : Type 1} → statement M
+play-units-spec =
+    tie.close
+    (tie.spec
+    Inv-loop
+    μ-loop
+    start-state-requires
+    sub-i
+    loop-holds
+    play-at-requires
+    number-of-requires
+    mul-shown
+    slice-write-shown
+    add-i
+    add-k
+    loop-less
+    loop-again
+    same-length
+    returns)

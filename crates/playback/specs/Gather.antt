@@ -1,0 +1,23 @@
+-- The units that a list's entries name, gathered in lent memory as the containers' writers take them. Assumes nothing.
+use Prim.Native.Nat.{ℕ, _≤_}
+use mathlib.Core.List.{List, map}
+use lib.ListN.{length}
+use Rattle.bitio.specs.Limits.{limit}
+use Rattle.bitio.specs.Parse.{Answer, accepted}
+use Rattle.container.specs.Limits.{Room, fitUnits}
+use Rattle.container.specs.Stream.{streamBytes}
+use Rattle.assemble.specs.Assemble.{named}
+
+-- the units that the entries name, in order
+unfoldable pub listed : (list picture ends shows : List ℕ) → List (List ℕ)
+listed list picture ends shows = map (named picture ends shows) list
+
+-- 35: lent room or the limit cannot hold them
+unfoldable pub gathered : Room → (list picture ends shows : List ℕ) → Answer (List (List ℕ))
+gathered room list picture ends shows = fitUnits room (accepted (listed list picture ends shows))
+
+-- the units us have room in d, their ends in e
+pub record CanGather (d e : List ℕ) (us : List (List ℕ)) : Type 0 where
+  pub small : length (streamBytes us) ≤ limit
+  pub room : length (streamBytes us) ≤ length d
+  pub slots : length us ≤ length e

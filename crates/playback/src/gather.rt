@@ -1,0 +1,81 @@
+// The units of an assembled list, gathered one behind the other with the end of each, as the containers' writers take them.
+ghost use mathlib.Core.Path.{_≡_};
+ghost use Prim.Native.Nat.{_+_, _≤_, min};
+ghost use lib.ListN.{length};
+ghost use Rattle.bitio.specs.Lent.{pasted};
+ghost use Rattle.container.specs.Stream.{streamBytes};
+ghost use Rattle.container.specs.Units.{endsOf, sizesOf, bytesAfter, endsAfter, splitSays};
+ghost use Rattle.playback.specs.Gather.{listed, gathered, CanGather};
+use assemble::unit::unit;
+use container::units::Split;
+use obu::writer::put_bytes;
+
+// The sum, or one more than the limit where it is more.
+fn plus(a: usize, b: usize) -> usize
+    requires { ⌜ a ≤ 4000000001 ⌝ }
+    ensures { λ r. ⌜ r ≡ min (a + b) 4000000001 ⌝ }
+{
+    if b > 4_000_000_001 - a {
+        return 4_000_000_001;
+    }
+    a + b
+}
+
+// How many bytes the units have, or one more than the limit where they have more.
+fn measure<'a>(list: &[u32], pictures: &'a [u8], ends: &[u32], shows: &'a [u8]) -> usize
+    ensures { λ r. ⌜ r ≡ min (length (streamBytes (listed (now (list .entry)) (now (pictures .entry)) (now (ends .entry)) (now (shows .entry))))) 4000000001 ⌝ }
+{
+    let mut n: usize = 0;
+    let mut i: usize = 0;
+    while i < list.len() {
+        let u = unit(pictures, shows, ends, list[i]);
+        n = plus(n, u.len());
+        i = i + 1;
+    }
+    n
+}
+
+// Writes the units and their ends, where their room is known.
+fn put_units<'a>(
+    units: &mut [u8],
+    unit_ends: &mut [u32],
+    list: &[u32],
+    pictures: &'a [u8],
+    ends: &[u32],
+    shows: &'a [u8],
+)
+    requires { ⌜ CanGather (now units) (now «unit_ends») (listed (now list) (now pictures) (now ends) (now shows)) ⌝ }
+    ensures { λ _. ⌜ now (units .exit) ≡ pasted (now (units .entry)) 0 (streamBytes (listed (now (list .entry)) (now (pictures .entry)) (now (ends .entry)) (now (shows .entry)))) ⌝ }
+    ensures { λ _. ⌜ now («unit_ends» .exit) ≡ pasted (now («unit_ends» .entry)) 0 (endsOf 0 (listed (now (list .entry)) (now (pictures .entry)) (now (ends .entry)) (now (shows .entry)))) ⌝ }
+{
+    let mut w: usize = 0;
+    let mut i: usize = 0;
+    while i < list.len() {
+        let u = unit(pictures, shows, ends, list[i]);
+        w = put_bytes(units, w, u);
+        unit_ends[i] = w as u32;
+        i = i + 1;
+    }
+}
+
+// The units that the list's entries name: their bytes to `units`, the end of each to `unit_ends`. A refusal changes neither.
+pub fn gather_units<'a>(
+    units: &mut [u8],
+    unit_ends: &mut [u32],
+    list: &[u32],
+    pictures: &'a [u8],
+    ends: &[u32],
+    shows: &'a [u8],
+) -> Split
+    ensures { λ r. ⌜ splitSays r ≡ sizesOf (gathered (record { bytes = length (now (units .entry)); ends = length (now («unit_ends» .entry)) }) (now (list .entry)) (now (pictures .entry)) (now (ends .entry)) (now (shows .entry))) ⌝ }
+    ensures { λ _. ⌜ now (units .exit) ≡ bytesAfter (gathered (record { bytes = length (now (units .entry)); ends = length (now («unit_ends» .entry)) }) (now (list .entry)) (now (pictures .entry)) (now (ends .entry)) (now (shows .entry))) (now (units .entry)) ⌝ }
+    ensures { λ _. ⌜ now («unit_ends» .exit) ≡ endsAfter (gathered (record { bytes = length (now (units .entry)); ends = length (now («unit_ends» .entry)) }) (now (list .entry)) (now (pictures .entry)) (now (ends .entry)) (now (shows .entry))) (now («unit_ends» .entry)) ⌝ }
+{
+    let count = list.len();
+    let bytes = measure(list, pictures, ends, shows);
+    if (bytes > 4_000_000_000) | (bytes > units.len()) | (count > unit_ends.len()) {
+        return Split::Refused(35);
+    }
+    put_units(units, unit_ends, list, pictures, ends, shows);
+    Split::Units(bytes, count)
+}

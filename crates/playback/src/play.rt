@@ -1,0 +1,101 @@
+// Units in lent memory, played from a cue to the last.
+ghost use mathlib.Core.Path.{_≡_};
+ghost use mathlib.Core.List.{_∷_};
+ghost use Prim.Native.Nat.{_+_, _≤_, _<_};
+ghost use lib.ListN.{length, getD};
+ghost use Rattle.bitio.specs.Parse.{answer};
+ghost use Rattle.container.specs.Units.{unitsAt, countOf, outAfter};
+ghost use Rattle.player.specs.Player.{play, leaves};
+ghost use Rattle.player.specs.Code.{stateSays, playedSays};
+ghost use Rattle.playback.specs.Shown.{codeNumber, shownBy, playFrom, showsSay, unitIn, CanPlay};
+use container::lists::check_ends;
+use obu::reader::payload;
+use player::slots::Answer;
+use player::start::start_state;
+use player::step::Played;
+use player::step::State;
+use player::step::step;
+
+pub enum Shows {
+    // how many positions have their number
+    Positions(usize),
+    // document 01's number
+    Refused(u32),
+}
+
+// The number of an answer: the position shown, 0 for none, 2^64 - 1 - n for refusal n.
+fn number_of(answer: Answer) -> u64
+    ensures { λ r. ⌜ r ≡ codeNumber answer ⌝ }
+{
+    match answer {
+        Answer::Shown(q) => q,
+        Answer::Nothing => 0,
+        Answer::Refused(n) => 18446744073709551615 - n,
+    }
+}
+
+// Where unit i starts: where the one before it ends, the first at 0.
+fn start_of(ends: &[u32], i: usize) -> usize
+    requires { ⌜ i ≤ length (now ends) ⌝ }
+    ensures { λ r. ⌜ r ≡ getD (0 ∷ now (ends .entry)) i 0 ⌝ }
+{
+    if i == 0 {
+        return 0;
+    }
+    ends[i - 1] as usize
+}
+
+// Unit i, played under its position, i + 1.
+fn play_at(state: State, units: &[u8], ends: &[u32], i: usize) -> Played
+    requires { ⌜ i < length (now ends) ⌝ }
+    ensures { λ r. ⌜ playedSays r ≡ play (stateSays state) (i + 1) (unitIn (now (units .entry)) (now (ends .entry)) i) ⌝ }
+    ensures { λ r. ⌜ stateSays (r .state) ≡ leaves (stateSays state) (play (stateSays state) (i + 1) (unitIn (now (units .entry)) (now (ends .entry)) i)) ⌝ }
+{
+    let start = start_of(ends, i);
+    let end = ends[i] as usize;
+    step(state, i as u64 + 1, payload(units, start, end))
+}
+
+// Plays the units from the cue on, where the room for their numbers is known.
+fn play_units(units: &[u8], ends: &[u32], cue: usize, shown: &mut [u64])
+    requires { ⌜ CanPlay (now units) (now ends) cue (now shown) ⌝ }
+    ensures { λ _. ⌜ now (shown .exit) ≡ outAfter (answer (shownBy cue) (unitsAt (now (units .entry)) (now (ends .entry)))) (now (shown .entry)) ⌝ }
+{
+    let mut state = start_state();
+    let mut i = cue - 1;
+    let mut k: usize = 0;
+    while i < ends.len() {
+        let played = play_at(state, units, ends, i);
+        let answer = played.answer;
+        let next = played.state;
+        shown[k] = number_of(answer);
+        state = next;
+        i = i + 1;
+        k = k + 1;
+    }
+}
+
+// The units from the cue to the last, each played under its own position, from eight empty slots and no kept header: a
+// number for each to `shown`. A refusal changes nothing.
+pub fn play_from(units: &[u8], unit_ends: &[u32], cue: usize, shown: &mut [u64]) -> Shows
+    ensures { λ r. ⌜ showsSay r ≡ countOf (playFrom (length (now (shown .entry))) cue (now (units .entry)) (now («unit_ends» .entry))) ⌝ }
+    ensures { λ _. ⌜ now (shown .exit) ≡ outAfter (playFrom (length (now (shown .entry))) cue (now (units .entry)) (now («unit_ends» .entry))) (now (shown .entry)) ⌝ }
+{
+    let len = units.len();
+    let count = unit_ends.len();
+    if len > 4_000_000_000 {
+        return Shows::Refused(34);
+    }
+    if !check_ends(units, unit_ends) {
+        return Shows::Refused(36);
+    }
+    if (cue < 1) | (cue > count) {
+        return Shows::Refused(36);
+    }
+    let n = count - (cue - 1);
+    if n > shown.len() {
+        return Shows::Refused(35);
+    }
+    play_units(units, unit_ends, cue, shown);
+    Shows::Positions(n)
+}
