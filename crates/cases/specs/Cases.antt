@@ -1,13 +1,14 @@
 -- The cases that 01 marks P: a row is an answer that the definitions compute, and what 01 says it is. One table, one check. Assumes nothing.
 use Prim.Native.Nat.{ℕ}
 use mathlib.Core.Path.{_≡_, refl}
-use mathlib.Core.List.{List, [], _∷_, flatMap}
+use mathlib.Core.List.{List, [], _∷_, _++_, flatMap}
 use mathlib.Core.Bool.{Bool, true, false, _&&_}
 use lib.Dec.{eqb}
-use Rattle.bitio.specs.Parse.{Answer, refused, accepted, answer, many, manyF}
+use Rattle.bitio.specs.Parse.{Answer, refused, accepted, answer, andNext, many, manyF}
 use Rattle.bitio.specs.Leb.{readLeb, lebRead, lebBytes, lebWrite, sized, framed}
 use Rattle.obu.specs.Obu.{passes, headObuOf, obusOf, obuBytes, unitBytes}
-use Rattle.obu.specs.Unit.{isType, count}
+use Rattle.obu.specs.Unit.{isType, count, has, lastPayload}
+use Rattle.obu.specs.Place.{part}
 use Rattle.container.specs.Stream.{cut, group, others, join, behind, joined, units, streamUnits, flat, streamBytes}
 use Rattle.container.specs.AnnexB.{innerObu, lengthObu, frameUnit, temporalUnit, annexbUnits, annexbUnit, annexbBytes}
 use Rattle.container.specs.Limits.{Room}
@@ -27,6 +28,12 @@ use Rattle.header.specs.PutSequence.{putTiming, putModel, putOpening, putPoint,
 use Rattle.header.specs.Emittable.{timingFits, modelFits, openingFits, pointFits, pointsFit, sizeFits, idsFit, toolsFit, screenFits, colorFits, samplingFits, codingFits, emittable}
 use Rattle.header.specs.Emit.{ofBits, packN, pack, trailed, sequenceBytes, emitted}
 use Rattle.header.specs.Frame.{showExisting, frameStart, orderHint, removalTimes, bufferRemoval, frameInfo, frameBits, frameHeader, parseFrameFrom}
+use Rattle.header.specs.Support.{support}
+use Rattle.header.specs.Frame.{parseFrame}
+use Rattle.assemble.specs.Blocks.{blocks, layout, positions, total}
+use Rattle.assemble.specs.Segments.{segmentAt, segmentsFrom, segmentsOf}
+use Rattle.assemble.specs.Prepare.{firstOf, sent, firstFrame, lowest, prepare}
+use Rattle.assemble.specs.Assemble.{Outcome, stopped, made, Output, andAlso, inSegment, overall, noneEmpty, sizes, readHeader, sameBytes, sameHeaders, prepareAll, endsFrom, fits as fitsRoom, assembled, assemble}
 use Rattle.header.specs.declared.frame_header.FrameHeaderInfo.{FrameHeaderInfo}
 use Rattle.header.specs.declared.frame_header.FrameHeaderInfo.the-variants.{Existing, Frame}
 
@@ -95,6 +102,27 @@ frame s f = answer (λ x. numbers x ∷ []) (parseFrameFrom s f)
 abbrev payloadK : List ℕ
 payloadK = 0x00 ∷ 0x00 ∷ 0x00 ∷ 0x01 ∷ 0x9F ∷ 0xF8 ∷ 0x00 ∷ 0x00 ∷ 0x10 ∷ []
 
+-- 01's units K and G
+abbrev unitK : List ℕ
+unitK = 0x12 ∷ 0x00 ∷ 0x0A ∷ 0x09 ∷ (payloadK ++ (0x32 ∷ 0x01 ∷ 0x10 ∷ []))
+
+abbrev unitG : List ℕ
+unitG = 0x12 ∷ 0x00 ∷ 0x32 ∷ 0x02 ∷ 0x38 ∷ 0x10 ∷ []
+
+-- what of an assembly 01 marks P: the list's entries, that is kinds by segment; the cues; the show units, that is slots
+abbrev listed : Outcome Output → Answer (List (List ℕ))
+listed (stopped k i) = refused k
+listed (made o) = accepted (o .list ∷ o .cues ∷ o .shows ∷ [])
+
+-- K G K G with these frames, and the settings gop_size, 25, 1
+abbrev assembleKG : ℕ → ℕ → ℕ → Answer (List (List ℕ))
+assembleKG gop n m =
+    listed (assemble
+    (record { list = 16; cues = 16; picture = 64; ends = 4; shows = 10; header = 32 })
+    (record { gop = gop; fps = 25; den = 1 })
+    (unitK ++ unitG ++ unitK ++ unitG)
+    (0 ∷ 16 ∷ 16 ∷ 22 ∷ n ∷ 22 ∷ 38 ∷ 38 ∷ 44 ∷ m ∷ []))
+
 -- ---- the table
 
 abbrev pub rows : List Row
@@ -116,8 +144,10 @@ rows =
     ∷ (frame payloadK (0x10 ∷ []), accepted ((0 ∷ 0 ∷ 1 ∷ 0 ∷ 255 ∷ 0 ∷ []) ∷ []))
     ∷ (frame payloadK (0x38 ∷ 0x10 ∷ []), accepted ((0 ∷ 1 ∷ 1 ∷ 1 ∷ 8 ∷ 0 ∷ []) ∷ []))
     ∷ (frame payloadK (0xB8 ∷ []), accepted ((1 ∷ 3 ∷ []) ∷ []))
+    -- 01, 'Unit list and cue list': the listing's kinds, cues and slots
+    ∷ (assembleKG 3 4 1, accepted ((0 ∷ 1 ∷ 2 ∷ 2 ∷ 4 ∷ []) ∷ (1 ∷ 5 ∷ []) ∷ (0x12 ∷ 0x00 ∷ 0x1A ∷ 0x01 ∷ 0xB8 ∷ 0x12 ∷ 0x00 ∷ 0x1A ∷ 0x01 ∷ 0xB8 ∷ []) ∷ []))
     ∷ []
 
 pub cases : check rows ≡ true
-unfolding check many manyF readLeb lebRead lebBytes lebWrite sized framed passes headObuOf obusOf obuBytes unitBytes flatMap isType count cut group others join behind joined units streamUnits flat streamBytes innerObu lengthObu frameUnit temporalUnit annexbUnits annexbUnit annexbBytes read write bitAt bitsAt bitsWithin readBits leadingZeros uvlcSuffix uvlc bitsOf halvings uvlcZeros readFlag readOr flagOr uvlcOr timingInfo decoderModelInfo opening operatingPoint operatingPoints frameSize frameIds codingTools screenTools filters colorDescription colorSampling coding sequenceHeader parseSequence retimed withTiming timed put putOr putFlag putFlagOr putUvlcOr fits fitsOr flagFitsOr uvlcFitsOr putTiming putModel putOpening putPoint putPoints putSize putIds putTools putScreen putFilters putColor putSampling putCoding putSequence timingFits modelFits openingFits pointFits pointsFit sizeFits idsFit toolsFit screenFits colorFits samplingFits codingFits emittable ofBits packN pack trailed sequenceBytes emitted showExisting frameStart orderHint removalTimes bufferRemoval frameInfo frameBits frameHeader parseFrameFrom
+unfolding check many manyF readLeb lebRead lebBytes lebWrite sized framed passes headObuOf obusOf obuBytes unitBytes flatMap isType count cut group others join behind joined units streamUnits flat streamBytes innerObu lengthObu frameUnit temporalUnit annexbUnits annexbUnit annexbBytes read write bitAt bitsAt bitsWithin readBits leadingZeros uvlcSuffix uvlc bitsOf halvings uvlcZeros readFlag readOr flagOr uvlcOr timingInfo decoderModelInfo opening operatingPoint operatingPoints frameSize frameIds codingTools screenTools filters colorDescription colorSampling coding sequenceHeader parseSequence retimed withTiming timed put putOr putFlag putFlagOr putUvlcOr fits fitsOr flagFitsOr uvlcFitsOr putTiming putModel putOpening putPoint putPoints putSize putIds putTools putScreen putFilters putColor putSampling putCoding putSequence timingFits modelFits openingFits pointFits pointsFit sizeFits idsFit toolsFit screenFits colorFits samplingFits codingFits emittable ofBits packN pack trailed sequenceBytes emitted showExisting frameStart orderHint removalTimes bufferRemoval frameInfo frameBits frameHeader parseFrameFrom parseFrame andNext has lastPayload part support blocks layout positions total segmentAt segmentsFrom segmentsOf firstOf sent firstFrame lowest prepare andAlso inSegment overall noneEmpty sizes readHeader sameBytes sameHeaders prepareAll endsFrom fitsRoom assembled assemble
 cases = refl
