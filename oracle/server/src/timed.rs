@@ -1,4 +1,4 @@
-// The Rust's containers for the C programs of bench/: a static library. A handle is freed by its own function.
+// The Rust's containers and assembly for the C programs of bench/: a static library. A handle is freed by its own function.
 pub mod assemble;
 pub mod bitio;
 pub mod container;
@@ -8,6 +8,7 @@ pub mod obu;
 pub mod seq_header;
 pub mod uheader;
 
+use assemble::{AssembleOutput, AssembleParams, Segment};
 use std::slice::from_raw_parts;
 
 type Units = Vec<Vec<u8>>;
@@ -89,4 +90,86 @@ pub unsafe extern "C" fn rust_units_free(units: *mut Units) {
 #[no_mangle]
 pub unsafe extern "C" fn rust_bytes_free(bytes: *mut Vec<u8>) {
     drop(Box::from_raw(bytes));
+}
+
+/// `segments` has five numbers for each segment, as magbelo_assemble takes them.
+#[no_mangle]
+pub unsafe extern "C" fn rust_assemble(
+    picture: *const u8,
+    picture_len: usize,
+    segments: *const u64,
+    numbers: usize,
+    gop_size: u64,
+    fps: u32,
+    fps_den: u32,
+) -> *mut AssembleOutput {
+    let picture = lent(picture, picture_len);
+    let segments: Vec<Segment> = lent(segments, numbers)
+        .chunks_exact(5)
+        .map(|s| Segment {
+            key_tu: &picture[s[0] as usize..s[1] as usize],
+            golden_tu: &picture[s[2] as usize..s[3] as usize],
+            frames: s[4],
+        })
+        .collect();
+    let params = AssembleParams {
+        fps,
+        fps_den,
+        total_frames: 0, // not read for several segments
+        gop_size,
+        decoder_model: false,
+    };
+    match assemble::assemble_multi(&segments, &params) {
+        Ok(found) => Box::into_raw(Box::new(found)),
+        Err(_) => std::ptr::null_mut(),
+    }
+}
+
+/// What magbelo_assemble hands out.
+#[repr(C)]
+pub struct Listing {
+    list: *const u32,
+    units: usize,
+    cues: *const u32,
+    cue_count: usize,
+    pictures: *const u8,
+    ends: *const u32,
+    shows: *const u8,
+    segments: usize,
+    header: *const u8,
+    header_len: usize,
+    golden_slot: u64,
+}
+
+/// Whether this is the same listing: every unit's bytes, the cues, the sequence header and the first slot.
+#[no_mangle]
+pub unsafe extern "C" fn rust_listing_is(
+    found: *const AssembleOutput,
+    ours: *const Listing,
+) -> bool {
+    let (found, ours) = (&*found, &*ours);
+    let ends = lent(ours.ends, 2 * ours.segments);
+    let unit = |entry: u32| {
+        let (segment, kind) = (entry as usize / 4, entry as usize % 4);
+        if kind == 2 {
+            return lent(ours.shows.add(5 * segment), 5);
+        }
+        let at = 2 * segment + kind;
+        let start = if at == 0 { 0 } else { ends[at - 1] as usize };
+        lent(ours.pictures.add(start), ends[at] as usize - start)
+    };
+    found.tus.len() == ours.units
+        && found
+            .tus
+            .iter()
+            .zip(lent(ours.list, ours.units))
+            .all(|(tu, &entry)| tu[..] == *unit(entry))
+        && found.key_samples[..] == *lent(ours.cues, ours.cue_count)
+        && found.seq_header_obu[..] == *lent(ours.header, ours.header_len)
+        && u64::from(found.golden_slot) == ours.golden_slot
+}
+
+#[no_mangle]
+pub unsafe extern "C" fn rust_assembly_free(found: *mut AssembleOutput) {
+    drop(Box::from_raw(found));
 }
