@@ -2,6 +2,7 @@
 and orders with two faults show which is told first."""
 
 import itertools
+import random
 from dataclasses import dataclass, field
 
 from model.obu import written
@@ -27,7 +28,10 @@ SMALL_ASSEMBLE = [
     f'assemble 3 25 1 {KEY_UNIT} 80 4', f'assemble 3 25 1 - - {MOST_FRAMES}',
     f'assemble 3 25 1 - - {MOST_FRAMES + 1}', f'assemble 3 25 1 - - {TOP} - - 2',
     f'assemble 3 25 1 - - 0 - - {TOP} - - 3', 'assemble 3 25 1 - - 0 - - 1', 'assemble 3 25 1 - - 0 - - 2',
-    'assemble 3 25 1 - - 0',
+    'assemble 3 25 1 - - 0', f'assemble 3 25 1 {KEY_UNIT} {GOLDEN_UNIT} 0 {KEY_UNIT} {GOLDEN_UNIT} 2',
+    f'assemble 3 25 1 {KEY_UNIT} - {MOST_FRAMES}', f'assemble 3 25 1 {KEY_UNIT} {GOLDEN_UNIT} {MOST_FRAMES + 1}',
+    f'assemble 3 25 1 - - {MOST_FRAMES // 2} - - {MOST_FRAMES // 2}',
+    f'assemble 3 25 1 - - {MOST_FRAMES // 2} - - {MOST_FRAMES // 2 + 1}',
 ]
 
 BAD_ASSEMBLE = [
@@ -62,7 +66,8 @@ class Order:
 
 
 def picked_assemble():
-    return SMALL_ASSEMBLE + [line for line in real_orders() if len(line) < 4000]
+    lines = SMALL_ASSEMBLE + [line for line in real_orders() if len(line) < 4000]
+    return lines + list(every_pattern()) + list(every_position())
 
 
 PICKED['assemble'] = picked_assemble
@@ -73,6 +78,8 @@ def assemble(rng, count, exhaustive):
     yield from SMALL_ASSEMBLE
     yield from BAD_ASSEMBLE
     yield from real_orders()
+    yield from every_pattern()
+    yield from every_position()
     yield from list_requests(rng)
     yield from fault_requests(rng, 6 if exhaustive else 2)
     for _ in range(count):
@@ -174,6 +181,13 @@ def list_requests(rng):
     yield ' '.join(['assemble 2 25 1'] + [board] * ((LINE_LIMIT - 20) // (len(board) + 1)))
 
 
+def every_pattern():
+    """All boards whose goldens refresh something, in one list, with and without timing."""
+    for key in (KEY_UNIT, TIMED_KEY_UNIT):
+        boards = [f'{key} 12003202{0x3800 + 2 * flags:04x} 3' for flags in range(1, 256)]
+        yield ' '.join(['assemble 3 25 1', *boards])
+
+
 # Faults, in the order in which 01 lists the refusals. Each is given the order and a board's place.
 
 def no_segments(rng, order, i):
@@ -205,7 +219,11 @@ def bad_key(rng, order, i):
 
 def unreadable(rng):
     """Bytes behind which a unit is refused, 1 to 5; behind an unsized OBU they are payload."""
-    return rng.choice((b'\x80', b'\x4a\x00', b'\x36', b'\x32\x80', b'\x32\x01'))
+    return rng.choice(UNREADABLE)
+
+
+# Refused with 1 to 5.
+UNREADABLE = (b'\x80', b'\x4a\x00', b'\x36', b'\x32\x80', b'\x32\x01')
 
 
 def no_header(rng, order, i):
@@ -224,10 +242,19 @@ def change_header(rng, order, payload):
 
 
 def unsupported_header(rng, order, i):
-    pinned = rng.choice((
-        dict(seq_profile=5), dict(timing_info_present=1, equal_picture_interval=1, ticks_zeros=32),
-        dict(reduced_still_picture_header=1), dict(frame_id_numbers_present=1), dict(film_grain_params_present=1),
-        dict(timing_info_present=1, equal_picture_interval=0, decoder_model_info_present=1)))
+    pin_header(rng, order, rng.choice(UNSUPPORTED))
+
+
+# Refused with 15 to 20.
+UNSUPPORTED = (
+    dict(seq_profile=5), dict(timing_info_present=1, equal_picture_interval=1, ticks_zeros=32),
+    dict(reduced_still_picture_header=1), dict(frame_id_numbers_present=1),
+    dict(timing_info_present=1, equal_picture_interval=0, decoder_model_info_present=1),
+    dict(film_grain_params_present=1),
+)
+
+
+def pin_header(rng, order, pinned):
     text, order.facts = make_header(rng, **{**READABLE, 'film_grain_params_present': 0, **pinned})
     change_header(rng, order, closed(text))
 
@@ -258,6 +285,10 @@ def cut_frame(part):
 def not_a_shown_key(rng, order, i):
     pinned = rng.choice((dict(show_existing_frame=1), dict(show_existing_frame=0, frame_type=rng.randrange(1, 4)),
                          dict(show_existing_frame=0, frame_type=0, show_frame=0)))
+    pin_key(rng, order, i, pinned)
+
+
+def pin_key(rng, order, i, pinned):
     order.boards[i].key = make_unit(rng, [(1, order.payload), frame_part(rng, order, **pinned)])
 
 
@@ -294,6 +325,45 @@ FAULTS = [
     other_header, bad_golden, key_without_frame, cut_key, not_a_shown_key, golden_without_frame, cut_golden,
     existing_golden, hidden_golden, key_golden, idle_golden,
 ]
+
+
+def unread_key(rng, order, i, end):
+    parts = [(1, order.payload), key_frame(rng, order)]
+    order.boards[i].key = written([(kind, None, payload) for kind, payload in parts]) + end
+
+
+def unread_golden(rng, order, i, end):
+    kind, payload = golden_frame(rng, order)
+    order.boards[i].golden = written([(kind, None, payload)]) + end
+
+
+def with_last(fault, last):
+    """The fault in one of its ways."""
+    return lambda rng, order, i: fault(rng, order, i, last)
+
+
+# The faults again, each way of one by itself.
+POSITIONS = [
+    no_segments, small_gop, small_total, zero_frames, large_total, *[with_last(unread_key, end) for end in UNREADABLE],
+    no_header, cut_header, *[with_last(lambda rng, order, i, pinned: pin_header(rng, order, pinned), pinned)
+                             for pinned in UNSUPPORTED],
+    other_header, *[with_last(unread_golden, end) for end in UNREADABLE], key_without_frame, cut_key,
+    *[with_last(pin_key, pinned) for pinned in (
+        dict(show_existing_frame=1), dict(show_existing_frame=0, frame_type=1),
+        dict(show_existing_frame=0, frame_type=0, show_frame=0))],
+    golden_without_frame, cut_golden, existing_golden, hidden_golden, key_golden, idle_golden,
+]
+
+
+def every_position():
+    """A refusal in every position of 01's order, in each board of three, alone and before the one next in order."""
+    rng = random.Random('every position')
+    for timing, place in itertools.product((0, 1), range(len(POSITIONS))):
+        first = POSITIONS[place]
+        for i in range(3):
+            yield with_faults(rng, timing, [(first, i)])
+        for later in POSITIONS[place + 1:place + 2]:
+            yield with_faults(rng, timing, [(later, 1), (first, 1)])
 
 
 def fault_requests(rng, rounds):

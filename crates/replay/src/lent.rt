@@ -52,7 +52,7 @@ pub(crate) fn mark(memory: &mut [u8])
 }
 
 // Whether every byte from `from` on is as it was marked.
-fn is_marked(memory: &[u8], from: usize) -> bool
+pub(crate) fn is_marked(memory: &[u8], from: usize) -> bool
     ensures { λ r. ⌜ r ≡ isMarked (drop from (now (memory .entry))) ⌝ }
 {
     let mut i = from;

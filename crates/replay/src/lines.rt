@@ -1,9 +1,11 @@
 // One line to its operation.
+use crate::assemble_ops;
 use crate::container_ops;
 use crate::container_ops::ENDS;
 use crate::fields::number;
 use crate::fields::read_fields;
 use crate::lent::Room;
+use crate::operations::ASSEMBLE;
 use crate::operations::PLAY;
 use crate::operations::ROOM;
 use crate::operations::is_on_lists;
@@ -78,6 +80,23 @@ fn answer_few(
     answer_in(request, &decoded[0..end], &mut lent[0..n], out, at)
 }
 
+// The answer of an operation on byte strings with these ends and numbers.
+fn answer_of(
+    key: u64,
+    room: Room,
+    s: &[u8],
+    ends: &[u32],
+    numbers: &[u64],
+    memory: &mut [u8],
+    out: &mut Buffer,
+    at: usize,
+) -> usize {
+    if key == ASSEMBLE {
+        return assemble_ops::assemble(room, s, ends, numbers, memory, out, at);
+    }
+    container_ops::answer(key, room, s, ends, numbers, memory, out, at)
+}
+
 // The answer of an operation on lists, whose fields have room in `ends` and `times`.
 fn answer_list_with(
     key: u64,
@@ -102,7 +121,7 @@ fn answer_list_with(
     if n > lent.len() {
         return bad_line(out, at);
     }
-    container_ops::answer(
+    answer_of(
         key,
         room,
         &decoded[0..end],

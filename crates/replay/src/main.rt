@@ -1,4 +1,6 @@
 // Answers the requests of the line protocol, one a line, from standard input to standard output.
+mod assemble_ops;
+mod assemble_text;
 mod bitio_ops;
 mod container_ops;
 mod fields;

@@ -38,6 +38,8 @@ pub(crate) const CANON: u64 = 0x63_616e_6f6e;
 
 pub(crate) const PACKETS: u64 = 0x70_6163_6b65_7473;
 
+pub(crate) const ASSEMBLE: u64 = 0x6173_7365_6d62_6c65;
+
 pub(crate) const PLAY: u64 = 0x706c_6179;
 
 // The kinds of fields that an operation has; those of no operation are no kind.
@@ -51,6 +53,7 @@ fn kinds(key: u64) -> u64 {
         FRAME => 0x11,
         LEB | OBUS | SEQ | SUPPORT | EMIT | STREAM | ANNEXB | CANON => 0x1,
         WSTREAM | WANNEXB | PACKETS => 0,
+        ASSEMBLE => 0x332,
         _ => 0xf,
     }
 }
@@ -60,6 +63,7 @@ fn repeated(key: u64) -> u64 {
     match key {
         WSTREAM | WANNEXB => 0x1,
         PACKETS => 0x12,
+        ASSEMBLE => 0x211,
         _ => 0,
     }
 }
@@ -67,7 +71,7 @@ fn repeated(key: u64) -> u64 {
 // Whether its byte strings are a list, or its answer is.
 pub(crate) fn is_on_lists(key: u64) -> bool {
     match key {
-        STREAM | ANNEXB | WSTREAM | WANNEXB | PACKETS => true,
+        STREAM | ANNEXB | WSTREAM | WANNEXB | PACKETS | ASSEMBLE => true,
         _ => false,
     }
 }

@@ -22,7 +22,7 @@ pub(crate) enum Listed {
 }
 
 // Whether every end from `from` on is as it was marked.
-fn are_ends_marked(ends: &[u32], from: usize) -> bool {
+pub(crate) fn are_ends_marked(ends: &[u32], from: usize) -> bool {
     let mut i = from;
     while i < ends.len() {
         if ends[i] != END_MARK {
@@ -71,7 +71,13 @@ fn put_time(times: &[u64], i: usize, out: &mut Buffer, at: usize) -> usize {
 }
 
 // The bytes from `start` to `end`, behind a space.
-fn put_unit(memory: &[u8], start: usize, end: usize, out: &mut Buffer, at: usize) -> usize {
+pub(crate) fn put_unit(
+    memory: &[u8],
+    start: usize,
+    end: usize,
+    out: &mut Buffer,
+    at: usize,
+) -> usize {
     let to = put_text(out, at, b" ");
     if start <= end && end <= memory.len() {
         return put_hex(out, to, &memory[start..end]);
