@@ -35,8 +35,8 @@ fn put_decimal(out: &mut [u8], at: usize, v: u64) -> usize
     end
 }
 
-// Writes v and a character behind it.
-pub(crate) fn put_field(out: &mut [u8], at: usize, v: u64, last: u8) -> usize
+// Writes v and a character behind it. For crates that have measured the room.
+pub fn put_field(out: &mut [u8], at: usize, v: u64, last: u8) -> usize
     requires { ⌜ at + length (field v last) ≤ length (now out) ⌝ }
     ensures { λ r. ⌜ Wrote (now (out .entry)) (now (out .exit)) at r (field v last) ⌝ }
 {
@@ -45,8 +45,8 @@ pub(crate) fn put_field(out: &mut [u8], at: usize, v: u64, last: u8) -> usize
     end + 1
 }
 
-// Writes a word, v, and a character behind it.
-pub(crate) fn put_counted(out: &mut [u8], at: usize, word: &[u8], v: u64, last: u8) -> usize
+// Writes a word, v, and a character behind it. For crates that have measured the room.
+pub fn put_counted(out: &mut [u8], at: usize, word: &[u8], v: u64, last: u8) -> usize
     requires { ⌜ at + length (counted (now word) v last) ≤ length (now out) ⌝ }
     ensures { λ r. ⌜ Wrote (now (out .entry)) (now (out .exit)) at r (counted (now (word .entry)) v last) ⌝ }
 {
