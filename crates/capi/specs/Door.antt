@@ -22,7 +22,7 @@ unitsOf (accepted x) d = x .units
 
 -- ---- assembly
 
--- 0, or 01's number; where 01 adds the segment, its number from 1 stands above 32 bits. There are at most 5,000,000 segments, so that nothing is cut off
+-- 0, or 01's number; where 01 adds the segment, its number from 1 stands above 32 bits. Nothing is cut off below 2^32 - 1 segments
 abbrev pub assembledCode : Outcome Counts → ℕ
 assembledCode (made c) = 0
 assembledCode (stopped k none) = k
