@@ -26,7 +26,7 @@ void *rust_assemble(const uint8_t *picture, size_t picture_len, const uint64_t *
 bool rust_listing_is(const void *found, const struct listing *ours);
 void rust_assembly_free(void *found);
 
-enum { ROUNDS = 5, BOARDS = 60, HEADER = 19, TIMING = 8 };
+enum { BOARDS = 60, HEADER = 19, TIMING = 8 };
 
 // An order and its input; the frames of a key and of a golden have `key` and `golden` bytes.
 struct order {
@@ -101,16 +101,6 @@ static void *theirs(const struct order *o) {
     void *found = rust_assemble(o->in.bytes, o->in.len, o->segments, 5 * BOARDS, o->gop_size, 25, 1);
     if (!found) stop("the Rust refuses");
     return found;
-}
-
-static int by_time(const void *a, const void *b) {
-    double x = *(const double *)a, y = *(const double *)b;
-    return (x > y) - (x < y);
-}
-
-static double median(double *times) {
-    qsort(times, ROUNDS, sizeof *times, by_time);
-    return times[ROUNDS / 2];
 }
 
 static void times(struct order *o) {

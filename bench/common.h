@@ -2,27 +2,30 @@
 #ifndef BENCH_COMMON_H
 #define BENCH_COMMON_H
 
-#include <stdint.h>
+#include "ours.h"
+
 #include <stdio.h>
 #include <stdlib.h>
 #include <string.h>
 #include <time.h>
-
-/* ours, of crates/bench: how many units or bytes, or 0 after a refusal */
-size_t bench_split_obu_stream(const uint8_t *data, size_t len, uint8_t *out, size_t out_len, uint32_t *ends,
-                              size_t ends_len);
-size_t bench_split_annexb(const uint8_t *data, size_t len, uint8_t *out, size_t out_len, uint32_t *ends,
-                          size_t ends_len);
-size_t bench_write_obu_stream(const uint8_t *units, size_t len, const uint32_t *ends, size_t n, uint8_t *out,
-                              size_t out_len);
-size_t bench_write_annexb(const uint8_t *units, size_t len, const uint32_t *ends, size_t n, uint8_t *out,
-                          size_t out_len);
 
 /* The time that this process had a processor: on a quiet machine the time that passed. */
 static double seconds(void) {
     struct timespec t;
     clock_gettime(CLOCK_PROCESS_CPUTIME_ID, &t);
     return t.tv_sec + t.tv_nsec / 1e9;
+}
+
+enum { ROUNDS = 5 };
+
+static inline int by_time(const void *a, const void *b) {
+    double x = *(const double *)a, y = *(const double *)b;
+    return (x > y) - (x < y);
+}
+
+static inline double median(double *times) {
+    qsort(times, ROUNDS, sizeof *times, by_time);
+    return times[ROUNDS / 2];
 }
 
 static void stop(const char *why) {

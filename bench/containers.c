@@ -13,7 +13,6 @@ bool rust_bytes_are(const void *found, const uint8_t *bytes, size_t len);
 void rust_units_free(void *units);
 void rust_bytes_free(void *bytes);
 
-enum { ROUNDS = 5 };
 enum { READ_STREAM, READ_EXACT, WRITE_STREAM, READ_ANNEXB, WRITE_ANNEXB };
 
 // Lent memory: the units that were read, what was written of them, and both in Annex B.
@@ -22,16 +21,6 @@ struct lent {
     uint32_t *ends;
     size_t room, slots;
 };
-
-static int by_time(const void *a, const void *b) {
-    double x = *(const double *)a, y = *(const double *)b;
-    return (x > y) - (x < y);
-}
-
-static double median(double *times) {
-    qsort(times, ROUNDS, sizeof *times, by_time);
-    return times[ROUNDS / 2];
-}
 
 // Times of a call of ours and of the Rust's, and of the Rust's with the release of what it made.
 struct turns {

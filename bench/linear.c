@@ -1,7 +1,7 @@
 // Whether the time grows with the input alone: each job at n and at twice n, for shapes that could cost more.
 #include "common.h"
 
-enum { ROUNDS = 5, JOBS = 4 };
+enum { JOBS = 4 };
 
 static const char *const names[JOBS] = {"read stream", "write stream", "write annexb", "read annexb"};
 

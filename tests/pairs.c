@@ -2,17 +2,13 @@
 //   pairs OUT GOP_SIZE STREAM FRAMES [STREAM FRAMES ..]
 // A stream's first two units are a segment's key and golden. Prints 'refused N segment I' or 'refused N'; or 'units N' and
 // the cues, a line each, and writes OUT.1.obu and OUT.1.annexb, and the like from each later cue on.
+#include "../bench/ours.h"
 #include "../include/magbelo.h"
 
 #include <inttypes.h>
 #include <stdio.h>
 #include <stdlib.h>
 #include <string.h>
-
-size_t bench_write_obu_stream(const uint8_t *units, size_t len, const uint32_t *ends, size_t n, uint8_t *out,
-                              size_t out_len);
-size_t bench_write_annexb(const uint8_t *units, size_t len, const uint32_t *ends, size_t n, uint8_t *out,
-                          size_t out_len);
 
 enum { ROOM = 32 << 20, SLOTS = 1 << 16, SEGMENTS = 64 };
 

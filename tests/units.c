@@ -3,17 +3,11 @@
 //   units annexb FILE        how many the Annex B has
 //   units to-annexb FILE OUT the stream's units as Annex B
 //   units from-ivf FILE OUT  the packets of an IVF file, one behind the other
-#include <stdint.h>
+#include "../bench/ours.h"
+
 #include <stdio.h>
 #include <stdlib.h>
 #include <string.h>
-
-size_t bench_split_obu_stream(const uint8_t *data, size_t len, uint8_t *out, size_t out_len, uint32_t *ends,
-                              size_t ends_len);
-size_t bench_split_annexb(const uint8_t *data, size_t len, uint8_t *out, size_t out_len, uint32_t *ends,
-                          size_t ends_len);
-size_t bench_write_annexb(const uint8_t *units, size_t len, const uint32_t *ends, size_t n, uint8_t *out,
-                          size_t out_len);
 
 enum { ROOM = 64 << 20, SLOTS = 1 << 20 };
 
