@@ -9,13 +9,14 @@ use mathlib.Core.Option.{none}
 use lib.ListN.{length, getD, set, take, drop, length-append, length-take, drop-of-length-le}
 use lib.Seq.{drop-cons, getD-take, take-all}
 use lib.Dec.{leb}
-use borrow.Author.Tests.{le-leb, lt-leb, leb-true}
+use borrow.Author.Tests.{le-leb, lt-leb, leb-true, lt-ltb, le-ltb}
+use Rattle.bitio.specs.Limits.{limit}
 use Rattle.bitio.specs.Lent.{pasted}
 use Rattle.bitio.proofs.ParseLaws.{pick-cases}
 use Rattle.bitio.proofs.LentLaws.{pasted-nil, pasted-sets, pasted-more, pasted-length, pasted-take-end}
 use Rattle.assemble.specs.Assemble.{Outcome, stopped, Output}
 use Rattle.assemble.specs.Says.{outcome}
-use Rattle.assemble.specs.Records.{fiveOf, numbersOf, copyCount, numbersAfter, copiedOutcome, recordsOutcome}
+use Rattle.assemble.specs.Records.{fiveOf, numbersOf, copyCount, numbersAfter, noRoom, copiedOutcome, recordsOutcome}
 use Rattle.assemble.specs.declared.segments.Segment.{Segment}
 
 -- ---- how many are copied
@@ -121,9 +122,14 @@ pub head-part : (n : ℕ) (d : List ℕ) → take (n - 0) (drop 0 d) ≡ take n 
 head-part n d = let e : n - 0 ≡ n = omega arith in ap (λ (m : ℕ). take m d) e
 
 module _ (s : List ℕ) (count : ℕ) (d : List ℕ) (gop fps den : ℕ) (list cues pictures ends shows header : List ℕ) where
-  pub copied-refused : length d / 5 < count → stopped 35 none ≡ copiedOutcome s count d gop fps den list cues pictures ends shows header
-  unfolding copiedOutcome
-  copied-refused h = simp (lt-leb (5 * count) (length d) (omega arith))
+  module _ (h : length d / 5 < count) where
+    pub copied-long : limit < length s → stopped 34 none ≡ copiedOutcome s count d gop fps den list cues pictures ends shows header
+    unfolding copiedOutcome noRoom
+    copied-long l = simp (lt-leb (5 * count) (length d) (omega arith), lt-ltb limit (length s) l)
+
+    pub copied-refused : length s ≤ limit → stopped 35 none ≡ copiedOutcome s count d gop fps den list cues pictures ends shows header
+    unfolding copiedOutcome noRoom
+    copied-refused l = simp (lt-leb (5 * count) (length d) (omega arith), le-ltb limit (length s) l)
 
   pub copied-made : (rs : List ℕ) → count ≤ length d / 5 → rs ≡ take (5 * count) d → outcome s rs gop fps den list cues pictures ends shows header ≡ copiedOutcome s count d gop fps den list cues pictures ends shows header
   unfolding copiedOutcome
@@ -139,12 +145,12 @@ module _ (s : List ℕ) (xs : List Segment) (d : List ℕ) (gop fps den : ℕ) (
       from rs = outcome s rs gop fps den list cues pictures ends shows header
 
       go : (b : Bool) → leb (5 * length xs) (length d) ≡ b
-          → pick (leb (5 * length xs) (length (pick b (pasted d 0 (numbersOf xs)) d))) (from (take (5 * length xs) (pick b (pasted d 0 (numbersOf xs)) d))) (stopped 35 none) ≡ pick b (from (numbersOf xs)) (stopped 35 none)
+          → pick (leb (5 * length xs) (length (pick b (pasted d 0 (numbersOf xs)) d))) (from (take (5 * length xs) (pick b (pasted d 0 (numbersOf xs)) d))) (noRoom s) ≡ pick b (from (numbersOf xs)) (noRoom s)
       go true e =
           let h = leb-true (5 * length xs) (length d) e in
           let n = numbers-length xs in
           let k : length (pasted d 0 (numbersOf xs)) ≡ length d = pasted-length d 0 (numbersOf xs) (omega (arith, n)) in
           let z : 5 * length xs ≡ 0 + length (numbersOf xs) = omega (arith, n) in
           let t : take (5 * length xs) (pasted d 0 (numbersOf xs)) ≡ numbersOf xs = ap (λ (m : ℕ). take m (pasted d 0 (numbersOf xs))) z ∙ pasted-take-end d 0 (numbersOf xs) (omega arith) in
-          ap₂ (λ (m : Bool) (l : List ℕ). pick m (from l) (stopped 35 none)) (ap (leb (5 * length xs)) k ∙ e) t
-      go false e = ap (λ (m : Bool). pick m (from (take (5 * length xs) d)) (stopped 35 none)) e
+          ap₂ (λ (m : Bool) (l : List ℕ). pick m (from l) (noRoom s)) (ap (leb (5 * length xs)) k ∙ e) t
+      go false e = ap (λ (m : Bool). pick m (from (take (5 * length xs) d)) (noRoom s)) e

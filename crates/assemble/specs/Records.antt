@@ -4,7 +4,8 @@ use mathlib.Core.List.{List, [], _∷_, _++_}
 use mathlib.Core.Bool.{Bool, cond as pick}
 use mathlib.Core.Option.{none}
 use lib.ListN.{length, take}
-use lib.Dec.{leb}
+use lib.Dec.{leb, ltb}
+use Rattle.bitio.specs.Limits.{limit}
 use Rattle.bitio.specs.Lent.{pasted}
 use Rattle.assemble.specs.Assemble.{Outcome, stopped, Output}
 use Rattle.assemble.specs.Says.{outcome}
@@ -27,10 +28,14 @@ held count d = leb (5 * count) (length d)
 unfoldable pub numbersAfter : List Segment → List ℕ → List ℕ
 numbersAfter xs d = pick (held (length xs) d) (pasted d 0 (numbersOf xs)) d
 
--- assembly from structs; 35 leads here, where the lent numbers d have no room: without it nothing can be read
+-- without room for the numbers nothing more can be read: 35, behind 34 alone
+unfoldable pub noRoom : List ℕ → Outcome Output
+noRoom s = pick (ltb limit (length s)) (stopped 34 none) (stopped 35 none)
+
+-- assembly from structs
 unfoldable pub recordsOutcome : (s : List ℕ) (xs : List Segment) (d : List ℕ) (gop fps den : ℕ) (list cues pictures ends shows header : List ℕ) → Outcome Output
 recordsOutcome s xs d gop fps den list cues pictures ends shows header =
-    pick (held (length xs) d) (outcome s (numbersOf xs) gop fps den list cues pictures ends shows header) (stopped 35 none)
+    pick (held (length xs) d) (outcome s (numbersOf xs) gop fps den list cues pictures ends shows header) (noRoom s)
 
 -- ---- the parts of the code
 
@@ -38,7 +43,7 @@ recordsOutcome s xs d gop fps den list cues pictures ends shows header =
 abbrev pub copyCount : ℕ → ℕ → ℕ
 copyCount count room = pick (leb (5 * count) room) count 0
 
--- assembly from the first count segments whose numbers stand in d; 35 where d has no room for so many
+-- assembly from the first count segments whose numbers stand in d, if it has room for so many
 unfoldable pub copiedOutcome : (s : List ℕ) (count : ℕ) (d : List ℕ) (gop fps den : ℕ) (list cues pictures ends shows header : List ℕ) → Outcome Output
 copiedOutcome s count d gop fps den list cues pictures ends shows header =
-    pick (held count d) (outcome s (take (5 * count) d) gop fps den list cues pictures ends shows header) (stopped 35 none)
+    pick (held count d) (outcome s (take (5 * count) d) gop fps den list cues pictures ends shows header) (noRoom s)

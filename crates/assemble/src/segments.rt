@@ -81,6 +81,9 @@ fn assemble_copied(
     ensures header { λ _. ⌜ now (header .exit) ≡ lentAfter (copiedOutcome (now (picture .entry)) count (now (numbers .entry)) «gop_size» fps «fps_den» (now (list .entry)) (now (cues .entry)) (now (pictures .entry)) (now (ends .entry)) (now (shows .entry)) (now (header .entry))) (λ o. o .header) (now (header .entry)) ⌝ }
 {
     if count > numbers.len() / 5 {
+        if picture.len() > 4_000_000_000 {
+            return Assembled::Refused(34);
+        }
         return Assembled::Refused(35);
     }
     assemble_multi(
@@ -99,7 +102,7 @@ fn assemble_copied(
 }
 
 // Assembly from segments. The lent numbers are working memory, of which document 01 says nothing: five a segment, put at
-// their head. Where there is no room for them the answer is 35 before all else, since nothing can be read without.
+// their head. Where there is no room for them the answer is 35, behind 34 alone: no segment can be read without.
 pub fn assemble_segments(
     picture: &[u8],
     segments: &[Segment],
