@@ -31,7 +31,8 @@ use Rattle.assemble.specs.Assemble.{Outcome, stopped, made, andAlso, inS
 use Rattle.assemble.specs.Sizes.{sized, ranged}
 use Rattle.assemble.specs.Code.{allSegments, laterSegments, firstSequence, renewing, orElse, allPrepared, capped, measured}
 use Rattle.assemble.specs.Says.{foundSays}
-use Rattle.assemble.specs.Stages.{Going, going, rateOf, WasRead, firstKey, fromPictures, fromTiming, fromHeader, fromKey, checked, planned, obuIn, headerIn, planSays}
+use Rattle.assemble.specs.Stages.{Going, going, rateOf, WasRead, firstKey, fromPictures, fromTiming, fromHeader, fromKey, checked, planned, headerIn, planSays}
+use Rattle.assemble.specs.Rewrite.{obuIn}
 use Rattle.assemble.specs.declared.headers.FoundObu.{FoundObu}
 use Rattle.assemble.specs.declared.headers.FoundObu.the-variants.{Found}
 use Rattle.assemble.specs.declared.plan.Basis.{Basis}

@@ -11,7 +11,6 @@ use Rattle.bitio.specs.Limits.{limit}
 use Rattle.obu.specs.Obu.{Obu, obuBytes}
 use Rattle.obu.specs.Place.{part, extensionSays}
 use Rattle.obu.specs.Write.{obu}
-use Rattle.obu.specs.declared.reader.Obu.{Obu as CodeObu}
 use Rattle.header.specs.Sequence.{Sequence, sequenceOf}
 use Rattle.header.specs.declared.seq_header.OperatingPoint.{OperatingPoint}
 use Rattle.assemble.specs.Blocks.{listOf, cuesOf}
@@ -83,10 +82,6 @@ module _ (s rs : List ℕ) where
   planned set = andAlso (checked (set .gop)) (λ _. fromKey set)
 
 -- ---- what the code's plan says
-
--- an OBU of the unit u
-abbrev pub obuIn : List ℕ → CodeObu → Obu
-obuIn u o = record { type = o .«obu_type»; ext = extensionSays (o .extension); payload = part u (o .start) (o .end) }
 
 -- the new payload of sequence headers, at the head of the array
 abbrev pub newIn : List ℕ → Basis → List ℕ

@@ -6,7 +6,8 @@ use mathlib.Core.List.{List, [], _∷_, map}
 use lib.ListN.{length}
 use Rattle.bitio.specs.Parse.{Answer, refused, accepted, answer, Head, stop, item, before, within, many}
 use Rattle.bitio.specs.Leb.{sized}
-use Rattle.bitio.proofs.ParseLaws.{Every, Holds, Each, many-each, parts-less}
+use Rattle.bitio.specs.Every.{Every}
+use Rattle.bitio.proofs.ParseLaws.{Holds, Each, many-each, parts-less}
 use Rattle.bitio.proofs.LebLaws.{Sized, sized-parts}
 use Rattle.obu.specs.Obu.{Obu, unitBytes}
 use Rattle.obu.proofs.ObuLaws.{Allowed}

@@ -9,7 +9,7 @@ use lib.ListN.{length, getD, take, drop, length-drop, take-append-drop, drop-of-
 use lib.Seq.{drop-cons, drop-drop}
 use lib.Dec.{leb, ltb, eqb}
 use borrow.Author.Tests.{le-leb, lt-leb, ltb-true, ltb-false, eqb-true, eqb-false, eq-eqb, ne-eqb}
-use Rattle.bitio.specs.Parse.{Answer, refused, accepted, onto}
+use Rattle.bitio.specs.Parse.{Answer, refused, accepted, onto, andNext}
 use Rattle.bitio.specs.Lent.{pasted}
 use Rattle.container.specs.Stream.{flat, streamBytes}
 use Rattle.bitio.specs.Limits.{limit}
@@ -165,23 +165,23 @@ module _ (s es d : List ℕ) where
   refuses q = (sym (ap (λ x. countOf x) q), sym (ap (λ x. outAfter x d) q))
 
   pub write-long : limit < length s → Refuses 34
-  unfolding writeAt
+  unfolding writeAt andNext
   write-long l = refuses (rw (lt-leb (length s) limit l))
 
   module _ (short : length s ≤ limit) where
     pub write-none : accepts (unitsAt s es) ≡ false → Refuses 36
-    unfolding writeAt
+    unfolding writeAt andNext
     write-none n = refuses (rw (le-leb (length s) limit short, units-none s es n))
 
     module _ (is : accepts (unitsAt s es) ≡ true) where
       pub write-full : length d < length s → Refuses 35
-      unfolding writeAt
+      unfolding writeAt andNext
       write-full l =
           let (us, q) = units-some s es is in
           refuses (rw (le-leb (length s) limit short, q, units-bytes s es us q, lt-leb (length s) (length d) l) (rw (le-leb (length s) limit short)))
 
       pub write-done : {o : List ℕ} → length s ≤ length d → o ≡ pasted d 0 s → (accepted (length s) ≡ countOf result) × (o ≡ outAfter result d)
-      unfolding writeAt
+      unfolding writeAt andNext
       write-done {o} l w =
           let (us, q) = units-some s es is in
           let r : result ≡ accepted s = rw (le-leb (length s) limit short, q, units-bytes s es us q, le-leb (length s) (length d) l) (rw (le-leb (length s) limit short)) in

@@ -6,8 +6,8 @@ use mathlib.Core.List.{List, [], _∷_, _++_, flatMap, append-assoc, append-nil}
 use mathlib.Core.Bool.{Bool, true, false, cond as pick}
 use lib.ListN.{length}
 use Rattle.bitio.specs.Parse.{Answer, refused, accepted}
-use Rattle.bitio.proofs.ParseLaws.{Every}
-use Rattle.bitio.proofs.ParseLaws.Every.{none as nothing}
+use Rattle.bitio.specs.Every.{Every}
+use Rattle.bitio.specs.Every.Every.{none as nothing}
 use Rattle.obu.specs.Obu.{Obu, obus, unitBytes}
 use Rattle.obu.specs.Unit.{count, ofUnit}
 use Rattle.obu.proofs.ObuLaws.{Allowed, obus-unit, obus-behind, obus-allowed}

@@ -7,7 +7,7 @@ use mathlib.Core.Bool.{Bool, true, false, _&&_}
 use lib.ListN.{length, getD, set}
 use lib.Dec.{leb}
 use borrow.Author.Tests.{le-leb, lt-leb, leb-true, leb-false}
-use Rattle.bitio.specs.Parse.{refused, accepted, answer}
+use Rattle.bitio.specs.Parse.{refused, accepted, answer, andNext}
 use Rattle.bitio.proofs.LentLaws.{pasted-nil, pasted-one}
 use Rattle.obu.specs.Obu.{unitBytes}
 use Rattle.bitio.specs.Limits.{limit}
@@ -69,11 +69,11 @@ module _ (s es ts o e t : List ℕ) where
   refuse k q = record { answers = rw q; bytes = rw q; ends = rw q; times = rw q }
 
   at-long : limit < length s → mergedAt (roomOf o e t) s es ts ≡ refused 34
-  unfolding mergedAt
+  unfolding mergedAt andNext
   at-long l = rw (lt-leb (length s) limit l)
 
   at-36 : length s ≤ limit → packetsAt s es ts ≡ refused 36 → mergedAt (roomOf o e t) s es ts ≡ refused 36
-  unfolding mergedAt
+  unfolding mergedAt andNext
   at-36 l q = rw (le-leb (length s) limit l, q)
 
   pub out-long : limit < length s → Outcome s es ts o e t (Refused 34) o e t
@@ -87,7 +87,7 @@ module _ (s es ts o e t : List ℕ) where
 
   module _ (g : Given s es ts) where
     at-fit : mergedAt (roomOf o e t) s es ts ≡ fitPackets (roomOf o e t) (mergedOf s es ts)
-    unfolding mergedAt
+    unfolding mergedAt andNext
     at-fit = rw (le-leb (length s) limit (g .short), packets-there s es ts (g .match) (g .listed))
 
     module _ (n u : ℕ) (z : Totals s es ts n u) where

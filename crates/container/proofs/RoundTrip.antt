@@ -7,8 +7,8 @@ use mathlib.Core.Bool.{Bool, true, false, cond as pick, _||_, _&&_}
 use lib.ListN.{length, length-append, length-map}
 use lib.Dec.{eqb}
 use Rattle.bitio.specs.Parse.{Answer, refused, accepted, answer}
-use Rattle.bitio.proofs.ParseLaws.{Every}
-use Rattle.bitio.proofs.ParseLaws.Every.{none as nothing, also}
+use Rattle.bitio.specs.Every.{Every}
+use Rattle.bitio.specs.Every.Every.{none as nothing, also}
 use Rattle.obu.specs.Obu.{Obu, obus, unitBytes}
 use Rattle.obu.proofs.ObuLaws.{Allowed, obus-unit, obus-allowed}
 use Rattle.obu.specs.Unit.{isType, count}

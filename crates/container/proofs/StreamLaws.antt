@@ -8,8 +8,8 @@ use lib.ListN.{length}
 use lib.Dec.{leb, eqb}
 use borrow.Author.Tests.{eqb-true, le-leb, lt-leb, leb-false}
 use Rattle.bitio.specs.Parse.{Answer, refused, accepted, answer}
-use Rattle.bitio.proofs.ParseLaws.{Every}
-use Rattle.bitio.proofs.ParseLaws.Every.{none as nothing, also}
+use Rattle.bitio.specs.Every.{Every}
+use Rattle.bitio.specs.Every.Every.{none as nothing, also}
 use Rattle.obu.specs.Obu.{Obu, obus, obuBytes, unitBytes}
 use Rattle.obu.proofs.ObuLaws.{Allowed, obus-unit}
 use Rattle.obu.specs.Unit.{isType, count}

@@ -8,8 +8,9 @@ use lib.ListN.{length}
 use lib.Dec.{leb, eqb}
 use borrow.Author.Tests.{leb-true, leb-false}
 use Rattle.bitio.specs.Parse.{Answer, refused, accepted, answer}
-use Rattle.bitio.proofs.ParseLaws.{Every, pick-both, pick-cases}
-use Rattle.bitio.proofs.ParseLaws.Every.{none as nothing, also}
+use Rattle.bitio.specs.Every.{Every}
+use Rattle.bitio.proofs.ParseLaws.{pick-both, pick-cases}
+use Rattle.bitio.specs.Every.Every.{none as nothing, also}
 use Rattle.obu.specs.Obu.{Obu, obus, unitBytes}
 use Rattle.obu.proofs.ObuLaws.{Allowed, obus-unit, obus-allowed}
 use Rattle.obu.specs.Unit.{isType, count}

@@ -9,7 +9,7 @@ use lib.Dec.{leb}
 use borrow.Author.Tests.{le-leb, lt-leb, leb-true}
 use types.Run.{OneOf}
 use denote.Enum.Declared.{tagOf}
-use Rattle.bitio.specs.Parse.{Answer, refused, accepted}
+use Rattle.bitio.specs.Parse.{Answer, refused, accepted, andNext}
 use Rattle.container.specs.AnnexB.{annexbBytes}
 use Rattle.bitio.specs.Limits.{limit}
 use Rattle.container.specs.Limits.{Room, fits, fitBytes}
@@ -42,12 +42,12 @@ not-bytes (Refused k) t q = (k, refl, sym q)
 
 module _ (room : Room) (s es : List ℕ) where
   pub write-long : limit < length s → writeAt annexb room s es ≡ refused 34
-  unfolding writeAt
+  unfolding writeAt andNext
   write-long l = rw (lt-leb (length s) limit l)
 
   module _ (l : length s ≤ limit) where
     pub write-bad : accepts (unitsAt s es) ≡ false → writeAt annexb room s es ≡ refused 36
-    unfolding writeAt
+    unfolding writeAt andNext
     write-bad q = rw (le-leb (length s) limit l, refused-36 s es q)
 
     -- the units' bytes
@@ -56,7 +56,7 @@ module _ (room : Room) (s es : List ℕ) where
 
     module _ (a : accepts (unitsAt s es) ≡ true) where
       write-made : writeAt annexb room s es ≡ fitBytes room made
-      unfolding writeAt
+      unfolding writeAt andNext
       write-made = let x = accepted-is (unitsAt s es) a in rw (le-leb (length s) limit l, x .1)
 
       pub write-refused : {k : ℕ} → countOf made ≡ refused k → writeAt annexb room s es ≡ refused k

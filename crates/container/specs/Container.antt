@@ -3,7 +3,7 @@ use Prim.Native.Nat.{ℕ}
 use mathlib.Core.List.{List}
 use mathlib.Core.Bool.{cond as pick}
 use lib.ListN.{length}
-use Rattle.bitio.specs.Parse.{Answer, refused, accepted}
+use Rattle.bitio.specs.Parse.{Answer, refused, accepted, andNext}
 use Rattle.container.specs.Stream.{streamUnits, streamBytes}
 use Rattle.container.specs.AnnexB.{annexbUnits, annexbBytes}
 use Rattle.container.specs.Packets.{canonical}
@@ -30,13 +30,9 @@ read c room s = led34 (length s) (fitUnits room (unitsIn c s))
 unfoldable pub write : Container → Room → List (List ℕ) → Answer (List ℕ)
 write c room us = led34 (length (streamBytes us)) (fitBytes room (bytesIn c us))
 
-abbrev pub after : {A B : Type 0} → Answer A → (A → Answer B) → Answer B
-after (refused k) f = refused k
-after (accepted a) f = f a
-
 -- the same of units in lent memory, s their bytes and es their ends: 34 leads, 36 is next
 unfoldable pub writeAt : Container → Room → List ℕ → List ℕ → Answer (List ℕ)
-writeAt c room s es = led34 (length s) (after (unitsAt s es) (λ us. fitBytes room (bytesIn c us)))
+writeAt c room s es = led34 (length s) (andNext (unitsAt s es) (λ us. fitBytes room (bytesIn c us)))
 
 -- 01, canonicalize_tu, with its limits
 unfoldable pub canonicalAt : Room → List ℕ → Answer (List ℕ)

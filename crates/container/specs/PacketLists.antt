@@ -4,14 +4,13 @@ use mathlib.Core.List.{List, [], _∷_, map}
 use mathlib.Core.Bool.{Bool, cond as pick, _&&_}
 use lib.ListN.{length}
 use lib.Dec.{leb, eqb}
-use Rattle.bitio.specs.Parse.{Answer, refused, accepted, answer}
+use Rattle.bitio.specs.Parse.{Answer, refused, accepted, answer, andNext}
 use Rattle.bitio.specs.Lent.{pasted}
 use Rattle.container.specs.Stream.{streamBytes}
 use Rattle.container.specs.Packets.{Packet, mergePackets}
 use Rattle.bitio.specs.Limits.{limit}
 use Rattle.container.specs.Limits.{led34}
 use Rattle.container.specs.Units.{unitsAt, Sizes}
-use Rattle.container.specs.Container.{after}
 use Rattle.container.specs.declared.packets.Merged.{Merged}
 use Rattle.container.specs.declared.packets.Merged.the-variants.{Packets, Refused}
 
@@ -52,7 +51,7 @@ fitPackets room ps = pick (fitsPackets (length (streamBytes (bytesOf ps))) (leng
 
 -- 01, merge_frameless_packets, with its limits: 34 leads, 36 is next, 35 comes last
 unfoldable pub mergedAt : PacketRoom → List ℕ → List ℕ → List ℕ → Answer (List Packet)
-mergedAt room s es ts = led34 (length s) (after (packetsAt s es ts) (λ qs. fitPackets room (mergePackets qs)))
+mergedAt room s es ts = led34 (length s) (andNext (packetsAt s es ts) (λ qs. fitPackets room (mergePackets qs)))
 
 -- what lent memory for times holds afterwards
 abbrev pub timesAfter : Answer (List Packet) → List ℕ → List ℕ

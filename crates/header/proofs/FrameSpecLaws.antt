@@ -4,7 +4,7 @@ use mathlib.Core.Path.{_≡_, refl, sym, ap, _∙_}
 use mathlib.Core.List.{List}
 use mathlib.Core.Bool.{Bool, true, false, _&&_, true≢false, cond as pick}
 use Rattle.bitio.specs.Bits.{Reading, fails, reads, andThen}
-use Rattle.bitio.proofs.ParseLaws.{Every, none, also}
+use Rattle.bitio.specs.Every.{Every, none, also}
 use Rattle.header.specs.Fields.{readFlag, readOr, flagOr}
 use Rattle.header.specs.Sequence.{Sequence}
 use Rattle.header.specs.Support.{hasPointInfo}

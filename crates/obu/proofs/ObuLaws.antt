@@ -9,8 +9,9 @@ use lib.ListN.{length, length-append}
 use lib.Dec.{leb, eqb}
 use borrow.Author.Tests.{leb-true, eqb-true}
 use Rattle.bitio.specs.Parse.{Answer, refused, accepted, Head, stop, item, within, many, onto}
-use Rattle.bitio.proofs.ParseLaws.{Leaves, Shrinks, pick-both, pick-cases, many-item, many-stop, many-nil, Every, Back, many-back, many-all, Holds, many-each, many-agree, Parts, parts-less, parts-behind}
-use Rattle.bitio.proofs.ParseLaws.Every.{none as nothing, also}
+use Rattle.bitio.specs.Every.{Every}
+use Rattle.bitio.proofs.ParseLaws.{Leaves, Shrinks, pick-both, pick-cases, many-item, many-stop, many-nil, Back, many-back, many-all, Holds, many-each, many-agree, Parts, parts-less, parts-behind}
+use Rattle.bitio.specs.Every.Every.{none as nothing, also}
 use Rattle.bitio.specs.Leb.{lebBytes, sized, framed}
 use Rattle.bitio.proofs.LebLaws.{sized-back, Sized, sized-parts}
 use Rattle.obu.specs.Obu.{Obu, flag, obuType, passes, made, sizedBody, extended, headObuOf, headObu, obusOf, obus, specObus, extFlag, extBytes, header, obuBytes, unitBytes, Written}

@@ -10,8 +10,8 @@ use lib.Dec.{eqb, ltb, leb}
 use borrow.Author.Tests.{eqb-true, eqb-false, ltb-false, leb-true}
 use Rattle.bitio.specs.Parse.{Answer, refused, accepted, andNext, onto}
 use Rattle.bitio.specs.Limits.{limit}
-use Rattle.bitio.proofs.ParseLaws.{Every}
-use Rattle.bitio.proofs.ParseLaws.Every.{none as nothing, also}
+use Rattle.bitio.specs.Every.{Every}
+use Rattle.bitio.specs.Every.Every.{none as nothing, also}
 use Rattle.obu.specs.Obu.{Obu, obus}
 use Rattle.obu.specs.Unit.{has, lastPayload, firstPayload, ofUnit}
 use Rattle.obu.specs.Place.{part}

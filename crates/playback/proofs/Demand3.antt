@@ -6,8 +6,8 @@ use mathlib.Core.List.{List}
 use lib.ListN.{length, drop}
 use Rattle.bitio.specs.Parse.{accepted}
 use Rattle.bitio.specs.Limits.{limit}
-use Rattle.bitio.proofs.ParseLaws.{Every}
-use Rattle.bitio.proofs.ParseLaws.Every.{none as nothing, also}
+use Rattle.bitio.specs.Every.{Every}
+use Rattle.bitio.specs.Every.Every.{none as nothing, also}
 use Rattle.container.proofs.RoundTrip.{Whole}
 use Rattle.container.proofs.Carry.{carried}
 use Rattle.assemble.specs.Segments.{Segment, segmentsOf}

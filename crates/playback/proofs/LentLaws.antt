@@ -6,7 +6,7 @@ use mathlib.Core.List.{List, [], _∷_, _++_}
 use lib.ListN.{length, length-append}
 use lib.Seq.{take-append-seam, drop-append-seam}
 use borrow.Author.Tests.{le-leb}
-use Rattle.bitio.specs.Parse.{accepted}
+use Rattle.bitio.specs.Parse.{accepted, andNext}
 use Rattle.container.specs.Stream.{flat, streamBytes}
 use Rattle.container.specs.Units.{endsOf, unitsFrom}
 use Rattle.container.specs.Limits.{Room}
@@ -22,5 +22,5 @@ units-there at (u ∷ us) =
     rw (le-leb at (at + length u) (omega arith), d, le-leb (length u) (length (u ++ flat us)) (omega arith), take-append-seam u (flat us), drop-append-seam u (flat us), units-there (at + length u) us)
 
 pub lent-write : (c : Container) (room : Room) (us : List (List ℕ)) → writeAt c room (streamBytes us) (endsOf 0 us) ≡ write c room us
-unfolding writeAt write streamBytes
+unfolding writeAt write streamBytes andNext
 lent-write c room us = rw (units-there 0 us)

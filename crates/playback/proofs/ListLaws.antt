@@ -7,8 +7,8 @@ use mathlib.Core.Bool.{Bool, true, false, cond}
 use lib.ListN.{length, getD}
 use lib.Dec.{eqb}
 use borrow.Author.Tests.{eqb-true, eqb-false}
-use Rattle.bitio.proofs.ParseLaws.{Every}
-use Rattle.bitio.proofs.ParseLaws.Every.{none as nothing, also}
+use Rattle.bitio.specs.Every.{Every}
+use Rattle.bitio.specs.Every.Every.{none as nothing, also}
 use Rattle.assemble.proofs.BlockLaws.{code-small}
 use Rattle.assemble.specs.Blocks.{Kind, Key, Golden, Show, Entry, code, number, layout, listOf, positions, isKeyEntry, cuesOf}
 use Rattle.playback.specs.Demand.{Rising}

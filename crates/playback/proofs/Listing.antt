@@ -10,7 +10,7 @@ use Rattle.bitio.specs.Parse.{Answer, refused, accepted, answer, many, manyF, a
 use Rattle.bitio.specs.Bits.{bitAt, bitsAt, bitsWithin, readBits}
 use Rattle.bitio.specs.Uvlc.{leadingZeros, uvlcSuffix, uvlc}
 use Rattle.bitio.specs.Leb.{lebRead, readLeb, sized, lebWrite, lebBytes, framed}
-use Rattle.bitio.proofs.ParseLaws.Every.{none as nothing, also}
+use Rattle.bitio.specs.Every.Every.{none as nothing, also}
 use Rattle.obu.specs.Obu.{Obu, passes, headObuOf, obusOf, obuBytes, unitBytes}
 use Rattle.obu.specs.Unit.{isType, count, firstPayload}
 use Rattle.obu.specs.Place.{part}

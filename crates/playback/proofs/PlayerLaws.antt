@@ -10,8 +10,8 @@ use lib.Dec.{eqb}
 use borrow.Author.Tests.{eqb-false, le-ltb}
 use Rattle.bitio.specs.Parse.{accepted, andNext}
 use Rattle.bitio.specs.Limits.{limit}
-use Rattle.bitio.proofs.ParseLaws.{Every}
-use Rattle.bitio.proofs.ParseLaws.Every.{none as nothing, also}
+use Rattle.bitio.specs.Every.{Every}
+use Rattle.bitio.specs.Every.Every.{none as nothing, also}
 use Rattle.obu.specs.Obu.{Obu, obus}
 use Rattle.obu.specs.Unit.{has, count, firstPayload}
 use Rattle.header.specs.Sequence.{Sequence, parseSequence}

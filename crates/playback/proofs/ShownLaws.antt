@@ -10,7 +10,7 @@ use lib.Seq.{drop-cons, drop-drop}
 use lib.Dec.{leb, ltb, eqb}
 use borrow.Author.Tests.{le-leb, lt-leb, leb-true, ltb-true, ltb-false}
 use Rattle.bitio.specs.Limits.{limit}
-use Rattle.bitio.specs.Parse.{Answer, refused, accepted, answer, onto}
+use Rattle.bitio.specs.Parse.{Answer, refused, accepted, answer, onto, andNext}
 use Rattle.bitio.specs.Lent.{pasted}
 use Rattle.bitio.proofs.LentLaws.{pasted-nil, pasted-set, pasted-length}
 use Rattle.obu.specs.Place.{part}
@@ -217,12 +217,12 @@ module _ (s es : List ℕ) (cue : ℕ) (d : List ℕ) where
   refuses q = (sym (ap (λ x. countOf x) q), sym (ap (λ x. outAfter x d) q))
 
   pub play-long : limit < length s → Tells (refused 34) d
-  unfolding playFrom
+  unfolding playFrom andNext
   play-long l = refuses (rw (lt-leb (length s) limit l))
 
   module _ (short : length s ≤ limit) where
     pub play-none : accepts (unitsAt s es) ≡ false → Tells (refused 36) d
-    unfolding playFrom
+    unfolding playFrom andNext
     play-none n = refuses (rw (le-leb (length s) limit short, refused-36 s es n))
 
     module _ (is : accepts (unitsAt s es) ≡ true) where
@@ -236,7 +236,7 @@ module _ (s es : List ℕ) (cue : ℕ) (d : List ℕ) where
       us-count = units-cut s es us us-are .count
 
       play-cued : result ≡ fromCue (length d) cue us
-      unfolding playFrom
+      unfolding playFrom andNext
       play-cued = rw (le-leb (length s) limit short, us-are)
 
       pub play-outside : (ltb cue 1 || ltb (length es) cue) ≡ true → Tells (refused 36) d

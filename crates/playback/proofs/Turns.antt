@@ -12,7 +12,7 @@ use lib.Dec.{ltb}
 use borrow.Author.Tests.{ne-eqb, ltb-true, ltb-false}
 use Rattle.bitio.specs.Parse.{accepted, andNext}
 use Rattle.bitio.specs.Limits.{limit}
-use Rattle.bitio.proofs.ParseLaws.{Every}
+use Rattle.bitio.specs.Every.{Every}
 use Rattle.obu.specs.Unit.{firstPayload, ofUnit}
 use Rattle.header.specs.Sequence.{Sequence, parseSequence}
 use Rattle.header.specs.Support.{support}

@@ -10,8 +10,8 @@ use lib.Dec.{eqb}
 use borrow.Author.Tests.{eqb-true}
 use Rattle.bitio.specs.Parse.{Answer, refused, accepted, andNext}
 use Rattle.bitio.specs.Leb.{lebWrite, lebBytes, framed}
-use Rattle.bitio.proofs.ParseLaws.{Every}
-use Rattle.bitio.proofs.ParseLaws.Every.{none as nothing, also}
+use Rattle.bitio.specs.Every.{Every}
+use Rattle.bitio.specs.Every.Every.{none as nothing, also}
 use Rattle.obu.specs.Obu.{Obu, passes, obuBytes, unitBytes}
 use Rattle.obu.specs.Unit.{isType, has, count, firstPayload}
 use Rattle.obu.specs.declared.unit.Kind.the-variants.{TemporalDelimiter, Frame as FrameObu}

@@ -321,7 +321,7 @@ module _ (c : Container) (l p e s d m : List ℕ) where
             P = playFrom (length g) cue (take (n - 0) (drop 0 b′)) (take (u - 0) (drop 0 f′))
 
             played : playFrom (length g) cue (streamBytes (back-sized .units)) (endsOf 0 (back-sized .units)) ≡ fromCue (length g) cue (back-sized .units)
-            unfolding playFrom streamBytes
+            unfolding playFrom streamBytes andNext
             played = rw (le-leb (length (streamBytes (back-sized .units))) limit (back-fits .small), units-there 0 (back-sized .units))
 
             shown-whole : P ≡ S

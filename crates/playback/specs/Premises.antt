@@ -4,7 +4,7 @@ use mathlib.Core.Path.{_≡_}
 use mathlib.Core.List.{List, [], _∷_}
 use mathlib.Core.Bool.{Bool, true, false}
 use Rattle.bitio.specs.Parse.{accepted}
-use Rattle.bitio.proofs.ParseLaws.{Every}
+use Rattle.bitio.specs.Every.{Every}
 use Rattle.obu.specs.Obu.{Obu, obus, Written}
 use Rattle.obu.specs.Unit.{isKind, count, firstPayload, ofUnit}
 use Rattle.obu.specs.declared.unit.Kind.the-variants.{TemporalDelimiter}

@@ -6,10 +6,9 @@ use mathlib.Core.Bool.{cond as pick, _&&_}
 use mathlib.Core.Option.{Option, none, some}
 use lib.ListN.{length, getD, drop}
 use lib.Dec.{leb}
-use Rattle.bitio.specs.Parse.{Answer, refused, accepted, answer}
+use Rattle.bitio.specs.Parse.{Answer, refused, accepted, answer, andNext}
 use Rattle.obu.specs.Place.{part}
 use Rattle.container.specs.Limits.{led34}
-use Rattle.container.specs.Container.{after}
 use Rattle.container.specs.Units.{unitsAt}
 use Rattle.player.specs.Player.{State, start, Played, play, leaves}
 use Rattle.player.specs.declared.slots.Answer.{Answer as CodeAnswer}
@@ -53,7 +52,7 @@ fromCue room cue us =
 
 -- units in lent memory, s their bytes and es their ends: 34 leads, 36 is next
 unfoldable pub playFrom : ℕ → ℕ → List ℕ → List ℕ → Answer (List ℕ)
-playFrom room cue s es = led34 (length s) (after (unitsAt s es) (fromCue room cue))
+playFrom room cue s es = led34 (length s) (andNext (unitsAt s es) (fromCue room cue))
 
 -- 01's number, or how many positions have their number
 abbrev pub showsSay : Shows → Answer ℕ

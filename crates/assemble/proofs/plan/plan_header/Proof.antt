@@ -8,7 +8,8 @@ use Rattle.assemble.specs.Assemble.{readHeader, sameHeaders}
 use Rattle.assemble.specs.Sizes.{checkedSays}
 use Rattle.assemble.specs.Code.{laterSegments}
 use Rattle.assemble.specs.Says.{sequenceIn}
-use Rattle.assemble.specs.Stages.{rateOf, firstKey, obuIn}
+use Rattle.assemble.specs.Stages.{rateOf, firstKey}
+use Rattle.assemble.specs.Rewrite.{obuIn}
 use Rattle.assemble.proofs.PlanLaws.{says-refused, says-refused-in, header-refused, header-other, header-same}
 use Rattle.assemble.proofs.plan.plan_header.Statement.{statement}
 use Rattle.assemble.proofs.plan.plan_header.Tie as tie

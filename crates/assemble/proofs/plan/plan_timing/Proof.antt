@@ -3,7 +3,8 @@ use borrow.Author.Needs.{needs}
 use mathlib.Core.Path.{refl, sym, ap, _∙_}
 use denote.Ref.{now}
 use Rattle.header.specs.Sequence.{sequenceOf, sequenceSays}
-use Rattle.assemble.specs.Stages.{rateOf, firstKey, obuIn}
+use Rattle.assemble.specs.Stages.{rateOf, firstKey}
+use Rattle.assemble.specs.Rewrite.{obuIn}
 use Rattle.assemble.proofs.PlanLaws.{timing-there, timing-new, header-own, never-refused, timed-whole, timed-emits}
 use Rattle.assemble.proofs.plan.plan_timing.Statement.{statement}
 use Rattle.assemble.proofs.plan.plan_timing.Tie as tie
