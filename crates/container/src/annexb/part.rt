@@ -5,7 +5,7 @@ ghost use mathlib.Core.Bool.{cond as pick};
 ghost use Prim.Native.Nat.{_-_, _^_, _≤_, min};
 ghost use lib.ListN.{length};
 ghost use Rattle.bitio.specs.Parse.{before};
-ghost use Rattle.bitio.specs.Leb.{sized};
+ghost use Rattle.bitio.specs.Leb.{readLeb, lebAnswer, sized};
 ghost use Rattle.obu.specs.Obu.{passes, obuType};
 ghost use Rattle.obu.specs.Place.{wrong, placed, refusalOf, extensionSays};
 ghost use Rattle.obu.specs.Write.{obuLength};
@@ -28,12 +28,25 @@ pub enum InnerAt {
     Refused(u32),
 }
 
+// The number at the head of s. Most have one byte, which is read here without a call.
+fn length_of(s: &[u8]) -> Leb
+    ensures { λ r. ⌜ r ≡ lebAnswer (now (s .entry)) (readLeb (now (s .entry))) ⌝ }
+{
+    if s.len() > 0 {
+        let first = s[0];
+        if first < 128 {
+            return Leb::Value(first as u64, 1);
+        }
+    }
+    bitio::leb128::leb128(s)
+}
+
 // The number at `at` and as many bytes as it says, all before `end`; bad: no such number, over: too few bytes.
 pub(crate) fn part_at(s: &[u8], at: usize, end: usize, bad: u32, over: u32) -> PartAt
     requires { ⌜ (at ≤ end) × (end ≤ length (now s)) ⌝ }
     ensures { λ r. ⌜ partSays r ≡ spotOf end (sized bad over (span (now (s .entry)) at end)) ⌝ }
 {
-    let Leb::Value(size, used) = bitio::leb128::leb128(&s[at..end]) else {
+    let Leb::Value(size, used) = length_of(&s[at..end]) else {
         return PartAt::Refused(bad);
     };
     let start = at + used;

@@ -27,19 +27,19 @@ got : (c : tie.After-size)
 unfolding span
 got c =
     let b = c .before .before .before .before .before in
-    number-at (now (b .args .s)) (b .args .at) (b .args .end) _ _ (b .pre .0) (b .pre .1) (sym (c .before .before .leb128 .ensures) ∙ c .size .given .1)
+    number-at (now (b .args .s)) (b .args .at) (b .args .end) _ _ (b .pre .0) (b .pre .1) (sym (c .before .before .length-of .ensures) ∙ c .size .given .1)
 
-sub-leb128 : tie.Need-sub-leb128
-sub-leb128 c = search needs
+sub-length-of : tie.Need-sub-length-of
+sub-length-of c = search needs
 
-part-leb128-start : tie.Need-part-leb128-start
-part-leb128-start c = search needs
+part-length-of-start : tie.Need-part-length-of-start
+part-length-of-start c = search needs
 
-part-leb128-end : tie.Need-part-leb128-end
-part-leb128-end c = search needs
+part-length-of-end : tie.Need-part-length-of-end
+part-length-of-end c = search needs
 
-leb128-requires : tie.Need-leb128-requires
-leb128-requires c κs = search needs
+length-of-requires : tie.Need-length-of-requires
+length-of-requires c κs = search needs
 
 enum-known-size : tie.Need-enum-known-size
 enum-known-size c = search needs
@@ -51,7 +51,7 @@ returns : tie.Need-returns
 unfolding span
 returns c =
     let a = c .before .before .before .before .before .args in
-    part-none (now (a .s)) (a .at) (a .end) _ _ (is-bad (span (now (a .s)) (a .at) (a .end)) (sym (c .before .before .leb128 .ensures) ∙ c .enum-told .given .1))
+    part-none (now (a .s)) (a .at) (a .end) _ _ (is-bad (span (now (a .s)) (a .at) (a .end)) (sym (c .before .before .length-of .ensures) ∙ c .enum-told .given .1))
 
 add-start : tie.Need-add-start
 add-start c = omega (arith, got (c .before) .1)
@@ -78,10 +78,10 @@ pub part-at-spec : {M : Type 1} → statement M
 part-at-spec =
     tie.close
     (tie.spec
-    sub-leb128
-    part-leb128-start
-    part-leb128-end
-    leb128-requires
+    sub-length-of
+    part-length-of-start
+    part-length-of-end
+    length-of-requires
     enum-known-size
     enum-told
     returns
