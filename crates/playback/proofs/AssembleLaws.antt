@@ -27,11 +27,12 @@ use Rattle.assemble.specs.Blocks.{total}
 use Rattle.assemble.specs.Segments.{Segment, framesOf, inside, segmentAt, segmentsFrom, segmentsOf}
 use Rattle.assemble.specs.Prepare.{isSequence, isFrame, Settings, timedSequence, effective, renewal, sent, firstFrame, keyOk, goldenFlags, slotOf, Prepared, prepare}
 use Rattle.assemble.specs.Assemble.{Outcome, stopped, made, andAlso, inSegment, overall, noneEmpty, sizes, readHeader, sameBytes, sameHeader, sameHeaders, headerObu, prepareAll, Output, outputOf, Room, fits, assembled, assemble}
-use Rattle.playback.specs.Kinds.{unitFrame}
+use Rattle.player.proofs.StepLaws.{link}
+use Rattle.player.specs.Player.{unitFrame}
 use Rattle.playback.specs.Premises.{listHeader, Premise, Premises, InFields}
 use Rattle.playback.proofs.HeaderLaws.{timed-short, timed-back, timed-fine}
 use Rattle.playback.proofs.PlayerLaws.{sole-is}
-use Rattle.playback.proofs.UnitLaws.{link, first-is, outgoing, Short, Out, goes-out}
+use Rattle.playback.proofs.UnitLaws.{first-is, outgoing, Short, Out, goes-out}
 
 -- ---- an accepted chain was accepted at each link
 

@@ -24,7 +24,7 @@ use Rattle.header.specs.Frame.{showExisting, frameStart, orderHint, removalTime
 use Rattle.assemble.specs.Segments.{Segment, segmentAt, segmentsFrom, segmentsOf}
 use Rattle.assemble.specs.Assemble.{named, unitsOf}
 use Rattle.assemble.specs.Checks.{unitK, unitG, pictureKG, rangesKG, roomKG, settingsKG, outputKG, listing}
-use Rattle.player.specs.Player.{refresh, State, start, keep, soleFrame, play, leaves}
+use Rattle.player.specs.Player.{refresh, State, start, keepAs, soleFrame, play, leaves}
 use Rattle.playback.specs.Premises.{Premise, Premises}
 use Rattle.playback.specs.Demand.{Demand}
 use Rattle.playback.proofs.Demand3.{demand3}
@@ -96,9 +96,9 @@ answers st p (u ∷ us) = answer (λ r. r .shown) (play st p u) ∷ answers (lea
 
 -- from the cue 1 on: key, golden, the golden twice again, the second key; from the cue 5 on
 from-one : answers start 1 (unitsOf outputKG) ≡ accepted (some 1) ∷ accepted (some 2) ∷ accepted (some 2) ∷ accepted (some 2) ∷ accepted (some 5) ∷ []
-unfolding many manyF andNext bitAt bitsAt bitsWithin readBits leadingZeros uvlcSuffix uvlc lebRead readLeb sized passes headObuOf obusOf isType count firstPayload readFlag readOr flagOr uvlcOr timingInfo decoderModelInfo opening operatingPoint operatingPoints frameSize frameIds codingTools screenTools filters colorDescription colorSampling coding sequenceHeader parseSequence support showExisting frameStart orderHint removalTimes bufferRemoval frameInfo frameBits frameHeader parseFrame refresh keep soleFrame play answers part named unitsOf
+unfolding many manyF andNext bitAt bitsAt bitsWithin readBits leadingZeros uvlcSuffix uvlc lebRead readLeb sized passes headObuOf obusOf isType count firstPayload readFlag readOr flagOr uvlcOr timingInfo decoderModelInfo opening operatingPoint operatingPoints frameSize frameIds codingTools screenTools filters colorDescription colorSampling coding sequenceHeader parseSequence support showExisting frameStart orderHint removalTimes bufferRemoval frameInfo frameBits frameHeader parseFrame refresh keepAs soleFrame play answers part named unitsOf
 from-one = refl
 
 from-five : answers start 5 (drop 4 (unitsOf outputKG)) ≡ accepted (some 5) ∷ []
-unfolding many manyF andNext bitAt bitsAt bitsWithin readBits leadingZeros uvlcSuffix uvlc lebRead readLeb sized passes headObuOf obusOf isType count firstPayload readFlag readOr flagOr uvlcOr timingInfo decoderModelInfo opening operatingPoint operatingPoints frameSize frameIds codingTools screenTools filters colorDescription colorSampling coding sequenceHeader parseSequence support showExisting frameStart orderHint removalTimes bufferRemoval frameInfo frameBits frameHeader parseFrame refresh keep soleFrame play answers part named unitsOf
+unfolding many manyF andNext bitAt bitsAt bitsWithin readBits leadingZeros uvlcSuffix uvlc lebRead readLeb sized passes headObuOf obusOf isType count firstPayload readFlag readOr flagOr uvlcOr timingInfo decoderModelInfo opening operatingPoint operatingPoints frameSize frameIds codingTools screenTools filters colorDescription colorSampling coding sequenceHeader parseSequence support showExisting frameStart orderHint removalTimes bufferRemoval frameInfo frameBits frameHeader parseFrame refresh keepAs soleFrame play answers part named unitsOf
 from-five = refl

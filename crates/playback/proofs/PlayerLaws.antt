@@ -19,7 +19,8 @@ use Rattle.header.specs.Support.{support}
 use Rattle.header.specs.Frame.{parseFrame}
 use Rattle.header.specs.declared.frame_header.FrameHeaderInfo.{FrameHeaderInfo}
 use Rattle.assemble.specs.Prepare.{isSequence, isFrame, lowest}
-use Rattle.player.specs.Player.{Slot, empty, refresh, Shown, act, State, keep, soleFrame, play}
+use Rattle.player.specs.Player.{empty, refresh, Shown, act, State, keepAs, keep, soleFrame, play}
+use Rattle.player.specs.declared.slots.Slot.{Slot}
 use Rattle.playback.specs.Premises.{Same}
 
 pub length-refresh : (flags : ℕ) (new : Slot) (ss : List Slot) → length (refresh flags new ss) ≡ length ss
@@ -50,7 +51,7 @@ hit flags new (s ∷ ss) h k = go (λ a b. hit (flags / 2) new ss a b) (eqb (fla
 module _ (s : List ℕ) (q : Sequence) (read : parseSequence s ≡ accepted q) (fine : support (q .header) ≡ accepted tt) where
   -- a unit whose sequence payloads are all s leaves its header
   pub keep-same : {os : List Obu} → Every (Same s) os → keep (some q) os ≡ accepted (some q)
-  unfolding keep andNext
+  unfolding keepAs andNext
   keep-same nothing = refl
   keep-same (also {a = o} {l = os} e es) = go (isSequence o) e (keep-same es)
     where
@@ -60,7 +61,7 @@ module _ (s : List ℕ) (q : Sequence) (read : parseSequence s ≡ accepted q) (
       go false w ih = ih
 
   pub keep-first : (k : Option Sequence) {os : List Obu} → Every (Same s) os → has isSequence os ≡ true → keep k os ≡ accepted (some q)
-  unfolding keep andNext has
+  unfolding keepAs andNext has
   keep-first k nothing h = let z : _≡_ {A = ℕ} 0 1 = cc in absurd (omega arith)
   keep-first k (also {a = o} {l = os} e es) h = go (isSequence o) e h (λ w. keep-first k es w)
     where

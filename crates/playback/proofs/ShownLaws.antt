@@ -5,6 +5,7 @@ use native.Mathlib.Numerals.{add-one}
 use mathlib.Core.Path.{_≡_, refl, sym, ap, ap₂, _∙_}
 use mathlib.Core.List.{List, [], _∷_, _++_, append-assoc, append-nil}
 use mathlib.Core.Bool.{Bool, true, false, cond as pick, _||_, _&&_}
+use mathlib.Core.Option.{Option, none, some}
 use lib.ListN.{length, getD, take, drop, set, length-append, length-drop, drop-of-length-le}
 use lib.Seq.{drop-cons, drop-drop}
 use lib.Dec.{leb, ltb, eqb}
@@ -17,19 +18,24 @@ use Rattle.obu.specs.Place.{part}
 use Rattle.container.specs.Units.{unitsFrom, unitsAt, countOf, outAfter}
 use Rattle.container.specs.Lists.{accepts}
 use Rattle.container.proofs.CutLaws.{accepted-is, refused-36}
-use Rattle.player.specs.Player.{State, start, play, leaves}
-use Rattle.player.specs.Code.{stateSays, playedIn, playedSays}
-use Rattle.player.specs.declared.slots.Answer.{Answer as CodeAnswer}
-use Rattle.player.specs.declared.slots.Answer.the-variants.{Shown, Nothing, Refused}
+use Rattle.player.specs.Player.{State, start, Played, play, leaves}
+use Rattle.player.specs.Code.{shows, keptBehind, stateSays, playedOn, playedBy}
 use Rattle.player.specs.declared.step.State.{State as CodeState}
 use Rattle.player.specs.declared.step.Played.{Played as CodePlayed}
-use Rattle.playback.specs.Shown.{shownNumber, codeNumber, shownFrom, shownBy, fromCue, playFrom, unitIn, CanPlay}
+use Rattle.playback.specs.Shown.{positionNumber, shownNumber, codeNumber, shownFrom, shownBy, fromCue, playFrom, unitIn, CanPlay}
 
 -- the code's number is the answer's
-number-says : (a : CodeAnswer) (s : CodeState) → codeNumber a ≡ shownNumber (playedIn a s)
-number-says (Shown q) s = refl
-number-says Nothing s = refl
-number-says (Refused n) s = refl
+pub number-says : (st : CodeState) (p : ℕ) (u : List ℕ) → codeNumber (playedBy st p u .answer) ≡ shownNumber (play (stateSays st) p u)
+unfolding playedBy
+number-says st p u = go (play (stateSays st) p u)
+  where
+    position : (o : Option ℕ) → codeNumber (shows o) ≡ positionNumber o
+    position none = refl
+    position (some q) = refl
+
+    go : (x : Answer Played) → codeNumber (playedOn st (keptBehind (st .kept) u .kept) x .answer) ≡ shownNumber x
+    go (refused n) = refl
+    go (accepted r) = position (r .shown)
 
 -- the end before unit i
 pub start-before : (es : List ℕ) (i : ℕ) → (i ≡ 0 → ⊥) → getD es (i - 1) 0 ≡ getD (0 ∷ es) i 0
@@ -39,11 +45,6 @@ start-before es (suc i) h = ap (λ n. getD es n 0) (omega arith)
 -- unit i, by where it starts and ends
 pub unit-at : (s es : List ℕ) (i : ℕ) {a : ℕ} {v : List ℕ} → a ≡ getD (0 ∷ es) i 0 → v ≡ part s a (getD es i 0) → v ≡ unitIn s es i
 unit-at s es i q w = w ∙ ap (λ x. part s x (getD es i 0)) q
-
--- what is played is a unit of the list
-pub played-at : (r : CodePlayed) (st : State) (p : ℕ) {v u : List ℕ} → playedSays r ≡ play st p v → stateSays (r .state) ≡ leaves st (play st p v) → v ≡ u
-    → (playedSays r ≡ play st p u) × (stateSays (r .state) ≡ leaves st (play st p u))
-played-at r st p says left e = (says ∙ ap (λ y. play st p y) e, left ∙ ap (λ y. leaves st (play st p y)) e)
 
 -- ---- units cut from their bytes
 
@@ -150,7 +151,7 @@ module _ {s es : List ℕ} {cue : ℕ} {d : List ℕ} {st : State} {i k : ℕ} {
     pub playing-slot : k < length o
     playing-slot = omega (arith, playing-long, z .can .room, z .place)
 
-    module _ (r : CodePlayed) (says : playedSays r ≡ play st (i + 1) (unitIn s es i)) (left : stateSays (r .state) ≡ leaves st (play st (i + 1) (unitIn s es i))) where
+    module _ (r : CodePlayed) (says : codeNumber (r .answer) ≡ shownNumber (play st (i + 1) (unitIn s es i))) (left : stateSays (r .state) ≡ leaves st (play st (i + 1) (unitIn s es i))) where
       abbrev u : List ℕ
       u = getD all i []
 
@@ -161,7 +162,7 @@ module _ {s es : List ℕ} {cue : ℕ} {d : List ℕ} {st : State} {i k : ℕ} {
       same = ap₂ (λ n v. play st n v) (add-one i) (sym u-is)
 
       number-is : codeNumber (r .answer) ≡ shownNumber (play st (suc i) u)
-      number-is = number-says (r .answer) (r .state) ∙ ap shownNumber (says ∙ same)
+      number-is = says ∙ ap shownNumber same
 
       state-is : stateSays (r .state) ≡ leaves st (play st (suc i) u)
       state-is = left ∙ ap (leaves st) same

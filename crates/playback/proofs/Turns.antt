@@ -22,8 +22,9 @@ use Rattle.assemble.specs.Blocks.{Kind, Key, Golden, Show, Entry, number, layou
 use Rattle.assemble.specs.Segments.{Segment, framesOf}
 use Rattle.assemble.specs.Prepare.{isSequence, Settings, effective, renewal, Prepared, showUnit}
 use Rattle.assemble.specs.Assemble.{pictureOf, endsFrom, showsOf, named, unitsOf}
-use Rattle.player.specs.Player.{Slot, empty, filled, refresh, State, start, play, leaves}
-use Rattle.playback.specs.Kinds.{unitFrame, unitKind, saysKey, isKeyUnit, unitAt, segmentOf}
+use Rattle.player.specs.Player.{empty, filled, refresh, State, start, play, leaves, unitFrame}
+use Rattle.player.specs.declared.slots.Slot.{Slot}
+use Rattle.playback.specs.Kinds.{unitKind, saysKey, isKeyUnit, unitAt, segmentOf}
 use Rattle.playback.specs.Premises.{firstSequence, Premise}
 use Rattle.playback.specs.Courses.{Course, done, plays, noise, Throughout}
 use Rattle.playback.specs.Demand.{Rising, noSegment, IsUnit, Listed, PlaysRight}

@@ -8,7 +8,7 @@ use mathlib.Core.Option.{Option, none, some}
 use lib.ListN.{length}
 use lib.Dec.{eqb}
 use borrow.Author.Tests.{eqb-true}
-use Rattle.bitio.specs.Parse.{Answer, refused, accepted, andNext}
+use Rattle.bitio.specs.Parse.{accepted, andNext}
 use Rattle.bitio.specs.Leb.{lebWrite, lebBytes, framed}
 use Rattle.bitio.specs.Every.{Every}
 use Rattle.bitio.specs.Every.Every.{none as nothing, also}
@@ -20,13 +20,6 @@ use Rattle.container.proofs.StreamLaws.{leads}
 use Rattle.container.proofs.RoundTrip.{Whole}
 use Rattle.assemble.specs.Prepare.{isSequence, isFrame, firstOf, renewed, sent, showByte, showUnit}
 use Rattle.playback.specs.Premises.{isDelimiter, Delimited, Same, Premise}
-
--- ---- an accepted chain was accepted at each link
-
-pub link : {A B R : Type 0} (t : Answer A) (k : A → Answer B) (b : B) → andNext t k ≡ accepted b → ((a : A) → t ≡ accepted a → k a ≡ accepted b → R) → R
-unfolding andNext
-link (accepted a) k b e f = f a refl e
-link (refused n) k b e f = let z : _≡_ {A = ℕ} 0 1 = cc in absurd (omega arith)
 
 -- ---- the first OBU of a kind
 

@@ -18,8 +18,8 @@ use Rattle.assemble.specs.Blocks.{Kind, Key, Golden, Show, number, listOf, posi
 use Rattle.assemble.specs.Segments.{Segment, framesOf}
 use Rattle.assemble.specs.Prepare.{Settings, effective, renewal, sent, slotOf, showUnit}
 use Rattle.assemble.specs.Assemble.{Output, unitsOf}
-use Rattle.player.specs.Player.{empty, filled, State, start, play}
-use Rattle.playback.specs.Kinds.{unitFrame, unitKind, isKeyUnit, unitAt, segmentOf}
+use Rattle.player.specs.Player.{empty, filled, State, start, play, unitFrame}
+use Rattle.playback.specs.Kinds.{unitKind, isKeyUnit, unitAt, segmentOf}
 use Rattle.playback.specs.Premises.{firstSequence, listHeader}
 use Rattle.playback.specs.Courses.{Course, Throughout}
 

@@ -5,22 +5,17 @@ use mathlib.Core.Bool.{Bool, false, true, cond as pick, _&&_}
 use lib.ListN.{getD}
 use lib.Dec.{eqb, ltb}
 use Rattle.bitio.specs.Parse.{Answer, refused, accepted, andNext}
-use Rattle.obu.specs.Obu.{obus}
 use Rattle.header.specs.Sequence.{Sequence}
-use Rattle.header.specs.Frame.{keyFrame, parseFrame}
+use Rattle.header.specs.Frame.{keyFrame}
 use Rattle.header.specs.declared.frame_header.FrameHeaderInfo.{FrameHeaderInfo}
 use Rattle.header.specs.declared.frame_header.FrameHeaderInfo.the-variants.{Existing, Frame}
 use Rattle.assemble.specs.Blocks.{Kind, Key, Golden, Show}
-use Rattle.player.specs.Player.{soleFrame}
+use Rattle.player.specs.Player.{unitFrame}
 
 -- 01: a unit whose frame is a shown key is a key unit, one whose frame is show-existing a show unit, any other a golden unit
 abbrev pub frameKind : FrameHeaderInfo → Kind
 frameKind (Existing slot) = Show
 frameKind (Frame f) = pick (eqb (f .«frame_type») keyFrame && f .«show_frame») Key Golden
-
--- the frame of a unit under the sequence header q
-unfoldable pub unitFrame : Sequence → List ℕ → Answer FrameHeaderInfo
-unitFrame q u = andNext (obus u) (λ os. andNext (soleFrame os) (λ f. parseFrame q f))
 
 unfoldable pub unitKind : Sequence → List ℕ → Answer Kind
 unitKind q u = andNext (unitFrame q u) (λ x. accepted (frameKind x))

@@ -5,8 +5,7 @@ ghost use Prim.Native.Nat.{_+_, _≤_, _<_};
 ghost use lib.ListN.{length, getD};
 ghost use Rattle.bitio.specs.Parse.{answer};
 ghost use Rattle.container.specs.Units.{unitsAt, countOf, outAfter};
-ghost use Rattle.player.specs.Player.{play, leaves};
-ghost use Rattle.player.specs.Code.{stateSays, playedSays};
+ghost use Rattle.player.specs.Code.{playedBy};
 ghost use Rattle.playback.specs.Shown.{codeNumber, shownBy, playFrom, showsSay, unitIn, CanPlay};
 use container::lists::check_ends;
 use obu::reader::payload;
@@ -48,8 +47,7 @@ fn start_of(ends: &[u32], i: usize) -> usize
 // Unit i, played under its position, i + 1.
 fn play_at(state: State, units: &[u8], ends: &[u32], i: usize) -> Played
     requires { ⌜ i < length (now ends) ⌝ }
-    ensures { λ r. ⌜ playedSays r ≡ play (stateSays state) (i + 1) (unitIn (now (units .entry)) (now (ends .entry)) i) ⌝ }
-    ensures { λ r. ⌜ stateSays (r .state) ≡ leaves (stateSays state) (play (stateSays state) (i + 1) (unitIn (now (units .entry)) (now (ends .entry)) i)) ⌝ }
+    ensures { λ r. ⌜ r ≡ playedBy state (i + 1) (unitIn (now (units .entry)) (now (ends .entry)) i) ⌝ }
 {
     let start = start_of(ends, i);
     let end = ends[i] as usize;

@@ -1,23 +1,27 @@
--- Laws of the kept header: one payload read in the code, and a walk over a unit's OBUs. Assumes nothing.
+-- Laws of the kept header: one payload read in the code, a walk over a unit's OBUs, and what is kept behind it. Assumes nothing.
 use Prim.Native.Nat.{ℕ}
 use native.Mathlib.Omega.{arith}
-use mathlib.Core.Path.{_≡_, refl, sym, ap, _∙_}
+use mathlib.Core.Path.{_≡_, refl, sym, ap, ap₂, _∙_}
 use mathlib.Core.List.{List, [], _∷_, _++_}
 use mathlib.Core.Bool.{Bool, true, false, cond as pick}
 use mathlib.Core.Option.{Option, some}
-use Rattle.bitio.specs.Parse.{Answer, refused, accepted, andNext}
-use Rattle.obu.specs.Obu.{Obu}
+use Rattle.bitio.specs.Parse.{Answer, refused, accepted, answer, andNext}
+use Rattle.obu.specs.Obu.{Obu, obus}
 use Rattle.obu.specs.Unit.{isKind}
 use Rattle.obu.specs.declared.unit.Kind.the-variants.{SequenceHeader}
-use Rattle.header.specs.Sequence.{Sequence, parseSequence, sequenceRead, sequenceOf}
+use Rattle.header.specs.Sequence.{Sequence, parseSequence, sequenceRead}
 use Rattle.header.specs.SequencePoints.{padded}
 use Rattle.header.specs.Support.{support}
 use Rattle.header.specs.declared.seq_header.SequenceHeader.{SequenceHeader as Header′}
 use Rattle.header.specs.declared.seq_header.SequenceAnswer.the-variants.{Header, Refused}
 use Rattle.header.specs.declared.seq_header.SequenceRead.{SequenceRead}
 use Rattle.header.proofs.FrameFromLaws.{read-whole}
-use Rattle.player.specs.Player.{keep}
-use Rattle.player.specs.Code.{headerKept}
+use Rattle.player.specs.Player.{keepAs, keep}
+use Rattle.player.specs.Code.{keptOf, keptSays, headersSay, keeping, headerKept, keptBehind}
+use Rattle.player.specs.declared.keep.Last.the-variants.{Header as Keeps}
+use Rattle.player.specs.declared.keep.Kept.{Kept}
+use Rattle.player.specs.declared.keep.Headers.the-variants.{Read, Refused as RefusedAt}
+use Rattle.player.specs.declared.keep.Keeping.{Keeping}
 
 -- what the code answers for a sequence payload, and what is kept then
 module _ (s : List ℕ) (r : SequenceRead) (p : r ≡ sequenceRead (parseSequence s)) where
@@ -25,27 +29,25 @@ module _ (s : List ℕ) (r : SequenceRead) (p : r ≡ sequenceRead (parseSequenc
   unfolding headerKept andNext
   header-refused k a = go (parseSequence s) p
     where
-      go : (x : Answer Sequence) → r ≡ sequenceRead x → refused k ≡ andNext x (λ q. andNext (support (q .header)) (λ _. accepted (some q)))
+      go : (x : Answer Sequence) → r ≡ sequenceRead x → refused k ≡ andNext x (λ q. andNext (support (q .header)) (λ _. accepted (keptOf q)))
       go (refused j) p =
           let z : Refused j ≡ Refused k = sym (ap (λ y. y .answer) p) ∙ a in
           let i : k ≡ j = cc in
           ap (λ y. refused y) i
       go (accepted q) p = let z : Header (q .header) ≡ Refused k = sym (ap (λ y. y .answer) p) ∙ a in let w : _≡_ {A = ℕ} 0 1 = cc in absurd (omega arith)
 
-  pub header-read : (h : Header′) → r .answer ≡ Header h → headerKept s ≡ andNext (support h) (λ _. accepted (some (sequenceOf h (r .«operating_points»))))
+  pub header-read : (h : Header′) → r .answer ≡ Header h → headerKept s ≡ andNext (support h) (λ _. accepted (record { last = Keeps h; points = r .«operating_points» }))
   unfolding headerKept andNext
-  header-read h a = go (parseSequence s) refl p
+  header-read h a = go (parseSequence s) p
     where
-      go : (x : Answer Sequence) → parseSequence s ≡ x → r ≡ sequenceRead x
-          → andNext x (λ q. andNext (support (q .header)) (λ _. accepted (some q))) ≡ andNext (support h) (λ _. accepted (some (sequenceOf h (r .«operating_points»))))
-      go (refused k) e p = let z : Refused k ≡ Header h = sym (ap (λ y. y .answer) p) ∙ a in let w : _≡_ {A = ℕ} 0 1 = cc in absurd (omega arith)
-      go (accepted q) e p =
+      go : (x : Answer Sequence) → r ≡ sequenceRead x
+          → andNext x (λ q. andNext (support (q .header)) (λ _. accepted (keptOf q))) ≡ andNext (support h) (λ _. accepted (record { last = Keeps h; points = r .«operating_points» }))
+      go (refused k) p = let z : Refused k ≡ Header h = sym (ap (λ y. y .answer) p) ∙ a in let w : _≡_ {A = ℕ} 0 1 = cc in absurd (omega arith)
+      go (accepted q) p =
           let z : Header (q .header) ≡ Header h = sym (ap (λ y. y .answer) p) ∙ a in
           let i : q .header ≡ h = cc in
           let j : padded (q .points) ≡ r .«operating_points» = sym (ap (λ y. y .«operating_points») p) in
-          let w : q ≡ sequenceOf h (r .«operating_points») =
-          sym (read-whole s q e) ∙ ap (λ y. sequenceOf (q .header) y) j ∙ ap (λ y. sequenceOf y (r .«operating_points»)) i in
-          ap (λ y. andNext (support y) (λ _. accepted (some q))) i ∙ ap (λ y. andNext (support h) (λ _. accepted (some y))) w
+          ap₂ (λ y ps. andNext (support y) (λ _. accepted (record { last = Keeps y; points = ps }))) i j
 
 -- ---- one OBU more
 
@@ -54,39 +56,102 @@ unfolding andNext
 next-none (refused k) = refl
 next-none (accepted a) = refl
 
-module _ (o : Obu) (f : Option Sequence → Answer (Option Sequence)) (e : (k : Option Sequence) → keep k (o ∷ []) ≡ f k) where
-  keep-next : (front : List Obu) (k : Option Sequence) → keep k (front ++ (o ∷ [])) ≡ andNext (keep k front) f
-  unfolding keep andNext
+module _ (o : Obu) (f : Kept → Answer Kept) (e : (k : Kept) → keepAs keptOf k (o ∷ []) ≡ f k) where
+  keep-next : (front : List Obu) (k : Kept) → keepAs keptOf k (front ++ (o ∷ [])) ≡ andNext (keepAs keptOf k front) f
+  unfolding keepAs andNext
   keep-next [] k = e k
   keep-next (x ∷ xs) k = go (isKind SequenceHeader x) (parseSequence (x .payload)) (keep-next xs)
     where
-      two : (q : Sequence) (y : Answer Unit) → ((k : Option Sequence) → keep k (xs ++ (o ∷ [])) ≡ andNext (keep k xs) f)
-          → andNext y (λ _. keep (some q) (xs ++ (o ∷ []))) ≡ andNext (andNext y (λ _. keep (some q) xs)) f
+      two : (q : Sequence) (y : Answer Unit) → ((k : Kept) → keepAs keptOf k (xs ++ (o ∷ [])) ≡ andNext (keepAs keptOf k xs) f)
+          → andNext y (λ _. keepAs keptOf (keptOf q) (xs ++ (o ∷ []))) ≡ andNext (andNext y (λ _. keepAs keptOf (keptOf q) xs)) f
       two q (refused n) ih = refl
-      two q (accepted u) ih = ih (some q)
+      two q (accepted u) ih = ih (keptOf q)
 
-      go : (b : Bool) (a : Answer Sequence) → ((k : Option Sequence) → keep k (xs ++ (o ∷ [])) ≡ andNext (keep k xs) f)
-          → pick b (andNext a (λ q. andNext (support (q .header)) (λ _. keep (some q) (xs ++ (o ∷ []))))) (keep k (xs ++ (o ∷ [])))
-          ≡ andNext (pick b (andNext a (λ q. andNext (support (q .header)) (λ _. keep (some q) xs))) (keep k xs)) f
+      go : (b : Bool) (a : Answer Sequence) → ((k : Kept) → keepAs keptOf k (xs ++ (o ∷ [])) ≡ andNext (keepAs keptOf k xs) f)
+          → pick b (andNext a (λ q. andNext (support (q .header)) (λ _. keepAs keptOf (keptOf q) (xs ++ (o ∷ []))))) (keepAs keptOf k (xs ++ (o ∷ [])))
+          ≡ andNext (pick b (andNext a (λ q. andNext (support (q .header)) (λ _. keepAs keptOf (keptOf q) xs))) (keepAs keptOf k xs)) f
       go false a ih = ih k
       go true (refused n) ih = refl
       go true (accepted q) ih = two q (support (q .header)) ih
 
-module _ (k : Option Sequence) (front : List Obu) (o : Obu) {x : Answer (Option Sequence)} (h : x ≡ keep k front) where
+module _ (k : Kept) (front : List Obu) (o : Obu) {x : Keeping} (h : x ≡ keeping k (keepAs keptOf k front)) where
+  so-far : (a b : Answer Kept) → andNext (headersSay (keeping k a .answer)) (λ _. b) ≡ andNext a (λ _. b)
+  unfolding andNext
+  so-far (refused n) b = refl
+  so-far (accepted j) b = refl
+
   -- a sequence header
-  pub turn-header : {p : List ℕ} {y : Answer (Option Sequence)} → isKind SequenceHeader o ≡ true → p ≡ o .payload → y ≡ andNext x (λ _. headerKept p) → y ≡ keep k (front ++ (o ∷ []))
-  unfolding keep headerKept
+  pub turn-header : {p : List ℕ} {y : Keeping} → isKind SequenceHeader o ≡ true → p ≡ o .payload → y ≡ keeping k (andNext (headersSay (x .answer)) (λ _. headerKept p)) → y ≡ keeping k (keepAs keptOf k (front ++ (o ∷ [])))
+  unfolding keepAs headerKept
   turn-header {p = p} t e g =
-      g ∙ ap (λ z. andNext z (λ _. headerKept p)) h ∙ ap (λ z. andNext (keep k front) (λ _. headerKept z)) e
-      ∙ sym (keep-next o (λ _. headerKept (o .payload)) one front k)
+      g ∙ ap (λ z. keeping k (andNext (headersSay (z .answer)) (λ _. headerKept p))) h
+      ∙ ap (keeping k) (so-far (keepAs keptOf k front) (headerKept p) ∙ ap (λ z. andNext (keepAs keptOf k front) (λ _. headerKept z)) e ∙ sym (keep-next o (λ _. headerKept (o .payload)) one front k))
     where
-      one : (k : Option Sequence) → keep k (o ∷ []) ≡ headerKept (o .payload)
+      one : (k : Kept) → keepAs keptOf k (o ∷ []) ≡ headerKept (o .payload)
       one k = rw t
 
   -- any other OBU
-  pub turn-other : isKind SequenceHeader o ≡ false → x ≡ keep k (front ++ (o ∷ []))
-  unfolding keep
-  turn-other t = h ∙ sym (keep-next o (λ j. accepted j) one front k ∙ next-none (keep k front))
+  pub turn-other : isKind SequenceHeader o ≡ false → x ≡ keeping k (keepAs keptOf k (front ++ (o ∷ [])))
+  unfolding keepAs
+  turn-other t = h ∙ ap (keeping k) (sym (keep-next o (λ j. accepted j) one front k ∙ next-none (keepAs keptOf k front)))
     where
-      one : (k : Option Sequence) → keep k (o ∷ []) ≡ accepted k
+      one : (k : Kept) → keepAs keptOf k (o ∷ []) ≡ accepted k
       one k = rw t
+
+-- ---- what is kept says what the definition keeps
+
+keep-says : (os : List Obu) (k : Kept) → answer keptSays (keepAs keptOf k os) ≡ keep (keptSays k) os
+unfolding keepAs andNext
+keep-says [] k = refl
+keep-says (o ∷ os) k = go (isKind SequenceHeader o) (parseSequence (o .payload)) refl (keep-says os)
+  where
+    two : (q : Sequence) (y : Answer Unit) → keptSays (keptOf q) ≡ some q → ((k : Kept) → answer keptSays (keepAs keptOf k os) ≡ keep (keptSays k) os)
+        → answer keptSays (andNext y (λ _. keepAs keptOf (keptOf q) os)) ≡ andNext y (λ _. keep (some q) os)
+    two q (refused n) e ih = refl
+    two q (accepted u) e ih = ih (keptOf q) ∙ ap (λ z. keep z os) e
+
+    go : (b : Bool) (a : Answer Sequence) → parseSequence (o .payload) ≡ a → ((k : Kept) → answer keptSays (keepAs keptOf k os) ≡ keep (keptSays k) os)
+        → answer keptSays (pick b (andNext a (λ q. andNext (support (q .header)) (λ _. keepAs keptOf (keptOf q) os))) (keepAs keptOf k os))
+        ≡ pick b (andNext a (λ q. andNext (support (q .header)) (λ _. keep (some q) os))) (keep (keptSays k) os)
+    go false a i ih = ih k
+    go true (refused n) i ih = refl
+    go true (accepted q) i ih = two q (support (q .header)) (ap (λ y. some y) (read-whole (o .payload) q i)) ih
+
+module _ (k : Kept) (u : List ℕ) where
+  abbrev kept : Answer Kept
+  kept = andNext (obus u) (keepAs keptOf k)
+
+  abbrev says : Answer (Option Sequence)
+  says = andNext (obus u) (keep (keptSays k))
+
+  behind-says : answer keptSays kept ≡ says
+  unfolding andNext
+  behind-says = go (obus u)
+    where
+      go : (x : Answer (List Obu)) → answer keptSays (andNext x (keepAs keptOf k)) ≡ andNext x (keep (keptSays k))
+      go (refused n) = refl
+      go (accepted os) = keep-says os k
+
+  pub behind-refused : (n : ℕ) → keptBehind k u .answer ≡ RefusedAt n → refused n ≡ says
+  unfolding keptBehind
+  behind-refused n e = go kept e ∙ behind-says
+    where
+      go : (x : Answer Kept) → keeping k x .answer ≡ RefusedAt n → refused n ≡ answer keptSays x
+      go (refused j) e = let i : n ≡ j = cc in ap (λ y. refused y) i
+      go (accepted j) e = let z : _≡_ {A = ℕ} 0 1 = cc in absurd (omega arith)
+
+  pub behind-read : keptBehind k u .answer ≡ Read → accepted (keptSays (keptBehind k u .kept)) ≡ says
+  unfolding keptBehind
+  behind-read e = go kept e ∙ behind-says
+    where
+      go : (x : Answer Kept) → keeping k x .answer ≡ Read → accepted (keptSays (keeping k x .kept)) ≡ answer keptSays x
+      go (refused n) e = let z : _≡_ {A = ℕ} 0 1 = cc in absurd (omega arith)
+      go (accepted j) e = refl
+
+  pub behind-kept : (q : Option Sequence) → says ≡ accepted q → keptSays (keptBehind k u .kept) ≡ q
+  unfolding keptBehind
+  behind-kept q e = go kept (behind-says ∙ e)
+    where
+      go : (x : Answer Kept) → answer keptSays x ≡ accepted q → keptSays (keeping k x .kept) ≡ q
+      go (refused n) e = let z : _≡_ {A = ℕ} 0 1 = cc in absurd (omega arith)
+      go (accepted j) e = cc

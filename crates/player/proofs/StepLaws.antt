@@ -3,9 +3,10 @@ use Prim.Native.Nat.{ℕ, _≤_, _<_}
 use native.Mathlib.Omega.{arith}
 use mathlib.Core.Path.{_≡_, refl, sym, ap, _∙_}
 use mathlib.Core.List.{List, []}
-use mathlib.Core.Bool.{true, false}
+use mathlib.Core.Bool.{Bool, true, false, cond as pick}
 use mathlib.Core.Option.{Option, none, some}
 use lib.ListN.{length}
+use lib.Dec.{ltb}
 use borrow.Author.Tests.{lt-ltb, le-ltb, ne-eqb}
 use Rattle.bitio.specs.Parse.{Answer, refused, accepted, answer, andNext}
 use Rattle.bitio.specs.Limits.{limit}
@@ -15,13 +16,16 @@ use Rattle.obu.specs.declared.unit.Kind.the-variants.{Frame as FrameObu}
 use Rattle.header.specs.Sequence.{Sequence, sequenceOf}
 use Rattle.header.specs.Frame.{parseFrame}
 use Rattle.header.specs.declared.frame_header.FrameHeaderInfo.{FrameHeaderInfo}
-use Rattle.player.specs.Player.{Slot, keep, known, soleFrame, act, State, Played, play, leaves}
-use Rattle.player.specs.Code.{keptSays, stateSays, playedIn, playedSays, Still, Plays, leftBy, frameIn, playKept}
-use Rattle.player.specs.declared.slots.Answer.{Answer as CodeAnswer}
-use Rattle.player.specs.declared.slots.Answer.the-variants.{Shown, Nothing, Refused}
+use Rattle.header.specs.declared.seq_header.SequenceHeader.{SequenceHeader}
+use Rattle.player.specs.Player.{Shown, keep, known, soleFrame, unitFrame, act, State, start, Played, play, leaves}
+use Rattle.player.specs.Code.{shows, actedOn, keptSays, keptBehind, stateSays, startState, playedOn, playedBy, leftIn, leftBy, playKept}
+use Rattle.player.specs.declared.slots.Slot.{Slot}
+use Rattle.player.specs.declared.keep.Last.the-variants.{Nothing as NoHeader, Header}
 use Rattle.player.specs.declared.keep.Kept.{Kept}
+use Rattle.player.specs.declared.keep.Headers.the-variants.{Read, Refused as RefusedAt}
+use Rattle.player.specs.declared.keep.Keeping.{Keeping}
 use Rattle.player.specs.declared.step.State.{State as CodeState}
-use Rattle.player.specs.declared.step.Played.{Played as CodePlayed}
+use Rattle.player.proofs.KeepLaws.{behind-refused, behind-read, behind-kept}
 
 -- ---- the only frame, where the frames are counted
 
@@ -29,8 +33,8 @@ module _ (q : Sequence) (u : List ℕ) where
   abbrev counted : Answer (List Obu) → Answer ℕ
   counted x = answer (count (isKind FrameObu)) x
 
-  pub frame-refused : (k : ℕ) → refused k ≡ counted (obus u) → refused k ≡ frameIn q u
-  unfolding frameIn andNext
+  pub frame-refused : (k : ℕ) → refused k ≡ counted (obus u) → refused k ≡ unitFrame q u
+  unfolding unitFrame andNext
   frame-refused k e = go (obus u) e
     where
       go : (x : Answer (List Obu)) → refused k ≡ counted x → refused k ≡ andNext x (λ os. andNext (soleFrame os) (λ f. parseFrame q f))
@@ -38,24 +42,24 @@ module _ (q : Sequence) (u : List ℕ) where
       go (accepted os) e = let z : _≡_ {A = ℕ} 0 1 = cc in absurd (omega arith)
 
   module _ (n : ℕ) (e : accepted n ≡ counted (obus u)) where
-    pub frame-none : n ≡ 0 → refused 28 ≡ frameIn q u
-    unfolding frameIn andNext soleFrame
+    pub frame-none : n ≡ 0 → refused 28 ≡ unitFrame q u
+    unfolding unitFrame andNext soleFrame
     frame-none h = go (obus u) e
       where
         go : (x : Answer (List Obu)) → accepted n ≡ counted x → refused 28 ≡ andNext x (λ os. andNext (soleFrame os) (λ f. parseFrame q f))
         go (refused j) e = let z : _≡_ {A = ℕ} 0 1 = cc in absurd (omega arith)
         go (accepted os) e = let i : count (isKind FrameObu) os ≡ n = cc in rw (i, h)
 
-    pub frame-many : 1 < n → refused 39 ≡ frameIn q u
-    unfolding frameIn andNext soleFrame
+    pub frame-many : 1 < n → refused 39 ≡ unitFrame q u
+    unfolding unitFrame andNext soleFrame
     frame-many h = go (obus u) e
       where
         go : (x : Answer (List Obu)) → accepted n ≡ counted x → refused 39 ≡ andNext x (λ os. andNext (soleFrame os) (λ f. parseFrame q f))
         go (refused j) e = let z : _≡_ {A = ℕ} 0 1 = cc in absurd (omega arith)
         go (accepted os) e = let i : count (isKind FrameObu) os ≡ n = cc in rw (i, ne-eqb n 0 (λ z. omega arith), lt-ltb 1 n h)
 
-    pub frame-one : (p : List ℕ) → (n ≡ 0 → ⊥) → n ≤ 1 → p ≡ ofUnit [] (firstPayload (isKind FrameObu)) (obus u) → parseFrame q p ≡ frameIn q u
-    unfolding frameIn andNext soleFrame
+    pub frame-one : (p : List ℕ) → (n ≡ 0 → ⊥) → n ≤ 1 → p ≡ ofUnit [] (firstPayload (isKind FrameObu)) (obus u) → parseFrame q p ≡ unitFrame q u
+    unfolding unitFrame andNext soleFrame
     frame-one p some-one h g = go (obus u) e g
       where
         go : (x : Answer (List Obu)) → accepted n ≡ counted x → p ≡ ofUnit [] (firstPayload (isKind FrameObu)) x → parseFrame q p ≡ andNext x (λ os. andNext (soleFrame os) (λ f. parseFrame q f))
@@ -98,7 +102,7 @@ module _ (st : State) (p : ℕ) (u : List ℕ) where
         go (accepted os) e = rw (← e)
 
     pub play-kept : (k : Option Sequence) → accepted k ≡ andNext (obus u) (keep (st .kept)) → playKept (st .slots) p u k ≡ play st p u
-    unfolding andNext playKept frameIn
+    unfolding andNext playKept unitFrame
     play-kept k e = go (obus u) e k refl ∙ sym short
       where
         go : (x : Answer (List Obu)) → accepted k ≡ andNext x (keep (st .kept)) → (j : Option Sequence) → j ≡ k
@@ -107,22 +111,74 @@ module _ (st : State) (p : ℕ) (u : List ℕ) where
         go (accepted os) e none i = rw (← e, ← i)
         go (accepted os) e (some q) i = rw (← e, ← i) (sym (next-next (soleFrame os) (λ f. parseFrame q f) (λ x. leftBy (some q) (act (st .slots) p x))))
 
--- ---- the state afterwards
+-- ---- an accepted chain was accepted at each link
 
-module _ (st : CodeState) (r : CodePlayed) (x : Answer Played) (e : Plays st r x) where
-  pub leaves-so : stateSays (r .state) ≡ leaves (stateSays st) x
-  leaves-so = rw (← e .says) (go (r .answer) (e .still))
+pub link : {A B R : Type 0} (x : Answer A) (k : A → Answer B) (b : B) → andNext x k ≡ accepted b → ((a : A) → x ≡ accepted a → k a ≡ accepted b → R) → R
+unfolding andNext
+link (refused n) k b e f = let z : _≡_ {A = ℕ} 0 1 = cc in absurd (omega arith)
+link (accepted a) k b e f = f a refl e
+
+module _ (st : State) (p : ℕ) (u : List ℕ) (r : Played) where
+  rest-keeps : (os : List Obu) (k : Option Sequence) → rest st p u os k ≡ accepted r → k ≡ r .state .kept
+  unfolding andNext
+  rest-keeps os none e = let z : _≡_ {A = ℕ} 0 1 = cc in absurd (omega arith)
+  rest-keeps os (some q) e =
+      link (soleFrame os) _ r e (λ f i e. link (parseFrame q f) _ r e (λ x i e. link (act (st .slots) p x) _ r e (λ y i e.
+      let w : record { shown = y .shown; state = record { slots = y .slots; kept = some q } } ≡ r = cc in
+      ap (λ z. z .state .kept) w)))
+
+  -- the header that an accepted unit leaves
+  pub play-keeps : play st p u ≡ accepted r → andNext (obus u) (keep (st .kept)) ≡ accepted (r .state .kept)
+  unfolding play andNext
+  play-keeps e = go (ltb limit (length u)) e
     where
-      go : (a : CodeAnswer) → Still a (r .state) st → stateSays (r .state) ≡ leaves (stateSays st) (playedIn a (r .state))
-      go (Shown q) s = refl
-      go Nothing s = refl
-      go (Refused k) s = ap stateSays s
+      go : (b : Bool) → pick b (refused 34) (whole st p u (obus u)) ≡ accepted r → andNext (obus u) (keep (st .kept)) ≡ accepted (r .state .kept)
+      go true e = let z : _≡_ {A = ℕ} 0 1 = cc in absurd (omega arith)
+      go false e = link (obus u) _ r e (λ os i e. link (keep (st .kept) os) _ r e (λ k j e. rw i (j ∙ ap (λ y. accepted y) (rest-keeps os k e))))
 
-  pub plays-as : {y : Answer Played} → x ≡ y → Plays st r y
-  plays-as i = record { says = e .says ∙ i; still = e .still }
+-- ---- the unit played in the code
 
-  pub plays-whole : {y : Answer Played} → x ≡ y → (playedSays r ≡ y) × ((stateSays (r .state) ≡ leaves (stateSays st) y) × Still (r .answer) (r .state) st)
-  plays-whole i = (e .says ∙ i, (leaves-so ∙ ap (leaves (stateSays st)) i, e .still))
+pub start-says : stateSays startState ≡ start
+start-says = refl
+
+module _ (st : CodeState) (p : ℕ) (u : List ℕ) where
+  abbrev behind : Keeping
+  behind = keptBehind (st .kept) u
+
+  pub by-long : limit < length u → playedOn st (st .kept) (refused 34) ≡ playedBy st p u
+  unfolding playedBy
+  by-long h = ap (playedOn st (behind .kept)) (play-long (stateSays st) p u h)
+
+  module _ (h : length u ≤ limit) {x : Keeping} (b : x ≡ behind) where
+    pub by-headers : (n : ℕ) → x .answer ≡ RefusedAt n → playedOn st (st .kept) (refused n) ≡ playedBy st p u
+    unfolding playedBy
+    by-headers n e = ap (playedOn st (behind .kept)) (play-headers (stateSays st) p u h n (behind-refused (st .kept) u n (sym (ap (λ y. y .answer) b) ∙ e)))
+
+    pub by-kept : x .answer ≡ Read → playedOn st (x .kept) (playKept (st .slots) p u (keptSays (x .kept))) ≡ playedBy st p u
+    unfolding playedBy
+    by-kept e =
+        ap (λ y. playedOn st (y .kept) (playKept (st .slots) p u (keptSays (y .kept)))) b
+        ∙ ap (playedOn st (behind .kept)) (play-kept (stateSays st) p u h _ (behind-read (st .kept) u (sym (ap (λ y. y .answer) b) ∙ e)))
+
+  -- what the state afterwards says
+  pub leaves-so : stateSays (playedBy st p u .state) ≡ leaves (stateSays st) (play (stateSays st) p u)
+  unfolding playedBy
+  leaves-so = go (play (stateSays st) p u) refl
+    where
+      go : (x : Answer Played) → play (stateSays st) p u ≡ x → stateSays (playedOn st (behind .kept) x .state) ≡ leaves (stateSays st) x
+      go (refused n) e = refl
+      go (accepted r) e = ap (λ k. record { slots = r .state .slots; kept = k }) (behind-kept (st .kept) u (r .state .kept) (play-keeps (stateSays st) p u r e))
+
+-- what a frame has done is left in the code
+pub frame-left : (st : CodeState) (k : Kept) (q : Option Sequence) (x : Answer Shown)
+    → leftIn st k (actedOn (st .slots) x) ≡ playedOn st k (leftBy q x)
+unfolding andNext
+frame-left st k q (refused n) = refl
+frame-left st k q (accepted r) = go (r .shown)
+  where
+    go : (o : Option ℕ) → leftIn st k (record { answer = shows o; slots = r .slots }) ≡ record { answer = shows o; state = record { slots = r .slots; kept = k } }
+    go none = refl
+    go (some p) = refl
 
 -- ---- a unit's frame under what is kept
 
@@ -130,15 +186,15 @@ module _ (slots : List Slot) (p : ℕ) (u : List ℕ) (k : Kept) where
   abbrev plays : Answer Played
   plays = playKept slots p u (keptSays k)
 
-  pub kept-none : k .«is_kept» ≡ false → refused 26 ≡ plays
+  pub kept-none : k .last ≡ NoHeader → refused 26 ≡ plays
   unfolding playKept andNext
   kept-none e = rw e
 
-  module _ (e : k .«is_kept» ≡ true) where
-    pub kept-refused : (n : ℕ) → frameIn (sequenceOf (k .header) (k .points)) u ≡ refused n → refused n ≡ plays
+  module _ (h : SequenceHeader) (e : k .last ≡ Header h) where
+    pub kept-refused : (n : ℕ) → unitFrame (sequenceOf h (k .points)) u ≡ refused n → refused n ≡ plays
     unfolding playKept andNext
     kept-refused n i = rw (e, i)
 
-    pub kept-frame : (x : FrameHeaderInfo) → frameIn (sequenceOf (k .header) (k .points)) u ≡ accepted x → leftBy (keptSays k) (act slots p x) ≡ plays
+    pub kept-frame : (x : FrameHeaderInfo) → unitFrame (sequenceOf h (k .points)) u ≡ accepted x → leftBy (keptSays k) (act slots p x) ≡ plays
     unfolding playKept andNext
     kept-frame x i = rw (e, i)

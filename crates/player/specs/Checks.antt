@@ -18,7 +18,8 @@ use Rattle.header.specs.SequenceCoding.{frameSize, frameIds, codingTools, scree
 use Rattle.header.specs.Sequence.{sequenceHeader, parseSequence}
 use Rattle.header.specs.Support.{support}
 use Rattle.header.specs.Frame.{showExisting, frameStart, orderHint, removalTimes, bufferRemoval, frameInfo, frameBits, frameHeader, parseFrame}
-use Rattle.player.specs.Player.{Slot, empty, filled, refresh, State, start, keep, soleFrame, play, leaves}
+use Rattle.player.specs.Player.{empty, filled, refresh, State, start, keepAs, soleFrame, play, leaves}
+use Rattle.player.specs.declared.slots.Slot.{Slot}
 
 -- a sequence header OBU; frame OBUs: a shown key, a shown frame that refreshes slot 3, a hidden showable key and a hidden frame not showable for slot 1
 abbrev head : List ℕ
@@ -97,7 +98,7 @@ answers
     ∷ refused 37
     ∷ refused 38
     ∷ [])
-unfolding many manyF andNext bitAt bitsAt bitsWithin readBits leadingZeros uvlcSuffix uvlc lebRead readLeb sized passes headObuOf obusOf isType count firstPayload readFlag readOr flagOr uvlcOr timingInfo decoderModelInfo opening operatingPoint operatingPoints frameSize frameIds codingTools screenTools filters colorDescription colorSampling coding sequenceHeader parseSequence support showExisting frameStart orderHint removalTimes bufferRemoval frameInfo frameBits frameHeader parseFrame refresh keep soleFrame play
+unfolding many manyF andNext bitAt bitsAt bitsWithin readBits leadingZeros uvlcSuffix uvlc lebRead readLeb sized passes headObuOf obusOf isType count firstPayload readFlag readOr flagOr uvlcOr timingInfo decoderModelInfo opening operatingPoint operatingPoints frameSize frameIds codingTools screenTools filters colorDescription colorSampling coding sequenceHeader parseSequence support showExisting frameStart orderHint removalTimes bufferRemoval frameInfo frameBits frameHeader parseFrame refresh keepAs soleFrame play
 answers = refl
 
 -- a shown key fills all eight, not showable; a golden fills its slot; a key shown again fills all eight, marks kept
@@ -114,5 +115,5 @@ slots
     ∷ (empty ∷ filled 5 true true ∷ replicate 6 empty)
     ∷ replicate 8 (filled 5 true true)
     ∷ [])
-unfolding many manyF andNext bitAt bitsAt bitsWithin readBits leadingZeros uvlcSuffix uvlc lebRead readLeb sized passes headObuOf obusOf isType count firstPayload readFlag readOr flagOr uvlcOr timingInfo decoderModelInfo opening operatingPoint operatingPoints frameSize frameIds codingTools screenTools filters colorDescription colorSampling coding sequenceHeader parseSequence support showExisting frameStart orderHint removalTimes bufferRemoval frameInfo frameBits frameHeader parseFrame refresh keep soleFrame play
+unfolding many manyF andNext bitAt bitsAt bitsWithin readBits leadingZeros uvlcSuffix uvlc lebRead readLeb sized passes headObuOf obusOf isType count firstPayload readFlag readOr flagOr uvlcOr timingInfo decoderModelInfo opening operatingPoint operatingPoints frameSize frameIds codingTools screenTools filters colorDescription colorSampling coding sequenceHeader parseSequence support showExisting frameStart orderHint removalTimes bufferRemoval frameInfo frameBits frameHeader parseFrame refresh keepAs soleFrame play
 slots = refl

@@ -1,7 +1,7 @@
 -- The player (01, 'Player'): eight slots, a kept sequence header, and what playing one unit does. Assumes nothing.
 use Prim.Native.Nat.{ℕ, _/_, _%_}
 use mathlib.Core.List.{List, [], _∷_}
-use mathlib.Core.Bool.{Bool, cond as pick}
+use mathlib.Core.Bool.{Bool, true, false, cond as pick}
 use mathlib.Core.Option.{Option, none, some}
 use lib.ListN.{length, getD, replicate}
 use lib.Dec.{eqb, ltb}
@@ -15,13 +15,16 @@ use Rattle.header.specs.Support.{support}
 use Rattle.header.specs.Frame.{keyFrame, parseFrame}
 use Rattle.header.specs.declared.frame_header.FrameHeaderInfo.{FrameHeaderInfo}
 use Rattle.header.specs.declared.frame_header.FrameHeaderInfo.the-variants.{Existing, Frame}
+use Rattle.player.specs.declared.slots.Slot.{Slot}
 
 -- ---- the slots
 
--- 01: empty, or holding a unit position, with the marks showable and key
-pub data Slot : Type 0 where
-  empty : Slot
-  filled : (position : ℕ) (showable key : Bool) → Slot
+-- 01: empty, or holding a unit position, with the marks showable and key; of an empty one nothing else is looked at
+abbrev pub empty : Slot
+empty = record { «is_filled» = false; position = 0; showable = false; key = false }
+
+abbrev pub filled : ℕ → Bool → Bool → Slot
+filled q showable key = record { «is_filled» = true; position = q; showable = showable; key = key }
 
 -- AV1 7.20: each slot whose bit is set in the refresh flags takes the frame
 unfoldable pub refresh : ℕ → Slot → List Slot → List Slot
@@ -35,11 +38,10 @@ pub record Shown : Type 0 where
 
 -- AV1 7.21: a slot is shown; a key so shown fills all eight, marks kept. 37 slot empty, 38 not showable
 abbrev pub showSlot : List Slot → Slot → Answer Shown
-showSlot slots empty = refused 37
-showSlot slots (filled q showable key) =
-    pick showable
-    (accepted (record { shown = some q; slots = pick key (replicate 8 (filled q showable key)) slots }))
-    (refused 38)
+showSlot slots s =
+    pick (s .«is_filled»)
+    (pick (s .showable) (accepted (record { shown = some (s .position); slots = pick (s .key) (replicate 8 s) slots })) (refused 38))
+    (refused 37)
 
 -- a frame, played under position p
 abbrev pub act : List Slot → ℕ → FrameHeaderInfo → Answer Shown
@@ -60,13 +62,16 @@ pub record State : Type 0 where
 abbrev pub start : State
 start = record { slots = replicate 8 empty; kept = none }
 
--- 01: a unit's sequence headers are read in order and the last is kept: 14 to 16 and 17 to 20 of each
-unfoldable pub keep : Option Sequence → List Obu → Answer (Option Sequence)
-keep k [] = accepted k
-keep k (o ∷ os) =
+-- 01: a unit's sequence headers are read in order and the last is kept, as f has it: 14 to 16 and 17 to 20 of each
+unfoldable pub keepAs : {K : Type 0} → (Sequence → K) → K → List Obu → Answer K
+keepAs f k [] = accepted k
+keepAs f k (o ∷ os) =
     pick (isKind SequenceHeader o)
-    (andNext (parseSequence (o .payload)) (λ q. andNext (support (q .header)) (λ _. keep (some q) os)))
-    (keep k os)
+    (andNext (parseSequence (o .payload)) (λ q. andNext (support (q .header)) (λ _. keepAs f (f q) os)))
+    (keepAs f k os)
+
+abbrev pub keep : Option Sequence → List Obu → Answer (Option Sequence)
+keep k os = keepAs (λ q. some q) k os
 
 -- 26 if there has been none
 abbrev pub known : Option Sequence → Answer Sequence
@@ -78,6 +83,10 @@ unfoldable pub soleFrame : List Obu → Answer (List ℕ)
 soleFrame os =
     pick (eqb (count (isKind FrameObu) os) 0) (refused 28) (
     pick (ltb 1 (count (isKind FrameObu) os)) (refused 39) (accepted (firstPayload (isKind FrameObu) os)))
+
+-- the header of a unit's frame under the sequence header q: 1 to 5; 28; 39; 14
+unfoldable pub unitFrame : Sequence → List ℕ → Answer FrameHeaderInfo
+unitFrame q u = andNext (obus u) (λ os. andNext (soleFrame os) (λ f. parseFrame q f))
 
 pub record Played : Type 0 where
   pub shown : Option ℕ

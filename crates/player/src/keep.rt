@@ -1,10 +1,8 @@
 // The sequence header that is kept from unit to unit.
 ghost use mathlib.Core.Path.{_≡_};
 ghost use Rattle.bitio.specs.Parse.{andNext};
-ghost use Rattle.obu.specs.Obu.{obus};
 ghost use Rattle.obu.specs.Place.{obuSays, refusalOf};
-ghost use Rattle.player.specs.Player.{keep};
-ghost use Rattle.player.specs.Code.{keptSays, keepingSays, headerKept};
+ghost use Rattle.player.specs.Code.{headersSay, keeping, headerKept, keptBehind};
 use header::seq_header::OperatingPoint;
 use header::seq_header::SequenceAnswer;
 use header::seq_header::SequenceHeader;
@@ -17,10 +15,15 @@ use obu::reader::payload;
 use obu::unit::Kind;
 use obu::unit::is_type;
 
-// A header and its operating points, if there has been one; otherwise they mean nothing.
+// The last header, if there has been one.
+pub enum Last {
+    Nothing,
+    Header(SequenceHeader),
+}
+
+// And its operating points: beside it, because the checker does not cover an enum that holds an array.
 pub struct Kept {
-    pub is_kept: bool,
-    pub header: SequenceHeader,
+    pub last: Last,
     pub points: [OperatingPoint; 32],
 }
 
@@ -30,7 +33,7 @@ pub enum Headers {
     Refused(u64),
 }
 
-// Whether the headers so far were read, and the one that is kept then.
+// Whether a unit's headers so far were read, and what is kept: with a refusal, what was kept before the unit.
 pub struct Keeping {
     pub answer: Headers,
     pub kept: Kept,
@@ -49,7 +52,7 @@ fn obu_refusal(found: ObuAt) -> u64
 
 // The header of a payload in place of the one kept.
 fn read_header(kept: Kept, s: &[u8]) -> Keeping
-    ensures { λ r. ⌜ keepingSays r ≡ headerKept (now (s .entry)) ⌝ }
+    ensures { λ r. ⌜ r ≡ keeping kept (headerKept (now (s .entry))) ⌝ }
 {
     let read = parse_sequence_header(s);
     let answer = read.answer;
@@ -67,8 +70,7 @@ fn read_header(kept: Kept, s: &[u8]) -> Keeping
             Support::Supported => Keeping {
                 answer: Headers::Read,
                 kept: Kept {
-                    is_kept: true,
-                    header: header,
+                    last: Last::Header(header),
                     points: points,
                 },
             },
@@ -77,19 +79,21 @@ fn read_header(kept: Kept, s: &[u8]) -> Keeping
 }
 
 // One header more, if none was refused.
-fn keep_header(so_far: Keeping, s: &[u8]) -> Keeping
-    ensures { λ r. ⌜ keepingSays r ≡ andNext (keepingSays «so_far») (λ _. headerKept (now (s .entry))) ⌝ }
+fn keep_header(kept: Kept, so_far: Headers, s: &[u8]) -> Keeping
+    ensures { λ r. ⌜ r ≡ keeping kept (andNext (headersSay «so_far») (λ _. headerKept (now (s .entry)))) ⌝ }
 {
-    let answer = so_far.answer;
-    match answer {
-        Headers::Refused(_) => so_far,
-        Headers::Read => read_header(so_far.kept, s),
+    match so_far {
+        Headers::Refused(k) => Keeping {
+            answer: Headers::Refused(k),
+            kept: kept,
+        },
+        Headers::Read => read_header(kept, s),
     }
 }
 
 // A unit's sequence headers in order: the last is kept.
 pub(crate) fn keep_headers(kept: Kept, unit: &[u8]) -> Keeping
-    ensures { λ r. ⌜ keepingSays r ≡ andNext (obus (now (unit .entry))) (keep (keptSays kept)) ⌝ }
+    ensures { λ r. ⌜ r ≡ keptBehind kept (now (unit .entry)) ⌝ }
 {
     let mut at: usize = 0;
     let mut all = Keeping {
@@ -105,7 +109,8 @@ pub(crate) fn keep_headers(kept: Kept, unit: &[u8]) -> Keeping
             };
         };
         if is_type(Kind::SequenceHeader, o.obu_type) {
-            all = keep_header(all, payload(unit, o.start, o.end));
+            let so_far = all.answer;
+            all = keep_header(kept, so_far, payload(unit, o.start, o.end));
         }
         at = o.end;
     }

@@ -1,7 +1,6 @@
 // A unit, played on lent slots: document 01's entry, over the step by value.
 ghost use mathlib.Core.Path.{_≡_};
-ghost use Rattle.player.specs.Player.{play, leaves};
-ghost use Rattle.player.specs.Code.{stateSays, playedIn, playedSays, Still};
+ghost use Rattle.player.specs.Code.{playedBy};
 use crate::slots::Answer;
 use crate::step::Played;
 use crate::step::State;
@@ -9,9 +8,8 @@ use crate::step::step;
 
 // The slots and the kept header are lent, and left as the step leaves them.
 pub fn play_unit(state: &mut State, position: u64, unit: &[u8]) -> Answer
-    ensures { λ r. ⌜ (playedIn r (now (state .exit)) ≡ play (stateSays (now (state .entry))) position (now (unit .entry)))
-        × (stateSays (now (state .exit)) ≡ leaves (stateSays (now (state .entry))) (play (stateSays (now (state .entry))) position (now (unit .entry))))
-        × Still r (now (state .exit)) (now (state .entry)) ⌝ }
+    ensures { λ r. ⌜ (r ≡ playedBy (now (state .entry)) position (now (unit .entry)) .answer)
+        × (now (state .exit) ≡ playedBy (now (state .entry)) position (now (unit .entry)) .state) ⌝ }
 {
     let s = *state;
     let r = step(s, position, unit);
@@ -21,9 +19,7 @@ pub fn play_unit(state: &mut State, position: u64, unit: &[u8]) -> Answer
 
 // The same from a value to a value: who calls it lends nothing.
 pub fn played(state: State, position: u64, unit: &[u8]) -> Played
-    ensures { λ r. ⌜ (playedSays r ≡ play (stateSays state) position (now (unit .entry)))
-        × (stateSays (r .state) ≡ leaves (stateSays state) (play (stateSays state) position (now (unit .entry))))
-        × Still (r .answer) (r .state) state ⌝ }
+    ensures { λ r. ⌜ r ≡ playedBy state position (now (unit .entry)) ⌝ }
 {
     let mut lent = state;
     let answer = play_unit(&mut lent, position, unit);

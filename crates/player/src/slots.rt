@@ -2,11 +2,11 @@
 ghost use mathlib.Core.Path.{_≡_};
 ghost use lib.ListN.{getD};
 ghost use Rattle.player.specs.Player.{empty, refresh, showSlot, act};
-ghost use Rattle.player.specs.Code.{slotSays, slotsSay, actedSays};
+ghost use Rattle.player.specs.Code.{actedOn};
 use header::frame_header::FrameHeaderInfo;
 use header::frame_header::KEY_FRAME;
 
-// Empty, or holding the unit at a position; the other fields of an empty slot mean nothing.
+// Empty, or holding the unit at a position; of an empty slot nothing else is looked at.
 pub struct Slot {
     pub is_filled: bool,
     pub position: u64,
@@ -30,7 +30,7 @@ pub struct Acted {
 
 // Each slot whose bit is set in the flags takes the new one.
 fn refresh_slots(slots: [Slot; 8], flags: u64, new: Slot) -> [Slot; 8]
-    ensures { λ r. ⌜ slotsSay r ≡ refresh flags (slotSays new) (slotsSay slots) ⌝ }
+    ensures { λ r. ⌜ r ≡ refresh flags new slots ⌝ }
 {
     let mut all = slots;
     let mut rest = flags;
@@ -47,7 +47,7 @@ fn refresh_slots(slots: [Slot; 8], flags: u64, new: Slot) -> [Slot; 8]
 
 // A slot is shown; a key so shown fills all eight.
 fn show_slot(slots: [Slot; 8], slot: u64) -> Acted
-    ensures { λ r. ⌜ actedSays r ≡ showSlot (slotsSay slots) (getD (slotsSay slots) slot empty) ⌝ }
+    ensures { λ r. ⌜ r ≡ actedOn slots (showSlot slots (getD slots slot empty)) ⌝ }
 {
     if slot >= 8 {
         return Acted {
@@ -83,7 +83,7 @@ fn show_slot(slots: [Slot; 8], slot: u64) -> Acted
 
 // A frame, played under a position.
 pub(crate) fn play_frame(slots: [Slot; 8], position: u64, info: FrameHeaderInfo) -> Acted
-    ensures { λ r. ⌜ actedSays r ≡ act (slotsSay slots) position info ⌝ }
+    ensures { λ r. ⌜ r ≡ actedOn slots (act slots position info) ⌝ }
 {
     match info {
         FrameHeaderInfo::Existing(slot) => show_slot(slots, slot),

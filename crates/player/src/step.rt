@@ -3,10 +3,11 @@ ghost use mathlib.Core.Path.{_≡_};
 ghost use Rattle.bitio.specs.Parse.{refused};
 ghost use Rattle.header.specs.Sequence.{sequenceOf};
 ghost use Rattle.header.specs.Frame.{frameSays};
-ghost use Rattle.player.specs.Player.{play, leaves};
-ghost use Rattle.player.specs.Code.{slotsSay, actedSays, keptSays, stateSays, playedSays, Still, Plays, leftBy, frameIn, playKept};
+ghost use Rattle.player.specs.Player.{unitFrame};
+ghost use Rattle.player.specs.Code.{keptSays, leftIn, playedOn, playedBy, playKept};
 use crate::keep::Headers;
 use crate::keep::Kept;
+use crate::keep::Last;
 use crate::keep::keep_headers;
 use crate::slots::Acted;
 use crate::slots::Answer;
@@ -33,7 +34,7 @@ pub struct Played {
 }
 
 fn refuse(state: State, k: u64) -> Played
-    ensures { λ r. ⌜ Plays state r (refused k) ⌝ }
+    ensures { λ r. ⌜ r ≡ playedOn state (state .kept) (refused k) ⌝ }
 {
     Played {
         answer: Answer::Refused(k),
@@ -43,7 +44,7 @@ fn refuse(state: State, k: u64) -> Played
 
 // The header of a unit's only frame, under a sequence header.
 fn read_frame(header: SequenceHeader, points: [OperatingPoint; 32], unit: &[u8]) -> FrameAnswer
-    ensures { λ r. ⌜ frameSays r ≡ frameIn (sequenceOf header points) (now (unit .entry)) ⌝ }
+    ensures { λ r. ⌜ frameSays r ≡ unitFrame (sequenceOf header points) (now (unit .entry)) ⌝ }
 {
     match count_obus(unit, Kind::Frame) {
         Counted::Refused(k) => FrameAnswer::Refused(k as u64),
@@ -61,7 +62,7 @@ fn read_frame(header: SequenceHeader, points: [OperatingPoint; 32], unit: &[u8])
 
 // What a frame has done is taken over with the header kept, unless it was refused.
 fn leave(state: State, kept: Kept, acted: Acted) -> Played
-    ensures { λ r. ⌜ Plays state r (leftBy (keptSays kept) (actedSays acted)) ⌝ }
+    ensures { λ r. ⌜ r ≡ leftIn state kept acted ⌝ }
 {
     let answer = acted.answer;
     let slots = acted.slots;
@@ -84,24 +85,23 @@ fn leave(state: State, kept: Kept, acted: Acted) -> Played
 
 // A unit's frame, where its sequence headers are read.
 fn step_frame(state: State, kept: Kept, position: u64, unit: &[u8]) -> Played
-    ensures { λ r. ⌜ Plays state r (playKept (slotsSay (state .slots)) position (now (unit .entry)) (keptSays kept)) ⌝ }
+    ensures { λ r. ⌜ r ≡ playedOn state kept (playKept (state .slots) position (now (unit .entry)) (keptSays kept)) ⌝ }
 {
-    if !kept.is_kept {
-        return refuse(state, 26);
-    }
+    let last = kept.last;
     let points = kept.points;
     let slots = state.slots;
-    match read_frame(kept.header, points, unit) {
-        FrameAnswer::Refused(k) => refuse(state, k),
-        FrameAnswer::Header(info) => { leave(state, kept, play_frame(slots, position, info)) }
+    match last {
+        Last::Nothing => refuse(state, 26),
+        Last::Header(header) => match read_frame(header, points, unit) {
+            FrameAnswer::Refused(k) => refuse(state, k),
+            FrameAnswer::Header(info) => { leave(state, kept, play_frame(slots, position, info)) }
+        },
     }
 }
 
 // The unit, played under a position; a refused one leaves the state as it was.
 pub fn step(state: State, position: u64, unit: &[u8]) -> Played
-    ensures { λ r. ⌜ playedSays r ≡ play (stateSays state) position (now (unit .entry)) ⌝ }
-    ensures { λ r. ⌜ stateSays (r .state) ≡ leaves (stateSays state) (play (stateSays state) position (now (unit .entry))) ⌝ }
-    ensures { λ r. ⌜ Still (r .answer) (r .state) state ⌝ }
+    ensures { λ r. ⌜ r ≡ playedBy state position (now (unit .entry)) ⌝ }
 {
     if unit.len() > 4_000_000_000 {
         return refuse(state, 34);

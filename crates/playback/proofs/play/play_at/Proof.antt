@@ -1,9 +1,10 @@
 use borrow.Author.Needs.{needs}
 use native.Mathlib.Omega.{arith}
 use Prim.Native.Nat.{_+_}
+use mathlib.Core.Path.{ap, _∙_}
 use denote.Ref.{now}
-use Rattle.player.specs.Code.{stateSays}
-use Rattle.playback.proofs.ShownLaws.{unit-at, played-at}
+use Rattle.player.specs.Code.{playedBy}
+use Rattle.playback.proofs.ShownLaws.{unit-at}
 use Rattle.playback.proofs.play.play_at.Statement.{statement}
 use Rattle.playback.proofs.play.play_at.Tie as tie
 
@@ -33,7 +34,7 @@ returns c =
     let p = c .before in
     let s = p .before .before in
     let a = s .before .before .before .args in
-    played-at (c .step .result) (stateSays (a .state)) (a .i + 1) (c .step .ensures .0) (c .step .ensures .1 .0) (unit-at (now (a .units)) (now (a .ends)) (a .i) (s .start-of .ensures) (p .payload .ensures))
+    c .step .ensures ∙ ap (λ y. playedBy (a .state) (a .i + 1) y) (unit-at (now (a .units)) (now (a .ends)) (a .i) (s .start-of .ensures) (p .payload .ensures))
 
 pub play-at-spec : {M : Type 1} → statement M
 play-at-spec =

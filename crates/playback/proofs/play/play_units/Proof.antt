@@ -1,10 +1,12 @@
 use borrow.Author.Needs.{needs}
 use native.Mathlib.Omega.{arith}
 use Prim.Native.Nat.{_-_}
-use mathlib.Core.Path.{refl}
+use mathlib.Core.Path.{refl, ap, _∙_}
 use lib.ListN.{length}
 use Rattle.player.specs.Code.{stateSays}
-use Rattle.playback.proofs.ShownLaws.{Playing, playing-start, playing-slot, playing-next, playing-long, playing-end}
+use Rattle.player.proofs.StepLaws.{start-says, leaves-so}
+use Rattle.playback.specs.Shown.{codeNumber}
+use Rattle.playback.proofs.ShownLaws.{number-says, Playing, playing-start, playing-slot, playing-next, playing-long, playing-end}
 use Rattle.playback.proofs.play.play_units.Statement.{statement}
 use Rattle.playback.proofs.play.play_units.Tie as tie
 
@@ -21,7 +23,7 @@ sub-i : tie.Need-sub-i Inv-loop μ-loop
 sub-i c = omega (arith, c .before .before .before .before .pre .from)
 
 loop-holds : tie.Need-loop-holds Inv-loop μ-loop
-loop-holds c = playing-start (c .before .before .before .before .pre) (c .start-state .ensures) refl
+loop-holds c = playing-start (c .before .before .before .before .pre) (ap stateSays (c .start-state .ensures) ∙ start-says) refl
 
 play-at-requires : tie.Need-play-at-requires Inv-loop μ-loop
 play-at-requires c κs = search needs
@@ -48,7 +50,9 @@ loop-again : tie.Need-loop-again Inv-loop μ-loop
 loop-again c =
     let p = c .before .before in
     let t = p .before in
-    playing-next (t .before .loop .inv) (t .loop-test .taken) (p .play-at .result) (p .play-at .ensures .0) (p .play-at .ensures .1) (c .number-of .ensures)
+    let l = t .before .loop in
+    let e = p .play-at .ensures in
+    playing-next (l .inv) (t .loop-test .taken) (p .play-at .result) (ap (λ y. codeNumber (y .answer)) e ∙ number-says (l .state) _ _) (ap (λ y. stateSays (y .state)) e ∙ leaves-so (l .state) _ _) (c .number-of .ensures)
 
 same-length : tie.Need-same-length Inv-loop μ-loop
 same-length c = playing-long (c .before .loop .inv)

@@ -12,14 +12,14 @@ use Rattle.obu.specs.Place.{obuSays, extensionSays}
 use Rattle.obu.specs.Unit.{isType, isKind}
 use Rattle.obu.specs.declared.unit.Kind.the-variants.{SequenceHeader}
 use Rattle.obu.proofs.PlaceLaws.{IsPlaced, is-placed, at-end, Walked, walk-start, walk-next, walk-end, walk-stop, not-found, part-placed}
-use Rattle.player.specs.Player.{keep}
-use Rattle.player.specs.Code.{keptSays, keepingSays}
+use Rattle.player.specs.Player.{keepAs}
+use Rattle.player.specs.Code.{keptOf, keeping, keptBehind}
 use Rattle.player.proofs.KeepLaws.{turn-header, turn-other}
 use Rattle.player.proofs.keep.keep_headers.Statement.{statement}
 use Rattle.player.proofs.keep.keep_headers.Tie as tie
 
 abbrev Inv-loop : tie.InvT-loop
-Inv-loop kept s at₀ all₀ at all = (front : List Obu) × Walked s at front × (keepingSays all ≡ keep (keptSays kept) front)
+Inv-loop kept s at₀ all₀ at all = (front : List Obu) × Walked s at front × (all ≡ keeping kept (keepAs keptOf kept front))
 
 abbrev μ-loop : tie.MeasureT-loop
 μ-loop kept s at₀ all₀ at all = length s - at
@@ -31,7 +31,7 @@ got : (c : tie.After-found Inv-loop μ-loop)
 got c = is-placed _ _ (sym (c .before .before .obu-at .ensures) ∙ ap obuSays (c .found .given .1))
 
 loop-holds : tie.Need-loop-holds Inv-loop μ-loop
-unfolding keep
+unfolding keepAs
 loop-holds c = ([], walk-start _, refl)
 
 obu-at-requires : tie.Need-obu-at-requires Inv-loop μ-loop
@@ -44,7 +44,7 @@ obu-refusal-requires : tie.Need-obu-refusal-requires Inv-loop μ-loop
 obu-refusal-requires c κs = search needs
 
 returns : tie.Need-returns Inv-loop μ-loop
-unfolding andNext
+unfolding keptBehind andNext
 returns c =
     let k = c .before in
     let l = k .before .before .before .loop in
@@ -84,7 +84,7 @@ loop-again-2 c =
     (front ++ (g .obu ∷ []), walk-next (l .inv .1) (g .placed), turn-other _ front (g .obu) (l .inv .2) t)
 
 returns-2 : tie.Need-returns-2 Inv-loop μ-loop
-unfolding andNext
+unfolding keptBehind andNext
 returns-2 c =
     let l = c .before .loop in
     rw (walk-end (l .inv .1) (sym (at-end _ (l .at) (omega arith)))) (l .inv .2)

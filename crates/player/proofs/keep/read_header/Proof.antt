@@ -2,6 +2,7 @@ use borrow.Author.Needs.{needs}
 use mathlib.Core.Path.{sym, ap, _∙_}
 use Rattle.bitio.specs.Parse.{andNext}
 use Rattle.header.specs.Support.{supportSays}
+use Rattle.player.specs.Code.{keeping}
 use Rattle.player.proofs.KeepLaws.{header-refused, header-read}
 use Rattle.player.proofs.keep.read_header.Statement.{statement}
 use Rattle.player.proofs.keep.read_header.Tie as tie
@@ -27,7 +28,7 @@ enum-told c = search needs
 returns : tie.Need-returns
 returns c =
     let p = c .before .before .before .before .parse-sequence-header in
-    header-refused _ (p .result) (p .ensures) _ (c .before .answer .given .1)
+    ap (keeping _) (header-refused _ (p .result) (p .ensures) _ (c .before .answer .given .1))
 
 returns-2 : tie.Need-returns-2
 unfolding andNext
@@ -35,7 +36,7 @@ returns-2 c =
     let k = c .before .before .before in
     let p = k .before .before .before .before .before .parse-sequence-header in
     let e = sym (k .check-supported .ensures) ∙ ap supportSays (c .before .k .given .1) in
-    sym (header-read _ (p .result) (p .ensures) _ (k .before .before .answer2 .given .1) ∙ rw e)
+    rw (header-read _ (p .result) (p .ensures) _ (k .before .before .answer2 .given .1), e)
 
 returns-3 : tie.Need-returns-3
 unfolding andNext
@@ -43,7 +44,7 @@ returns-3 c =
     let k = c .before .before in
     let p = k .before .before .before .before .before .parse-sequence-header in
     let e = sym (k .check-supported .ensures) ∙ ap supportSays (c .enum-told .given .1) in
-    sym (header-read _ (p .result) (p .ensures) _ (k .before .before .answer2 .given .1) ∙ rw e)
+    rw (header-read _ (p .result) (p .ensures) _ (k .before .before .answer2 .given .1), e)
 
 pub read-header-spec : {M : Type 1} → statement M
 read-header-spec =

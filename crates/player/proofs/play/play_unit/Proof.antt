@@ -20,7 +20,7 @@ use ghost.Atoms.{Atoms, sem}
 use contract.Monad.{Fun, fact}
 use contract.Lifetimes.{AllOutlive}
 use contract.Running.{givenOf, tables, tablesOf}
-use types.Kit.{Given, Item, Sq, runs, Post as GoalPost, ‵, raw, _⊛_, some, later, ⋆, _$_, _∵_, !, qed, by, move, keep, drop, use1, use2, split, join, pick, rewrite, fsplit, fsplit3, fjoin, fjoin3, feqI, suffices, frame, await, done}
+use types.Kit.{Given, Item, Sq, runs, lands, Post as GoalPost, ‵, raw, _⊛_, some, later, ⋆, _$_, _∵_, !, qed, by, move, keep, drop, use1, use2, split, join, pick, rewrite, fsplit, fsplit3, fjoin, fjoin3, feqI, suffices, frame, await, done}
 use types.Run.{look, look-raw, init, store-raw, forget, stop, hop, fld, from, load, and-then, no-more, land, of-opd, assigns, returns, enter, alloc1, alloc0, params1, pass1, pass0, free1, free0}
 use types.Part.{whole, sub, look-in}
 use types.SemTy.{Body}
@@ -45,8 +45,7 @@ use denote.Triple.Spec.{Meets, tripleOf}
 use denote.Triple.Table.{entered, cited}
 use denote.Triple.Walked.{says, Stays, stay-ref, stay-none, stay-none-slice, walkOf, AllGo, goes-none, goes-none-slice, goes-ref, Walks, ends-at, walked, walk-meets}
 use denote.Exit.{yes}
-use Rattle.player.specs.Player.{play, leaves}
-use Rattle.player.specs.Code.{stateSays, playedSays, Still}
+use Rattle.player.specs.Code.{playedBy}
 use Rattle.player.specs.declared.step.State.{State}
 use Rattle.player.specs.declared.step.Played.{Played}
 use Rattle.player.proofs.step.State as T
@@ -84,7 +83,7 @@ state-at = refl
 answer-at : fieldAt zero (tcons N′.mir (tcons T′.mir tnil)) 0 ≡ some′ (N′.mir, 0)
 answer-at = refl
 
--- The two stores behind the call, at any types of the answer τN and the state τT: types that are spelt out make each step dear.
+-- What the call returns is stored, and then its two fields, at any types of the answer τN and the state τT: types that are spelt out make each step dear.
 module _ {M : Type 1} {𝓤 : URA M} {H : Heap 𝓤} {A : Atoms 𝓤} (W : Given 𝓤 H A) (τN τT τR τP τU : Ty) (ν : Sym) (C : Calls 𝓤 H) (Λ : Loops 𝓤 H) (l₀ l₁ l₂ l₃ l₄ l₅ : ℕ) where
   abbrev pair : Ty
   pair = tyStruct ν (tcons τN (tcons τT tnil))
@@ -95,11 +94,12 @@ module _ {M : Type 1} {𝓤 : URA M} {H : Heap 𝓤} {A : Atoms 𝓤} (W : Given
   abbrev stored : Code
   stored = seq (assign (place 1 (deref τT ∷ [])) (rvOpd (copy (place 5 (field 1 ∷ []))))) (seq (assign (place 0 []) (rvOpd (copy (place 5 (field 0 ∷ []))))) return)
 
-  stores : {b o : ℕ} {w vN vT : Val} {q : GoalPost 𝓤 H} {Δ : List (Item 𝓤)}
-      → fieldAt zero (tcons τN (tcons τT tnil)) 1 ≡ some′ (τT, 16) → fieldAt zero (tcons τN (tcons τT tnil)) 0 ≡ some′ (τN, 0) → T (hasTy τT vT) × WT vT → T (hasTy τN vN) × WT vN
+  stores : {b o : ℕ} {w v vN vT : Val} {q : GoalPost 𝓤 H} {Δ : List (Item 𝓤)}
+      → fieldAt zero (tcons τN (tcons τT tnil)) 1 ≡ some′ (τT, 16) → fieldAt zero (tcons τN (tcons τT tnil)) 0 ≡ some′ (τN, 0) → T (hasTy pair v) × WT v → v ≡ vstruct (vcons vN (vcons vT vnil)) → T (hasTy τT vT) × WT vT → T (hasTy τN vN) × WT vN
       → Sq W (‵ (fat fullShare (rawTy τT) b o vT) ∷ ‵ (fat fullShare pair l₅ 0 (vstruct (vcons vN (vcons vT vnil)))) ∷ ‵ (fat fullShare τR l₁ 0 (vptr b o)) ∷ ‵ (fat fullShare τN l₀ 0 vN) ∷ Δ) (runs C Λ En return q)
-      → Sq W (‵ (fat fullShare (rawTy τT) b o w) ∷ ‵ (fat fullShare pair l₅ 0 (vstruct (vcons vN (vcons vT vnil)))) ∷ ‵ (fat fullShare τR l₁ 0 (vptr b o)) ∷ ‵ (froom τN l₀ 0) ∷ Δ) (runs C Λ En stored q)
-  stores second first is-state is-answer k =
+      → Sq W (‵ (fat fullShare (rawTy τT) b o w) ∷ ‵ (froom pair l₅ 0) ∷ ‵ (fat fullShare τR l₁ 0 (vptr b o)) ∷ ‵ (froom τN l₀ 0) ∷ Δ) (lands C Λ En (place 5 []) v stored q)
+  stores second first is-pair tells is-state is-answer k =
+      land ! (from ! (stop !)) (init ! 1 refl is-pair) $ rewrite ! 1 (λ (w : Val). ‵ (fat fullShare pair l₅ 0 w)) tells refl $
       assigns ! (of-opd ! (load ! (from ! (fld ! second (stop !))) (look-in ! 1 (sub ! 1 second (whole !))))) (from ! (hop ! (look ! 2 refl) (stop !))) (store-raw ! 0 refl is-state) $
       assigns ! (of-opd ! (load ! (from ! (fld ! first (stop !))) (look-in ! 1 (sub ! 0 first (whole !))))) (from ! (stop !)) (init ! 3 refl is-answer) $ k
 
@@ -110,20 +110,11 @@ module _ {M : Type 1} (𝓤 : URA M) (H : Heap 𝓤) (A : Atoms 𝓤) (mem′ : 
   module _ (κ : Lft) (h : State) (n : ℕ) (u : RefT (List ℕ)) (r : Played) where
     -- what `step` ensures
     abbrev Says : Type 0
-    Says = playedSays r ≡ play (stateSays h) n (u .now)
+    Says = r ≡ playedBy h n (u .now)
 
-    abbrev Leaves : Type 0
-    Leaves = stateSays (r .state) ≡ leaves (stateSays h) (play (stateSays h) n (u .now))
-
-    abbrev Stills : Type 0
-    Stills = Still (r .answer) (r .state) h
-
-    abbrev Three : SProp 𝓤
-    Three = sep 𝓤 (fact 𝓤 Says) (sep 𝓤 (fact 𝓤 Leaves) (fact 𝓤 Stills))
-
-    -- of the callee's `ensured`, the clauses alone
-    stepped-of : ent 𝓤 (ensured 𝓤 H A step′.ended (step′.clauses 𝓤 H A mem′ run) (κ, tt) (h, (n, (u, tt))) tt r) Three
-    stepped-of = exE 𝓤 _ (λ ws. snd∗ 𝓤 (sem 𝓤 H A (lasts step′.ended (κ, tt) (h, (n, (u, tt))) ws)) Three)
+    -- of the callee's `ensured`, the clause alone
+    stepped-of : ent 𝓤 (ensured 𝓤 H A step′.ended (step′.clauses 𝓤 H A mem′ run) (κ, tt) (h, (n, (u, tt))) tt r) (fact 𝓤 Says)
+    stepped-of = exE 𝓤 _ (λ ws. snd∗ 𝓤 (sem 𝓤 H A (lasts step′.ended (κ, tt) (h, (n, (u, tt))) ws)) (fact 𝓤 Says))
 
 module _ {M : Type 1} (𝓤 : URA M) (H : Heap 𝓤) (A : Atoms 𝓤) (W : Given 𝓤 H A) (at-mem : Memory → SProp 𝓤) (run : Routine → Fun 𝓤) (κ κ′ : Lft) (bounds : AllOutlive 2 (f.signature .outlives) (κ, (κ′, tt))) (q q′ : Share)
     (b o : ℕ) (γ : GName) (h : State) (n : ℕ) (u : RefT (List ℕ)) where
@@ -152,12 +143,12 @@ module _ {M : Type 1} (𝓤 : URA M) (H : Heap 𝓤) (A : Atoms 𝓤) (W : Given
   abbrev Lent : Fml
   Lent = fbor κ (Body (mem T.the-row) b o γ)
 
-  exits : (r : Played) → Says 𝓤 H A at-mem run κ′ h n u r → Leaves 𝓤 H A at-mem run κ′ h n u r → Stills 𝓤 H A at-mem run κ′ h n u r → n < 2 ^ 64 → Is N.the-row (r .answer) (Answers r ∷ [])
+  exits : (r : Played) → Says 𝓤 H A at-mem run κ′ h n u r → n < 2 ^ 64 → Is N.the-row (r .answer) (Answers r ∷ [])
       → ent 𝓤 (⋆ 𝓤 H A (‵ (Left r) ∷ ‵ Lent ∷ ‵ (flft κ q) ∷ ‵ (flft κ′ q′) ∷ ‵ OwnUnit ∷ [])) (Post (Answers r))
-  exits r e e′ e″ n-fits is =
+  exits r e n-fits is =
       qed W (‵ (Left r) ∷ ‵ Lent ∷ ‵ (flft κ q) ∷ ‵ (flft κ′ q′) ∷ ‵ OwnUnit ∷ []) ∵
       suffices ! _ (ends-at 𝓤 H A f.ended stayed (f.clauses 𝓤 H A at-mem run) W (((κ, (κ′, tt)), (q, (q′, tt)), bounds, x, at), tt) (Answers r) (r .answer) (r .state, (tt, (tt, tt))) (tt, (tt, (tt, tt)))) $
-      says ! (e, e′, e″) $ nothing ! $ move ! (4 ∷ 0 ∷ []) $ join ! $ move ! (3 ∷ 0 ∷ []) $ join ! $
+      says ! (ap (λ y. y .answer) e, ap (λ y. y .state) e) $ nothing ! $ move ! (4 ∷ 0 ∷ []) $ join ! $ move ! (3 ∷ 0 ∷ []) $ join ! $
       frame ! $ feqI ! (List Val) (vptr b o ∷ []) (vptr b o ∷ []) refl $ fjoin3 ! $ nothing ! $ move ! (2 ∷ 0 ∷ []) $ fjoin ! $ owned ! u64 (Is u64) (uint-makes 𝓤 H A W w64) n _ (refl, n-fits) $ fjoin ! $ move ! (1 ∷ 0 ∷ []) $ fjoin ! $
       frame ! $ owned ! N.the-row (Is N.the-row) (LE.makes N.the-type N′.the-plain 𝓤 H A) (r .answer) _ is $ done !
 
@@ -190,21 +181,20 @@ module _ {M : Type 1} (𝓤 : URA M) (H : Heap 𝓤) (A : Atoms 𝓤) (W : Given
         calls-at ! fm (Step 𝓤 H A at-mem run) known to-step (and-then ! (load ! (from ! (stop !)) (look ! 9 refl)) (and-then ! (load ! (from ! (stop !)) (look ! 13 refl)) (and-then ! (load ! (from ! (stop !)) (look ! 11 refl)) (no-more !)))) (λ v.
         use1 W (later (some (λ (r : Played). ((‵ (flft κ′ q′) ⊛ ‵ ftrue) ⊛ ‵ (S.the-row .own r (v ∷ []))) ⊛ raw (ensured 𝓤 H A step′.ended (step′.clauses 𝓤 H A at-mem run) (κ′, tt) (h, (n, (u, tt))) tt r)))) (id⊢ 𝓤 _) $ await ! tt $ pick ! (λ r.
         split ! $ move ! (1 ∷ []) $
-        use1 W (raw (fact 𝓤 (Says 𝓤 H A at-mem run κ′ h n u r)) ⊛ raw (fact 𝓤 (Leaves 𝓤 H A at-mem run κ′ h n u r)) ⊛ raw (fact 𝓤 (Stills 𝓤 H A at-mem run κ′ h n u r))) (stepped-of 𝓤 H A at-mem run κ′ h n u r) $
-        split ! $ heard ! (Says 𝓤 H A at-mem run κ′ h n u r) (λ e. split ! $ heard ! (Leaves 𝓤 H A at-mem run κ′ h n u r) (λ e′. heard ! (Stills 𝓤 H A at-mem run κ′ h n u r) (λ e″. split ! $ move ! (1 ∷ []) $
+        use1 W (raw (fact 𝓤 (Says 𝓤 H A at-mem run κ′ h n u r))) (stepped-of 𝓤 H A at-mem run κ′ h n u r) $
+        heard ! (Says 𝓤 H A at-mem run κ′ h n u r) (λ e. split ! $ move ! (1 ∷ []) $
         peeks ! S.the-row (Is S.the-row) (shows 𝓤 H A S.the-row) r (v ∷ []) (λ is.
         -- [what a Played owns; the unit's token and true; the unit; the state's cell; what a State owns; the open borrow; obs; auth; _5; …; _4; …; _3; …; _2; …; _1; …; room for _0; …]
-        land ! (from ! (stop !)) (init ! 8 refl (LL.lawful S.the-type S′.the-laws 𝓤 H A W .typed r _ is .0)) $
-        rewrite ! 8 (λ (w : Val). ‵ (fat fullShare S′.mir l₅ 0 w)) (ap only (LL.tells S.the-type S′.the-laws r (v ∷ []) is)) refl $
         drop ! $ move ! (2 ∷ 7 ∷ 15 ∷ 17 ∷ []) $
         stores W N′.mir T′.mir (tyRef (named 0) mut (pointee (T.the-row .written))) (tyInt w64) (sliceTy (tyRef (named 1) imm (tyInt w8))) _ C Λ l₀ l₁ l₂ l₃ l₄ l₅ state-at answer-at
+        (LL.lawful S.the-type S′.the-laws 𝓤 H A W .typed r _ is .0) (ap only (LL.tells S.the-type S′.the-laws r (v ∷ []) is))
         (LL.lawful T.the-type T′.the-laws 𝓤 H A W .typed (r .state) _ (state-is r v is) .0) (LE.lawful N.the-type N′.the-laws 𝓤 H A W tt .typed (r .answer) _ (answer-is r v is) .0)
         -- [the state's cell; _5; _1; _0; the unit's token and true; the unit; what a State owned; the open borrow; obs; auth; what frees _5; _4; …; _3; …; _2; …; what frees _1; what frees _0]
         (move ! (0 ∷ 7 ∷ 8 ∷ 9 ∷ []) $ owned ! T.the-row (Is T.the-row) ((LL.makes T.the-type T′.the-plain) 𝓤 H A) (r .state) _ (state-is r v is) $ move ! (1 ∷ 0 ∷ []) $ closes ! tt T.the-row (r .state) (vals (r .state)) b o $
         -- [obs; the borrow; its token; _5; _1; _0; the unit's token and true; the unit; what a State owned; what frees _5; _4; …; _3; …; _2; …; what frees _1; what frees _0]
         returns ! (look ! 5 refl) $ forget ! 3 refl $ forget ! 4 refl $ forget ! 5 refl $ forget ! 10 refl $ forget ! 12 refl $ forget ! 14 refl $
         move ! (5 ∷ 17 ∷ []) $ free1 ! $ move ! (4 ∷ 15 ∷ []) $ free1 ! $ move ! (12 ∷ 13 ∷ []) $ free1 ! $ move ! (10 ∷ 11 ∷ []) $ free1 ! $ move ! (8 ∷ 9 ∷ []) $ free1 ! $ move ! (3 ∷ 7 ∷ []) $ free1 ! $ free0 ! $
-        move ! (3 ∷ []) $ split ! $ keep ! (2 ∷ 3 ∷ 4 ∷ 0 ∷ 5 ∷ []) $ by ! (exits r e e′ e″ (gn .1) (answer-is r v is))))))))))))))))))
+        move ! (3 ∷ []) $ split ! $ keep ! (2 ∷ 3 ∷ 4 ∷ 0 ∷ 5 ∷ []) $ by ! (exits r e (gn .1) (answer-is r v is))))))))))))))))
 
 module _ {M : Type 1} (𝓤 : URA M) (H : Heap 𝓤) (A : Atoms 𝓤) (W : Given 𝓤 H A) (at-mem : Memory → SProp 𝓤) (run : Routine → Fun 𝓤) where
   play-unit-walks : (C : Calls 𝓤 H) (Λ : Loops 𝓤 H) → FmC 𝓤 H (W .laws) C → Triple 𝓤 (C #step) (Step 𝓤 H A at-mem run)

@@ -1,6 +1,6 @@
 -- `played` meets its contract: a walk of its MIR, by hand. A local is lent to `play_unit` for a lifetime of the call, and comes back at the state that `play_unit` ensures. Its signature lends no struct, so whoever calls it is covered.
 -- Assumes nothing.
-use mathlib.Core.Path.{_≡_, refl, ap}
+use mathlib.Core.Path.{_≡_, refl, ap, ap₂}
 use Prim.Native.Nat.{ℕ, _<_, _^_}
 use mathlib.Core.List.{[], _∷_, List}
 use lib.ListN.{length}
@@ -44,8 +44,7 @@ use denote.Triple.Spec.{Meets, tripleOf}
 use denote.Triple.Table.{entered, cited}
 use denote.Triple.Walked.{says, Stays, stay-none, stay-none-slice, walkOf, AllGo, goes-none, goes-none-slice, Walks, ends-at, walked, walk-meets}
 use denote.Exit.{yes}
-use Rattle.player.specs.Player.{play, leaves}
-use Rattle.player.specs.Code.{stateSays, playedIn, Still}
+use Rattle.player.specs.Code.{playedBy}
 use Rattle.player.specs.declared.slots.Answer.{Answer}
 use Rattle.player.specs.declared.step.State.{State}
 use Rattle.player.specs.declared.step.Played.{Played}
@@ -89,7 +88,7 @@ module _ {M : Type 1} (𝓤 : URA M) (H : Heap 𝓤) (A : Atoms 𝓤) (W : Given
 
   -- what `play_unit` ensures of its result r and the last state s
   abbrev Says : Answer → State → Type 0
-  Says r s = (playedIn r s ≡ play (stateSays h) n (u .now)) × (stateSays s ≡ leaves (stateSays h) (play (stateSays h) n (u .now))) × Still r s h
+  Says r s = (r ≡ playedBy h n (u .now) .answer) × (s ≡ playedBy h n (u .now) .state)
 
   abbrev got : Answer → State → Played
   got r s = record { answer = r; state = s }
@@ -97,7 +96,7 @@ module _ {M : Type 1} (𝓤 : URA M) (H : Heap 𝓤) (A : Atoms 𝓤) (W : Given
   exits : (r : Answer) (s : State) → Says r s → Is S.the-row (got r s) (LL.vals S.the-type S′.the-laws (got r s)) → ent 𝓤 (⋆ 𝓤 H A (‵ (flft κ q) ∷ ‵ OwnUnit ∷ [])) (Post (LL.val S.the-type S′.the-laws (got r s)))
   exits r s e is =
       qed W (‵ (flft κ q) ∷ ‵ OwnUnit ∷ []) ∵ suffices ! _
-      (ends-at 𝓤 H A f.ended stayed (f.clauses 𝓤 H A at-mem run) W (((κ, tt), (q, tt), bounds, (h, (n, (u, tt))), at), tt) (LL.val S.the-type S′.the-laws (got r s)) (got r s) (tt, (tt, (tt, tt))) (tt, (tt, (tt, tt)))) $ says ! e $
+      (ends-at 𝓤 H A f.ended stayed (f.clauses 𝓤 H A at-mem run) W (((κ, tt), (q, tt), bounds, (h, (n, (u, tt))), at), tt) (LL.val S.the-type S′.the-laws (got r s)) (got r s) (tt, (tt, (tt, tt))) (tt, (tt, (tt, tt)))) $ says ! (ap₂ got (e .0) (e .1)) $
       owned ! S.the-row (Is S.the-row) ((LL.makes S.the-type S′.the-plain) 𝓤 H A) (got r s) _ is $ nothing ! $ move ! (3 ∷ 0 ∷ []) $ fjoin ! $ owned ! u64 (Is u64) (uint-makes 𝓤 H A W w64) n _ (refl, n-fits) $ fjoin ! $
       owned ! T.the-row (Is T.the-row) ((LL.makes T.the-type T′.the-plain) 𝓤 H A) h _ h-is $ fjoin ! $ nothing ! $ move ! (3 ∷ 0 ∷ []) $ join ! $ done !
 

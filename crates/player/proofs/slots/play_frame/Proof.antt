@@ -1,7 +1,7 @@
 use borrow.Author.Needs.{needs}
 use mathlib.Core.Path.{sym, ap, _∙_}
 use Rattle.player.specs.Player.{act}
-use Rattle.player.specs.Code.{slotSays, slotsSay}
+use Rattle.player.specs.Code.{actedOn}
 use Rattle.player.proofs.slots.play_frame.Statement.{statement}
 use Rattle.player.proofs.slots.play_frame.Tie as tie
 
@@ -18,7 +18,6 @@ refresh-slots-requires : tie.Need-refresh-slots-requires
 refresh-slots-requires c κs = search needs
 
 returns : tie.Need-returns
-unfolding slotSays
 returns c =
     let i = c .before .before .before .before .info2 .given .1 in
     rw (i, c .if1 .taken, c .before .refresh-slots .ensures)
@@ -26,10 +25,9 @@ returns c =
 returns-2 : tie.Need-returns-2
 returns-2 c =
     let a = c .before .before .before .before .args in
-    c .show-slot .ensures ∙ ap (act (slotsSay (a .slots)) (a .position)) (sym (c .before .before .info .given .1))
+    c .show-slot .ensures ∙ ap (λ x. actedOn (a .slots) (act (a .slots) (a .position) x)) (sym (c .before .before .info .given .1))
 
 returns-3 : tie.Need-returns-3
-unfolding slotSays
 returns-3 c =
     let i = c .before .before .before .before .info2 .given .1 in
     rw (i, c .if1 .left, c .before .refresh-slots .ensures)

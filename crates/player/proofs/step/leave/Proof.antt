@@ -1,6 +1,5 @@
 use borrow.Author.Needs.{needs}
-use Rattle.bitio.specs.Parse.{andNext}
-use Rattle.player.proofs.StepLaws.{plays-as}
+use mathlib.Core.Path.{_∙_}
 use Rattle.player.proofs.step.leave.Statement.{statement}
 use Rattle.player.proofs.step.leave.Tie as tie
 
@@ -17,16 +16,13 @@ enum-told : tie.Need-enum-told
 enum-told c = search needs
 
 returns : tie.Need-returns
-unfolding andNext
-returns c = plays-as _ _ _ (c .refuse .ensures) (rw (c .before .before .answer .given .1))
+returns c = c .refuse .ensures ∙ rw (c .before .before .answer .given .1)
 
 returns-2 : tie.Need-returns-2
-unfolding andNext
-returns-2 c = record { says = rw (c .before .answer2 .given .1); still = tt }
+returns-2 c = rw (c .before .answer2 .given .1)
 
 returns-3 : tie.Need-returns-3
-unfolding andNext
-returns-3 c = record { says = rw (c .enum-told .given .1); still = tt }
+returns-3 c = rw (c .enum-told .given .1)
 
 pub leave-spec : {M : Type 1} → statement M
 leave-spec =

@@ -1,8 +1,7 @@
 use borrow.Author.Needs.{needs}
-use mathlib.Core.Path.{sym, ap, _∙_}
+use mathlib.Core.Path.{_∙_}
 use denote.Ref.{now}
-use Rattle.player.specs.Code.{stateSays, keptIn}
-use Rattle.player.proofs.StepLaws.{plays-whole, play-long, play-headers, play-kept}
+use Rattle.player.proofs.StepLaws.{by-long, by-headers, by-kept}
 use Rattle.player.proofs.step.step.Statement.{statement}
 use Rattle.player.proofs.step.step.Tie as tie
 
@@ -12,7 +11,7 @@ refuse-requires c κs = search needs
 returns : tie.Need-returns
 returns c =
     let a = c .before .before .before .args in
-    plays-whole _ _ _ (c .refuse .ensures) (play-long (stateSays (a .state)) (a .position) (now (a .unit)) (c .before .if1 .taken))
+    c .refuse .ensures ∙ by-long (a .state) (a .position) (now (a .unit)) (c .before .if1 .taken)
 
 keep-headers-requires : tie.Need-keep-headers-requires
 keep-headers-requires c κs = search needs
@@ -33,17 +32,13 @@ returns-2 : tie.Need-returns-2
 returns-2 c =
     let k = c .before .before .before .before in
     let a = k .before .before .before .args in
-    let h = k .keep-headers in
-    plays-whole _ _ _ (c .refuse2 .ensures)
-    (play-headers (stateSays (a .state)) (a .position) (now (a .unit)) (k .before .if1 .left) _ (sym (ap (λ x. keptIn x (h .result .kept)) (c .before .before .headers .given .1)) ∙ h .ensures))
+    c .refuse2 .ensures ∙ by-headers (a .state) (a .position) (now (a .unit)) (k .before .if1 .left) (k .keep-headers .ensures) _ (c .before .before .headers .given .1)
 
 returns-3 : tie.Need-returns-3
 returns-3 c =
     let k = c .before .before .before in
     let a = k .before .before .before .args in
-    let h = k .keep-headers in
-    plays-whole _ _ _ (c .step-frame .ensures)
-    (play-kept (stateSays (a .state)) (a .position) (now (a .unit)) (k .before .if1 .left) _ (sym (ap (λ x. keptIn x (h .result .kept)) (c .before .enum-told .given .1)) ∙ h .ensures))
+    c .step-frame .ensures ∙ by-kept (a .state) (a .position) (now (a .unit)) (k .before .if1 .left) (k .keep-headers .ensures) (c .before .enum-told .given .1)
 
 pub step-spec : {M : Type 1} → statement M
 step-spec =

@@ -1,19 +1,21 @@
 use borrow.Author.Needs.{needs}
 use mathlib.Core.Path.{sym, ap, _∙_}
+use denote.Ref.{now}
 use Rattle.header.specs.Frame.{frameSays}
-use Rattle.player.specs.Code.{keptSays, leftBy}
-use Rattle.player.proofs.SlotLaws.{not-true, not-false}
-use Rattle.player.proofs.StepLaws.{plays-as, kept-none, kept-refused, kept-frame}
+use Rattle.player.specs.Player.{act}
+use Rattle.player.specs.Code.{keptSays, playedOn, leftIn}
+use Rattle.player.proofs.StepLaws.{frame-left, kept-none, kept-refused, kept-frame}
 use Rattle.player.proofs.step.step_frame.Statement.{statement}
 use Rattle.player.proofs.step.step_frame.Tie as tie
+
+enum-told : tie.Need-enum-told
+enum-told c = search needs
 
 refuse-requires : tie.Need-refuse-requires
 refuse-requires c κs = search needs
 
-returns : tie.Need-returns
-returns c =
-    let a = c .before .before .before .before .args in
-    plays-as _ _ _ (c .refuse .ensures) (kept-none _ _ _ (a .kept) (not-true (c .before .if1 .taken)))
+enum-known-last : tie.Need-enum-known-last
+enum-known-last c = search needs
 
 read-frame-requires : tie.Need-read-frame-requires
 read-frame-requires c κs = search needs
@@ -33,33 +35,41 @@ play-frame-requires c κs = search needs
 leave-requires : tie.Need-leave-requires
 leave-requires c κs = search needs
 
+returns : tie.Need-returns
+returns c =
+    let a = c .before .before .before .before .before .before .args in
+    c .refuse .ensures ∙ ap (playedOn (a .state) (a .kept)) (kept-none (a .state .slots) (a .position) (now (a .unit)) (a .kept) (c .before .enum-told .given .1))
+
 returns-2 : tie.Need-returns-2
 returns-2 c =
     let f = c .before .before .before .before in
-    let t = f .before .before .before in
-    let a = t .before .before .before .args in
-    plays-as _ _ _ (c .refuse2 .ensures) (kept-refused _ _ _ (a .kept) (not-false (t .if1 .left)) _ (sym (f .read-frame .ensures) ∙ ap frameSays (c .before .before .k .given .1)))
+    let t = f .before .before in
+    let a = t .before .before .before .before .before .args in
+    c .refuse2 .ensures
+    ∙ ap (playedOn (a .state) (a .kept)) (kept-refused (a .state .slots) (a .position) (now (a .unit)) (a .kept) _ (t .last .given .1) _ (sym (f .read-frame .ensures) ∙ ap frameSays (c .before .before .k .given .1)))
 
 returns-3 : tie.Need-returns-3
 returns-3 c =
     let f = c .before .before .before .before .before in
-    let t = f .before .before .before in
-    let a = t .before .before .before .args in
-    plays-as _ _ _ (c .leave .ensures)
-    (ap (leftBy (keptSays (a .kept))) (c .before .play-frame .ensures)
-    ∙ kept-frame _ _ _ (a .kept) (not-false (t .if1 .left)) _ (sym (f .read-frame .ensures) ∙ ap frameSays (c .before .before .before .info .given .1)))
+    let t = f .before .before in
+    let a = t .before .before .before .before .before .args in
+    let i = c .before .before .before .info .given in
+    c .leave .ensures ∙ ap (leftIn (a .state) (a .kept)) (c .before .play-frame .ensures) ∙ frame-left (a .state) (a .kept) (keptSays (a .kept)) (act (a .state .slots) (a .position) (i .0 .0))
+    ∙ ap (playedOn (a .state) (a .kept)) (kept-frame (a .state .slots) (a .position) (now (a .unit)) (a .kept) _ (t .last .given .1) _ (sym (f .read-frame .ensures) ∙ ap frameSays (i .1)))
 
 pub step-frame-spec : {M : Type 1} → statement M
 step-frame-spec =
     tie.close
     (tie.spec
+    enum-told
     refuse-requires
-    returns
+    enum-known-last
     read-frame-requires
     enum-known-k
     refuse-requires-2
     enum-known-info
     play-frame-requires
     leave-requires
+    returns
     returns-2
     returns-3)
