@@ -5,24 +5,12 @@ use crate::keep::Kept;
 use crate::keep::Last;
 use crate::slots::Slot;
 use crate::step::State;
-use header::seq_header::OperatingPoint;
+use header::seq_header::read_points::no_point;
 
 // Eight empty slots and no header: the zeros are not looked at.
 pub fn start_state() -> State
     ensures { λ r. ⌜ r ≡ startState ⌝ }
 {
-    let point = OperatingPoint {
-        idc: 0,
-        seq_level_idx: 0,
-        seq_tier: false,
-        decoder_model_present: false,
-        decoder_buffer_delay: 0,
-        encoder_buffer_delay: 0,
-        low_delay_mode: false,
-        initial_display_delay_present: false,
-        initial_display_delay_minus_1: 0,
-    };
-    let points = [point; 32];
     let empty = Slot {
         is_filled: false,
         position: 0,
@@ -30,6 +18,8 @@ pub fn start_state() -> State
         key: false,
     };
     let slots = [empty; 8];
+    let point = no_point();
+    let points = [point; 32];
     let kept = Kept {
         last: Last::Nothing,
         points: points,

@@ -105,11 +105,11 @@ fn read_point(b: BitReader, s: &[u8], o: Opening) -> PointAt
     read_point_from(b, s, o, x)
 }
 
-// 32 operating points of zeros.
-pub(crate) fn no_points() -> [OperatingPoint; 32]
-    ensures { λ r. ⌜ r ≡ replicate 32 noPoint ⌝ }
+// An operating point of zeros.
+pub fn no_point() -> OperatingPoint
+    ensures { λ r. ⌜ r ≡ noPoint ⌝ }
 {
-    let none = OperatingPoint {
+    OperatingPoint {
         idc: 0,
         seq_level_idx: 0,
         seq_tier: false,
@@ -119,7 +119,13 @@ pub(crate) fn no_points() -> [OperatingPoint; 32]
         low_delay_mode: false,
         initial_display_delay_present: false,
         initial_display_delay_minus_1: 0,
-    };
+    }
+}
+
+pub(crate) fn no_points() -> [OperatingPoint; 32]
+    ensures { λ r. ⌜ r ≡ replicate 32 noPoint ⌝ }
+{
+    let none = no_point();
     [none; 32]
 }
 
