@@ -2,7 +2,6 @@
 // takes, in a process of its own. gop_size is 250 where none is named.
 #include "../include/magbelo.h"
 #include "common.h"
-#include <stdbool.h>
 #include <sys/resource.h>
 #include <sys/wait.h>
 #include <unistd.h>

@@ -4,6 +4,7 @@
 
 #include "ours.h"
 
+#include <stdbool.h>
 #include <stdio.h>
 #include <stdlib.h>
 #include <string.h>
@@ -26,6 +27,23 @@ static inline int by_time(const void *a, const void *b) {
 static inline double median(double *times) {
     qsort(times, ROUNDS, sizeof *times, by_time);
     return times[ROUNDS / 2];
+}
+
+/* Times of a call of ours and of the Rust's, and of the Rust's with the release of what it made. */
+struct turns {
+    double ours[ROUNDS], theirs[ROUNDS], released[ROUNDS];
+};
+
+static inline void print_head(void) {
+    printf("%-28s %-13s %9s %9s %7s %9s\n", "shape", "job", "ours ms", "Rust ms", "ratio", "released");
+}
+
+/* Within a twentieth of the Rust's time is even. */
+static inline void print(const char *shape, const char *job, struct turns *t, double aim) {
+    double a = median(t->ours), b = median(t->theirs), c = median(t->released);
+    const char *note = a / b > 1.05 ? "SLOWER" : a / b > aim + 0.05 ? "over the aim" : "";
+    printf("%-28s %-13s %9.2f %9.2f %7.2f %9.2f  %s\n", shape, job, a * 1e3, b * 1e3, a / b, a / c, note);
+    fflush(stdout);
 }
 
 static void stop(const char *why) {

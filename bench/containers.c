@@ -1,6 +1,5 @@
 // Reading and writing both containers beside the Rust: the same inputs, turn about, the median of the rounds.
 #include "common.h"
-#include <stdbool.h>
 
 // The Rust, of oracle/server/src/timed.rs.
 void *rust_split_obu_stream(const uint8_t *data, size_t len);
@@ -21,19 +20,6 @@ struct lent {
     uint32_t *ends;
     size_t room, slots;
 };
-
-// Times of a call of ours and of the Rust's, and of the Rust's with the release of what it made.
-struct turns {
-    double ours[ROUNDS], theirs[ROUNDS], released[ROUNDS];
-};
-
-// Within a twentieth of the Rust's time is even.
-static void print(const char *shape, const char *job, struct turns *t, double aim) {
-    double a = median(t->ours), b = median(t->theirs), c = median(t->released);
-    const char *note = a / b > 1.05 ? "SLOWER" : a / b > aim + 0.05 ? "over the aim" : "";
-    printf("%-28s %-13s %9.2f %9.2f %7.2f %9.2f  %s\n", shape, job, a * 1e3, b * 1e3, a / b, a / c, note);
-    fflush(stdout);
-}
 
 // Reads data in one container, turn about; answers how many units there are.
 static size_t read_turns(const char *shape, int job, const uint8_t *data, size_t len, struct lent *m) {
@@ -133,7 +119,7 @@ static void repeated(const char *path) {
 }
 
 int main(int n, char **files) {
-    printf("%-28s %-13s %9s %9s %7s %9s\n", "shape", "job", "ours ms", "Rust ms", "ratio", "released");
+    print_head();
     shape("frames of 50 KB", 2000, "26", 50000);
     shape("one frame of 100 MB", 1, "26", 100000000);
     shape("empty OBUs, no frame", 1000000, "5", 0);

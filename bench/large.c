@@ -1,7 +1,6 @@
 // Streams near the limit of 4,000,000,000 bytes: read, held against what they must be, written again in both
 // containers and read back. Prints the times and the most memory that was used.
 #include "common.h"
-#include <stdbool.h>
 #include <sys/resource.h>
 
 enum { PATTERN = 1 << 20, SLOTS = 1 << 20 };

@@ -5,7 +5,7 @@
 #include <stddef.h>
 #include <stdint.h>
 
-/* How many units or bytes, or 0 after a refusal. */
+/* How many units, packets or bytes, or 0 after a refusal. */
 size_t bench_split_obu_stream(const uint8_t *data, size_t len, uint8_t *out, size_t out_len, uint32_t *ends,
                               size_t ends_len);
 size_t bench_split_annexb(const uint8_t *data, size_t len, uint8_t *out, size_t out_len, uint32_t *ends,
@@ -14,5 +14,9 @@ size_t bench_write_obu_stream(const uint8_t *units, size_t len, const uint32_t *
                               size_t out_len);
 size_t bench_write_annexb(const uint8_t *units, size_t len, const uint32_t *ends, size_t n, uint8_t *out,
                           size_t out_len);
+size_t bench_merge_packets(const uint8_t *packets, size_t len, const uint32_t *ends, size_t n, const uint64_t *times,
+                           size_t times_len, uint8_t *out, size_t out_len, uint32_t *out_ends, size_t out_ends_len,
+                           uint64_t *out_times, size_t out_times_len);
+size_t bench_canonicalize_tu(const uint8_t *unit, size_t len, uint8_t *out, size_t out_len);
 
 #endif

@@ -29,6 +29,7 @@ use header::seq_header::OperatingPoint;
 use header::seq_header::SequenceAnswer;
 use header::seq_header::SequenceHeader;
 use header::seq_header::emit::emit_sequence_header;
+use header::seq_header::read_points::no_point;
 use header::seq_header::timing::with_timing_info_rate;
 use obu::reader::Extension;
 use obu::reader::Obu;
@@ -67,17 +68,7 @@ pub struct Plan {
 fn no_plan(answer: Planned) -> Plan
     ensures { λ r. ⌜ r .answer ≡ answer ⌝ }
 {
-    let none = OperatingPoint {
-        idc: 0,
-        seq_level_idx: 0,
-        seq_tier: false,
-        decoder_model_present: false,
-        decoder_buffer_delay: 0,
-        encoder_buffer_delay: 0,
-        low_delay_mode: false,
-        initial_display_delay_present: false,
-        initial_display_delay_minus_1: 0,
-    };
+    let none = no_point();
     let points = [none; 32];
     let new = [0u8; 400];
     Plan {

@@ -3,10 +3,13 @@ ghost use mathlib.Core.Path.{_≡_};
 ghost use mathlib.Core.Bool.{cond as pick};
 ghost use lib.ListN.{length};
 ghost use lib.Dec.{leb};
+ghost use Rattle.bitio.specs.Parse.{answer};
 ghost use Rattle.bitio.specs.Lent.{lent};
 ghost use Rattle.container.specs.Units.{sizesOf, bytesAfter, endsAfter, countOf, outAfter};
-ghost use Rattle.container.specs.Container.{stream, annexb, read, writeAt};
+ghost use Rattle.container.specs.Container.{stream, annexb, read, writeAt, canonicalAt};
+ghost use Rattle.container.specs.PacketLists.{bytesOf, roomOf, mergedAt, timesAfter};
 ghost use Rattle.bench.specs.Counts.{unitsOrNone, bytesOrNone};
+use container::packets::Merged;
 use container::units::Joined;
 use container::units::Split;
 
@@ -67,6 +70,46 @@ pub extern "C" fn bench_write_annexb(units: &[u8], unit_ends: &[u32], out: &mut 
     ensures { λ _. ⌜ now (out .exit) ≡ outAfter (writeAt annexb (record { bytes = length (now (out .entry)); ends = 0 }) (now (units .entry)) (now («unit_ends» .entry))) (now (out .entry)) ⌝ }
 {
     match container::annexb::write_annexb(units, unit_ends, out) {
+        Joined::Refused(_) => 0,
+        Joined::Bytes(n) => n,
+    }
+}
+
+// Packets, those without a frame joined: how many there are, or 0 after a refusal.
+#[no_mangle]
+pub extern "C" fn bench_merge_packets(
+    packets: &[u8],
+    packet_ends: &[u32],
+    times: &[u64],
+    out: &mut [u8],
+    out_ends: &mut [u32],
+    out_times: &mut [u64],
+) -> usize
+    ensures { λ r. ⌜ r ≡ unitsOrNone (sizesOf (answer bytesOf (mergedAt (roomOf (now (out .entry)) (now («out_ends» .entry)) (now («out_times» .entry))) (now (packets .entry)) (now («packet_ends» .entry)) (now (times .entry))))) ⌝ }
+    ensures { λ _. ⌜ now (out .exit) ≡ bytesAfter (answer bytesOf (mergedAt (roomOf (now (out .entry)) (now («out_ends» .entry)) (now («out_times» .entry))) (now (packets .entry)) (now («packet_ends» .entry)) (now (times .entry)))) (now (out .entry)) ⌝ }
+    ensures { λ _. ⌜ now («out_ends» .exit) ≡ endsAfter (answer bytesOf (mergedAt (roomOf (now (out .entry)) (now («out_ends» .entry)) (now («out_times» .entry))) (now (packets .entry)) (now («packet_ends» .entry)) (now (times .entry)))) (now («out_ends» .entry)) ⌝ }
+    ensures { λ _. ⌜ now («out_times» .exit) ≡ timesAfter (mergedAt (roomOf (now (out .entry)) (now («out_ends» .entry)) (now («out_times» .entry))) (now (packets .entry)) (now («packet_ends» .entry)) (now (times .entry))) (now («out_times» .entry)) ⌝ }
+{
+    match container::packets::merge_frameless_packets(
+        packets,
+        packet_ends,
+        times,
+        out,
+        out_ends,
+        out_times,
+    ) {
+        Merged::Refused(_) => 0,
+        Merged::Packets(_, n) => n,
+    }
+}
+
+// A unit without stray delimiters: how many bytes it has, or 0 after a refusal.
+#[no_mangle]
+pub extern "C" fn bench_canonicalize_tu(unit: &[u8], out: &mut [u8]) -> usize
+    ensures { λ r. ⌜ r ≡ bytesOrNone (countOf (canonicalAt (record { bytes = length (now (out .entry)); ends = 0 }) (now (unit .entry)))) ⌝ }
+    ensures { λ _. ⌜ now (out .exit) ≡ outAfter (canonicalAt (record { bytes = length (now (out .entry)); ends = 0 }) (now (unit .entry))) (now (out .entry)) ⌝ }
+{
+    match container::packets::canonicalize_tu(unit, out) {
         Joined::Refused(_) => 0,
         Joined::Bytes(n) => n,
     }

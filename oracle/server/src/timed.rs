@@ -77,6 +77,58 @@ pub unsafe extern "C" fn rust_units_are(
         })
 }
 
+type Packets = Vec<(u64, Vec<u8>)>;
+
+/// Packets that lie one behind the other in `bytes`, as the Rust takes them.
+#[no_mangle]
+pub unsafe extern "C" fn rust_packets(
+    bytes: *const u8,
+    ends: *const u32,
+    times: *const u64,
+    n: usize,
+) -> *mut Packets {
+    let units = Box::from_raw(rust_units(bytes, ends, n));
+    let times = lent(times, n).iter().copied();
+    Box::into_raw(Box::new(times.zip(*units).collect()))
+}
+
+/// Takes the packets for its own.
+#[no_mangle]
+pub unsafe extern "C" fn rust_merge_packets(packets: *mut Packets) -> *mut Packets {
+    let packets = *Box::from_raw(packets);
+    Box::into_raw(Box::new(container::merge_frameless_packets(packets)))
+}
+
+/// Whether these are the packets that lie one behind the other in `bytes`.
+#[no_mangle]
+pub unsafe extern "C" fn rust_packets_are(
+    packets: *const Packets,
+    bytes: *const u8,
+    ends: *const u32,
+    times: *const u64,
+    n: usize,
+) -> bool {
+    let mut at = 0;
+    (*packets).len() == n
+        && (*packets)
+            .iter()
+            .zip(lent(ends, n).iter().zip(lent(times, n)))
+            .all(|((time, packet), (&end, &other))| {
+                let start = std::mem::replace(&mut at, end as usize);
+                *time == other && packet[..] == *lent(bytes.add(start), at - start)
+            })
+}
+
+#[no_mangle]
+pub unsafe extern "C" fn rust_packets_free(packets: *mut Packets) {
+    drop(Box::from_raw(packets));
+}
+
+#[no_mangle]
+pub unsafe extern "C" fn rust_canonicalize_tu(unit: *const u8, len: usize) -> *mut Vec<u8> {
+    Box::into_raw(Box::new(container::canonicalize_tu(lent(unit, len))))
+}
+
 #[no_mangle]
 pub unsafe extern "C" fn rust_bytes_are(found: *const Vec<u8>, p: *const u8, len: usize) -> bool {
     (*found)[..] == *lent(p, len)
