@@ -1,6 +1,5 @@
 // Assembly beside the Rust: the same orders, turn about, the median of the rounds; and the most memory that each side
 // takes, in a process of its own. gop_size is 250 where none is named.
-#include "../include/magbelo.h"
 #include "common.h"
 #include <sys/resource.h>
 #include <sys/wait.h>

@@ -28,7 +28,7 @@ static size_t read_turns(const char *shape, int job, const uint8_t *data, size_t
     bool stream = job != READ_ANNEXB;
     for (int k = 0; k < ROUNDS; k++) {
         double t = seconds();
-        n = stream ? bench_split_obu_stream(data, len, m->units, m->room, m->ends, m->slots)
+        n = stream ? split_obu_stream(data, len, m->units, m->room, m->ends, m->slots)
                    : bench_split_annexb(data, len, m->units, m->room, m->ends, m->slots);
         all.ours[k] = seconds() - t;
         t = seconds();

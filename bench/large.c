@@ -59,7 +59,7 @@ static void shape(const char *name, uint8_t *a, uint8_t *b, uint8_t *c, size_t r
     static uint32_t ends[SLOTS], again[SLOTS];
     size_t len = pass_units(&(struct cursor){a, 0, true}, count, size, stray, false);
     double t = seconds();
-    size_t n = bench_split_obu_stream(a, len, b, room, ends, SLOTS);
+    size_t n = split_obu_stream(a, len, b, room, ends, SLOTS);
     double read = since(&t);
     if (n != count) stop("other units than expected");
     size_t bytes = pass_units(&(struct cursor){b, 0, false}, count, size, stray, true);

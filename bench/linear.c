@@ -19,7 +19,7 @@ static void times(size_t count, const char *types, size_t size, double *best) {
     for (int job = 0; job < JOBS; job++) best[job] = 1e9;
     for (int k = 0; k < ROUNDS; k++) {
         double t0 = seconds();
-        size_t n = bench_split_obu_stream(in.bytes, in.len, units, room, ends, slots);
+        size_t n = split_obu_stream(in.bytes, in.len, units, room, ends, slots);
         double t1 = seconds();
         size_t len = n ? ends[n - 1] : 0;
         size_t a = bench_write_obu_stream(units, len, ends, n, out, room);

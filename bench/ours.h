@@ -1,13 +1,16 @@
-/* What `rt staticlib bench` exports for the measurements and the tests on real streams. */
+/* What the measurements and the tests on real streams call: the exported stream reading of `rt staticlib capi`, and
+   what `rt staticlib bench` exports for them alone. */
 #ifndef BENCH_OURS_H
 #define BENCH_OURS_H
 
-#include <stddef.h>
-#include <stdint.h>
+#include "../include/magbelo.h"
 
-/* How many units, packets or bytes, or 0 after a refusal. */
-size_t bench_split_obu_stream(const uint8_t *data, size_t len, uint8_t *out, size_t out_len, uint32_t *ends,
-                              size_t ends_len);
+/* All answer how many units, packets or bytes, or 0 after a refusal. */
+static inline size_t split_obu_stream(const uint8_t *data, size_t len, uint8_t *out, size_t out_len, uint32_t *ends,
+                                      size_t ends_len) {
+    size_t bytes, units;
+    return magbelo_split_obu_stream(data, len, out, out_len, ends, ends_len, &bytes, &units) ? 0 : units;
+}
 size_t bench_split_annexb(const uint8_t *data, size_t len, uint8_t *out, size_t out_len, uint32_t *ends,
                           size_t ends_len);
 size_t bench_write_obu_stream(const uint8_t *units, size_t len, const uint32_t *ends, size_t n, uint8_t *out,

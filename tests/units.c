@@ -51,7 +51,7 @@ int main(int count, char **words) {
         size_t n = packets(len);
         return !n || count < 4 ? failed("no IVF") : save(words[3], n);
     }
-    size_t n = strcmp(job, "annexb") ? bench_split_obu_stream(data, len, units, ROOM, ends, SLOTS)
+    size_t n = strcmp(job, "annexb") ? split_obu_stream(data, len, units, ROOM, ends, SLOTS)
                                      : bench_split_annexb(data, len, units, ROOM, ends, SLOTS);
     if (!n) return failed("refused");
     if (!strcmp(job, "to-annexb")) {

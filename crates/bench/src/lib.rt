@@ -25,19 +25,6 @@ pub extern "C" fn bench_put_bytes(src: &[u8], out: &mut [u8]) -> usize
     obu::writer::put_bytes(out, 0, src)
 }
 
-// The units of a stream: how many there are, or 0 after a refusal.
-#[no_mangle]
-pub extern "C" fn bench_split_obu_stream(data: &[u8], out: &mut [u8], ends: &mut [u32]) -> usize
-    ensures { λ r. ⌜ r ≡ unitsOrNone (sizesOf (read stream (record { bytes = length (now (out .entry)); ends = length (now (ends .entry)) }) (now («data» .entry)))) ⌝ }
-    ensures { λ _. ⌜ now (out .exit) ≡ bytesAfter (read stream (record { bytes = length (now (out .entry)); ends = length (now (ends .entry)) }) (now («data» .entry))) (now (out .entry)) ⌝ }
-    ensures { λ _. ⌜ now (ends .exit) ≡ endsAfter (read stream (record { bytes = length (now (out .entry)); ends = length (now (ends .entry)) }) (now («data» .entry))) (now (ends .entry)) ⌝ }
-{
-    match container::stream::split_obu_stream(data, out, ends) {
-        Split::Refused(_) => 0,
-        Split::Units(_, u) => u,
-    }
-}
-
 // The units of Annex B: how many there are, or 0 after a refusal.
 #[no_mangle]
 pub extern "C" fn bench_split_annexb(data: &[u8], out: &mut [u8], ends: &mut [u32]) -> usize

@@ -7,7 +7,7 @@ use mathlib.Core.Bool.{Bool, true, false, cond as pick}
 use lib.ListN.{length}
 use Rattle.bitio.specs.Parse.{Answer, refused, accepted}
 use Rattle.bitio.specs.Every.{Every}
-use Rattle.bitio.specs.Every.Every.{none as nothing}
+use Rattle.bitio.specs.Every.Every.{none as nothing, also}
 use Rattle.obu.specs.Obu.{Obu, obus, unitBytes}
 use Rattle.obu.specs.Unit.{count, ofUnit}
 use Rattle.obu.proofs.ObuLaws.{Allowed, obus-unit, obus-behind, obus-allowed}
@@ -16,8 +16,7 @@ use Rattle.container.specs.Packets.{Packet, out, meet, tailed, behindP, 
 use Rattle.container.proofs.StreamLaws.{tick, count-append, others-all, every-append}
 use Rattle.container.proofs.StreamShape.{Few, empty, lone, lead-few, either-few, others-none, join-every}
 use Rattle.container.specs.PacketLists.{bytesOf}
-use Rattle.container.specs.PacketRuns.All.{none as no, also as and}
-use Rattle.container.specs.PacketRuns.{All, closes, held, pieceOf, Waits}
+use Rattle.container.specs.PacketRuns.{closes, held, pieceOf, Waits}
 
 -- ---- joining three parts
 
@@ -103,24 +102,24 @@ meet-closes w q (refused k) e = refl
 meet-closes w q (accepted os) e = rw e
 
 abbrev pub Waiting : List Packet → Type 0
-Waiting ws = All (λ q. Waits (q .bytes)) ws
+Waiting ws = Every (λ q. Waits (q .bytes)) ws
 
 behind-run : {ws : List Packet} → Waiting ws → (p : Packet) (w : List Obu) (qs : List Packet) → behindP p w (ws ++ qs) ≡ behindP p (w ++ held (bytesOf ws)) qs
 unfolding behindP held bytesOf
-behind-run no p w qs = simp append-nil
-behind-run (and {a = q} {l = ws} h hs) p w qs = rw (h .reads, h .none) (behind-run hs p (w ++ h .os) qs ∙ rw append-assoc)
+behind-run nothing p w qs = simp append-nil
+behind-run (also {a = q} {l = ws} h hs) p w qs = rw (h .reads, h .none) (behind-run hs p (w ++ h .os) qs ∙ rw append-assoc)
 
 -- what waits, alone, with the time of the first
 pub alone-run : {ws : List Packet} → Waiting ws → (t : ℕ) (o : Obu) (w : List Obu) → alone t (o ∷ w) ws ≡ record { time = t; bytes = unitBytes ((o ∷ w) ++ held (bytesOf ws)) } ∷ []
 unfolding alone held bytesOf
-alone-run no t o w = simp append-nil
-alone-run (and {a = q} {l = ws} h hs) t o w = rw (h .reads, h .none) (alone-run hs t o (w ++ h .os) ∙ rw append-assoc)
+alone-run nothing t o w = simp append-nil
+alone-run (also {a = q} {l = ws} h hs) t o w = rw (h .reads, h .none) (alone-run hs t o (w ++ h .os) ∙ rw append-assoc)
 
 module _ (q : Packet) (qs : List Packet) (c : closes (q .bytes) ≡ true) where
   alone-close : {ws : List Packet} → Waiting ws → (t : ℕ) (w : List Obu) → alone t w (ws ++ (q ∷ qs)) ≡ behindP (gone (w ++ held (bytesOf ws)) q (obus (q .bytes))) [] qs
   unfolding alone held bytesOf
-  alone-close no t w = rw (append-nil w, meet-closes w q (obus (q .bytes)) c)
-  alone-close (and {a = p} {l = ws} h hs) t w = rw (h .reads, h .none) (alone-close hs (firstTime w t (p .time)) (w ++ h .os) ∙ rw append-assoc)
+  alone-close nothing t w = rw (append-nil w, meet-closes w q (obus (q .bytes)) c)
+  alone-close (also {a = p} {l = ws} h hs) t w = rw (h .reads, h .none) (alone-close hs (firstTime w t (p .time)) (w ++ h .os) ∙ rw append-assoc)
 
   behind-close : (p : Packet) (w : List Obu) → behindP p w (q ∷ qs) ≡ p ∷ behindP (gone w q (obus (q .bytes))) [] qs
   unfolding behindP
@@ -164,10 +163,10 @@ module _ (q : Packet) where
 abbrev pub Short : Packet → Type 0
 Short q = length (q .bytes) < 2 ^ 56
 
-held-allowed : {ws : List Packet} → Waiting ws → All Short ws → Every Allowed (held (bytesOf ws))
+held-allowed : {ws : List Packet} → Waiting ws → Every Short ws → Every Allowed (held (bytesOf ws))
 unfolding held bytesOf
-held-allowed no no = nothing
-held-allowed (and {a = q} h hs) (and l ls) = rw (h .reads) (every-append (obus-allowed (q .bytes) (h .os) l (h .reads)) (held-allowed hs ls))
+held-allowed nothing nothing = nothing
+held-allowed (also {a = q} h hs) (also l ls) = rw (h .reads) (every-append (obus-allowed (q .bytes) (h .os) l (h .reads)) (held-allowed hs ls))
 
 fits : (q : Packet) → Short q → (x : Answer (List Obu)) → obus (q .bytes) ≡ x → Fits x
 fits q l (refused k) e = tt
@@ -187,7 +186,7 @@ module _ {ws : List Packet} (w : Waiting ws) (q : Packet) (c : closes (q .bytes)
       ∙ ap (λ p. p ∷ mergePackets (vs ++ (r ∷ rs))) (gone-more q (held (bytesOf ws)) (obus (q .bytes)))
 
   -- none closes behind it
-  pub merge-last : All Short ws → Short q → {vs : List Packet} → Waiting vs
+  pub merge-last : Every Short ws → Short q → {vs : List Packet} → Waiting vs
       → mergePackets (ws ++ (q ∷ vs)) ≡ sent q (held (bytesOf ws)) (held (bytesOf vs)) (obus (q .bytes)) ∷ []
   merge-last l k {vs} v =
       merge-close vs

@@ -10,7 +10,7 @@ use lib.Dec.{leb, eqb}
 use borrow.Author.Tests.{le-leb, lt-leb, leb-true, leb-false, eqb-true, eq-eqb, ne-eqb}
 use Rattle.bitio.specs.Parse.{Answer, refused, accepted, answer, onto}
 use Rattle.bitio.proofs.ParseLaws.{pick-both}
-use Rattle.container.specs.PacketRuns.All.{none as nothing, also}
+use Rattle.bitio.specs.Every.Every.{none as nothing, also}
 use Rattle.obu.specs.Obu.{Obu}
 use Rattle.obu.specs.Place.{part}
 use Rattle.obu.specs.Unit.{count, ofUnit}
@@ -19,7 +19,8 @@ use Rattle.container.specs.Units.{unitsFrom, unitsAt}
 use Rattle.bitio.specs.Limits.{limit}
 use Rattle.container.specs.Lists.{accepts}
 use Rattle.container.specs.PacketLists.{stamped, packetsAt, bytesOf, timesOf}
-use Rattle.container.specs.PacketRuns.{All, listedFrom, listed, closes, Waits, Empty, packetsOf}
+use Rattle.bitio.specs.Every.{Every}
+use Rattle.container.specs.PacketRuns.{listedFrom, listed, closes, Waits, Empty, packetsOf}
 use Rattle.container.proofs.SliceLaws.{slice-more, every-more}
 use Rattle.container.proofs.PacketLaws.{Short, waits}
 
@@ -116,14 +117,14 @@ closes-counted (refused j) n e = let z : _≡_ {A = ℕ} 0 1 = cc in absurd (ome
 closes-counted (accepted os) n e = let q : count isFrame os ≡ n = cc in rw (← q)
 
 module _ (us : List (List ℕ)) (a i : ℕ) (h : a ≤ i) (l : i < length us) where
-  pub wait-more : All Waits (slice a i us) → closes (getD us i []) ≡ false → All Waits (slice a (i + 1) us)
+  pub wait-more : Every Waits (slice a i us) → closes (getD us i []) ≡ false → Every Waits (slice a (i + 1) us)
   wait-more ws e = rw (slice-more a i us [] h l) (every-more Waits (slice a i us) (getD us i []) ws (waits (getD us i []) e))
 
-  pub empty-more : All Empty (slice a i us) → length (getD us i []) ≡ 0 → All Empty (slice a (i + 1) us)
+  pub empty-more : Every Empty (slice a i us) → length (getD us i []) ≡ 0 → Every Empty (slice a (i + 1) us)
   empty-more ws e = rw (slice-more a i us [] h l) (every-more Empty (slice a i us) (getD us i []) ws e)
 
 module _ (P : List ℕ → Type 0) (us : List (List ℕ)) (a : ℕ) where
-  pub none-yet : All P (slice a a us)
+  pub none-yet : Every P (slice a a us)
   none-yet = rw (slice-empty a us) nothing
 
 -- ---- no unit is longer than all bytes
@@ -134,7 +135,7 @@ part-length s a e =
     let P : List ℕ → Type 0 = λ l. length l ≤ length s in
     pick-both P (leb a e) (pick-both P (leb e (length s)) (omega (arith, length-take (e - a) (drop a s), length-drop a s)) (omega arith)) (omega arith)
 
-pub listed-short : (at : ℕ) (s es : List ℕ) → All (λ u. length u ≤ length s) (listedFrom at s es)
+pub listed-short : (at : ℕ) (s es : List ℕ) → Every (λ u. length u ≤ length s) (listedFrom at s es)
 unfolding listedFrom
 listed-short at s [] = nothing
 listed-short at s (e ∷ es) = also (part-length s at e) (listed-short e s es)
@@ -155,7 +156,7 @@ stamped-times [] (u ∷ us) e = absurd (omega arith)
 stamped-times (t ∷ ts) [] e = absurd (omega arith)
 stamped-times (t ∷ ts) (u ∷ us) e = rw (stamped-times ts us (omega arith))
 
-stamped-short : (n : ℕ) (ts : List ℕ) (us : List (List ℕ)) → n < 2 ^ 56 → All (λ u. length u ≤ n) us → All Short (stamped ts us)
+stamped-short : (n : ℕ) (ts : List ℕ) (us : List (List ℕ)) → n < 2 ^ 56 → Every (λ u. length u ≤ n) us → Every Short (stamped ts us)
 unfolding stamped
 stamped-short n [] us h e = nothing
 stamped-short n (t ∷ ts) [] h e = nothing
@@ -190,5 +191,5 @@ module _ (s es ts : List ℕ) where
     pub packets-times : timesOf (packetsOf s es ts) ≡ ts
     packets-times = stamped-times ts (listed s es) (listed-length 0 s es ∙ m)
 
-    pub packets-short : length s ≤ limit → All Short (packetsOf s es ts)
+    pub packets-short : length s ≤ limit → Every Short (packetsOf s es ts)
     packets-short l = stamped-short (length s) ts (listed s es) (omega arith) (listed-short 0 s es)

@@ -10,14 +10,15 @@ use lib.Dec.{ltb}
 use borrow.Author.Tests.{lt-ltb, le-ltb, ltb-true, ltb-false}
 use Rattle.bitio.specs.Lent.{pasted}
 use Rattle.bitio.proofs.LentLaws.{pasted-nil, pasted-set}
-use Rattle.container.specs.PacketRuns.All.{none as nothing, also}
+use Rattle.bitio.specs.Every.Every.{none as nothing, also}
 use Rattle.bitio.specs.Limits.{limit}
 use Rattle.container.specs.Stream.{flat, streamBytes}
 use Rattle.container.specs.Packets.{Packet, alone, mergePackets}
 use Rattle.container.specs.Ranges.{Wrote}
 use Rattle.container.specs.Units.{endsOf}
 use Rattle.container.specs.PacketLists.{bytesOf, timesOf}
-use Rattle.container.specs.PacketRuns.{All, listed, piece, most, Parses, Waits, Next, Piece, PieceRoom, packetsOf, mergedOf, Totals, Closing, Roomy, Ready, Written}
+use Rattle.bitio.specs.Every.{Every}
+use Rattle.container.specs.PacketRuns.{listed, piece, most, Parses, Waits, Next, Piece, PieceRoom, packetsOf, mergedOf, Totals, Closing, Roomy, Ready, Written}
 use Rattle.container.proofs.PacketListLaws.{listed-length, packets-bytes, packets-times, packets-short}
 use Rattle.container.proofs.PacketSteps.{size, step-more, step-last}
 use Rattle.container.proofs.PacketRunLaws.{wrote-length, wrote-append}
@@ -99,7 +100,7 @@ none-left : (s es ts : List ℕ) (n : ℕ) → length (packetsOf s es ts) ≤ n 
 unfolding mergePackets alone
 none-left s es ts n l = rw (drop-of-length-le (packetsOf s es ts) l)
 
-pub all-parse : {us : List (List ℕ)} → All Waits us → All Parses us
+pub all-parse : {us : List (List ℕ)} → Every Waits us → Every Parses us
 all-parse nothing = nothing
 all-parse (also w ws) = also (record { os = w .os; reads = w .reads }) (all-parse ws)
 

@@ -8,7 +8,7 @@ use lib.ListN.{length, length-append}
 use lib.Seq.{slice}
 use Rattle.bitio.specs.Parse.{Answer, refused, accepted, answer}
 use Rattle.bitio.specs.Lent.{pasted}
-use Rattle.container.specs.PacketRuns.All.{also}
+use Rattle.bitio.specs.Every.Every.{also}
 use Rattle.obu.specs.Obu.{Obu, headObuOf, obus}
 use Rattle.obu.specs.Unit.{count, ofUnit}
 use Rattle.obu.proofs.ObuLaws.{obus-nil}

@@ -8,14 +8,15 @@ use mathlib.Core.Bool.{true}
 use lib.ListN.{length, drop, getD, length-map, List·getD-map}
 use lib.Seq.{slice, slice-empty, drop-cons}
 use Rattle.bitio.specs.Parse.{Answer, refused, accepted, Head, stop, item, onto}
-use Rattle.container.specs.PacketRuns.All.{none as nothing, also}
+use Rattle.bitio.specs.Every.Every.{none as nothing, also}
 use Rattle.obu.specs.Obu.{Obu, headObu, obus, unitBytes}
 use Rattle.obu.specs.Unit.{count}
 use Rattle.obu.proofs.ObuLaws.{obus-nil, obus-item, obus-stop}
 use Rattle.container.specs.Stream.{lead}
 use Rattle.container.specs.Packets.{Packet, alone, mergePackets}
 use Rattle.container.specs.PacketLists.{bytesOf, timesOf}
-use Rattle.container.specs.PacketRuns.{All, closes, held, leadOf, piece, Parses, Waits, Next, Empty, Full}
+use Rattle.bitio.specs.Every.{Every}
+use Rattle.container.specs.PacketRuns.{closes, held, leadOf, piece, Parses, Waits, Next, Empty, Full}
 use Rattle.container.proofs.SliceLaws.{slice-split, slice-rest, slice-at, map-slice, every-map, every-drop, every-slice, every-at, every-seam}
 use Rattle.container.proofs.PacketLaws.{Waiting, Short, alone-run, merge-more, merge-last}
 
@@ -44,7 +45,7 @@ empty-list : (u : List ℕ) → length u ≡ 0 → u ≡ []
 empty-list [] e = refl
 empty-list (b ∷ u) e = absurd (omega arith)
 
-held-empty : {us : List (List ℕ)} → All Empty us → (vs : List (List ℕ)) → held (us ++ vs) ≡ held vs
+held-empty : {us : List (List ℕ)} → Every Empty us → (vs : List (List ℕ)) → held (us ++ vs) ≡ held vs
 unfolding held
 held-empty nothing vs = refl
 held-empty (also {a = u} h hs) vs = rw (empty-list u h, obus-nil) (held-empty hs vs)
@@ -52,7 +53,7 @@ held-empty (also {a = u} h hs) vs = rw (empty-list u h, obus-nil) (held-empty hs
 -- ---- the delimiter at the head of a run
 
 module _ (us : List (List ℕ)) (a b i : ℕ) (in-us : b ≤ length us) (f : Full us a b i) where
-  pub lead-found : i < b → All Parses (slice a b us) → leadOf (getD us i []) ≡ lead (held (slice a b us))
+  pub lead-found : i < b → Every Parses (slice a b us) → leadOf (getD us i []) ≡ lead (held (slice a b us))
   unfolding held
   lead-found l ps =
       let u = getD us i [] in
@@ -87,7 +88,7 @@ module _ (qs : List Packet) where
   unfolding bytesOf
   bytes-slice a b = map-slice (λ p. p .bytes) a b qs
 
-  waiting : (a b : ℕ) → All Waits (slice a b (bytesOf qs)) → Waiting (slice a b qs)
+  waiting : (a b : ℕ) → Every Waits (slice a b (bytesOf qs)) → Waiting (slice a b qs)
   unfolding bytesOf
   waiting a b e = every-map Waits (λ p. p .bytes) (slice a b qs) (rw (bytes-slice a b) e)
 
@@ -110,10 +111,10 @@ module _ (qs : List Packet) where
         rw (split a c n l, e, times-at c, bytes-at c, slice-empty (c + 1) (bytesOf qs), ← bytes-slice a c)
         (merge-more (waiting a c (n .wait)) (getD qs c nil) (closing a c n l) (waiting (c + 1) d (m .wait)) (getD qs d nil) (drop (d + 1) qs) (closing (c + 1) d m k))
 
-    pub step-last : All Short qs → Next (bytesOf qs) (c + 1) (length (bytesOf qs)) → mergePackets (drop a qs) ≡ made a c (length (bytesOf qs)) ∷ []
+    pub step-last : Every Short qs → Next (bytesOf qs) (c + 1) (length (bytesOf qs)) → mergePackets (drop a qs) ≡ made a c (length (bytesOf qs)) ∷ []
     unfolding piece
     step-last sh m =
-        let w : All Waits (slice (c + 1) (length qs) (bytesOf qs)) = rw (← size) (m .wait) in
+        let w : Every Waits (slice (c + 1) (length qs) (bytesOf qs)) = rw (← size) (m .wait) in
         let v = waiting (c + 1) (length qs) w in
         let r = slice-rest (c + 1) qs in
         rw (split a c n l, ← r, times-at c, bytes-at c, size, ← bytes-slice a c, ← bytes-slice (c + 1) (length qs))
@@ -122,20 +123,20 @@ module _ (qs : List Packet) where
 -- ---- frameless packets alone
 
 -- empty packets vanish
-alone-empty : {es : List Packet} → All (λ q. Empty (q .bytes)) es → (t : ℕ) (qs : List Packet) → (t′ : ℕ) × (alone t [] (es ++ qs) ≡ alone t′ [] qs)
+alone-empty : {es : List Packet} → Every (λ q. Empty (q .bytes)) es → (t : ℕ) (qs : List Packet) → (t′ : ℕ) × (alone t [] (es ++ qs) ≡ alone t′ [] qs)
 unfolding alone count
 alone-empty nothing t qs = (t, refl)
 alone-empty (also {a = q} h hs) t qs =
     let r = alone-empty hs (q .time) qs in
     (r .0, rw (empty-list (q .bytes) h, obus-nil) (r .1))
 
-packets-empty : {es : List Packet} → All (λ q. Empty (q .bytes)) es → (qs : List Packet) → held (bytesOf (es ++ qs)) ≡ held (bytesOf qs)
+packets-empty : {es : List Packet} → Every (λ q. Empty (q .bytes)) es → (qs : List Packet) → held (bytesOf (es ++ qs)) ≡ held (bytesOf qs)
 unfolding held bytesOf
 packets-empty nothing qs = refl
 packets-empty (also {a = q} h hs) qs = rw (empty-list (q .bytes) h, obus-nil) (packets-empty hs qs)
 
 -- the first with bytes is q
-alone-split : {es : List Packet} → All (λ q. Empty (q .bytes)) es → (q : Packet) → 0 < length (q .bytes) → Waits (q .bytes) → {rs : List Packet} → Waiting rs
+alone-split : {es : List Packet} → Every (λ q. Empty (q .bytes)) es → (q : Packet) → 0 < length (q .bytes) → Waits (q .bytes) → {rs : List Packet} → Waiting rs
     → mergePackets (es ++ (q ∷ rs)) ≡ record { time = q .time; bytes = unitBytes (held (bytesOf (es ++ (q ∷ rs)))) } ∷ []
 unfolding mergePackets alone held bytesOf
 alone-split {es} em q l w {rs} ws =
@@ -145,14 +146,14 @@ alone-split {es} em q l w {rs} ws =
     ∙ rw (packets-empty em (q ∷ rs), w .reads, w .none, g .list) (alone-run ws (q .time) (g .o) (g .rest))
 
 module _ (qs : List Packet) (n : Next (bytesOf qs) 0 (length (bytesOf qs))) (i : ℕ) (f : Full (bytesOf qs) 0 (length (bytesOf qs)) i) where
-  all-wait : All Waits (bytesOf qs)
+  all-wait : Every Waits (bytesOf qs)
   all-wait = rw (slice-rest 0 (bytesOf qs)) at (n .wait)
 
-  every-one : (l : List Packet) → All Waits (bytesOf l) → Waiting l
+  every-one : (l : List Packet) → Every Waits (bytesOf l) → Waiting l
   unfolding bytesOf
   every-one l e = every-map Waits (λ p. p .bytes) l e
 
-  empties : All (λ q. Empty (q .bytes)) (slice 0 i qs)
+  empties : Every (λ q. Empty (q .bytes)) (slice 0 i qs)
   unfolding bytesOf
   empties = every-map Empty (λ p. p .bytes) (slice 0 i qs) (rw (bytes-slice qs 0 i) (f .empty))
 
@@ -170,6 +171,6 @@ module _ (qs : List Packet) (n : Next (bytesOf qs) 0 (length (bytesOf qs))) (i :
   pub alone-none : i ≡ length qs → mergePackets qs ≡ []
   unfolding mergePackets alone
   alone-none e =
-      let em : All (λ q. Empty (q .bytes)) qs = rw (e, slice-rest 0 qs) at empties in
+      let em : Every (λ q. Empty (q .bytes)) qs = rw (e, slice-rest 0 qs) at empties in
       let r = alone-empty em 0 [] in
       ap (alone 0 []) (sym (append-nil qs)) ∙ r .1

@@ -6,8 +6,8 @@ use mathlib.Core.Path.{_≡_, refl, sym, ap, _∙_}
 use mathlib.Core.List.{List, [], _∷_, _++_, map}
 use lib.ListN.{length, take, drop, getD, take-append-drop}
 use lib.Seq.{slice, drop-cons, drop-append-le, length-take-le, take-suc, take-length, take-take, getD-take}
-use Rattle.container.specs.PacketRuns.{All}
-use Rattle.container.specs.PacketRuns.All.{none as nothing, also}
+use Rattle.bitio.specs.Every.{Every}
+use Rattle.bitio.specs.Every.Every.{none as nothing, also}
 
 module _ {A : Type 0} where
   -- what is left from a on: up to b, and from b on
@@ -53,44 +53,44 @@ module _ {A : Type 0} where
   map-slice f a b l = map-drop f a (take b l) ∙ ap (drop a) (map-take f b l)
 
   module _ (P : A → Type 0) where
-    pub every-map : {B : Type 0} (f : B → A) (l : List B) → All P (map f l) → All (λ x. P (f x)) l
+    pub every-map : {B : Type 0} (f : B → A) (l : List B) → Every P (map f l) → Every (λ x. P (f x)) l
     every-map f [] e = nothing
     every-map f (x ∷ l) (also p ps) = also p (every-map f l ps)
 
-    every-take : (n : ℕ) (l : List A) → All P l → All P (take n l)
+    every-take : (n : ℕ) (l : List A) → Every P l → Every P (take n l)
     every-take zero l e = nothing
     every-take (suc n) [] e = nothing
     every-take (suc n) (x ∷ l) (also p ps) = also p (every-take n l ps)
 
-    pub every-drop : (n : ℕ) (l : List A) → All P l → All P (drop n l)
+    pub every-drop : (n : ℕ) (l : List A) → Every P l → Every P (drop n l)
     every-drop zero l e = e
     every-drop (suc n) [] e = nothing
     every-drop (suc n) (x ∷ l) (also p ps) = every-drop n l ps
 
-    pub every-slice : (a b : ℕ) (l : List A) → All P l → All P (slice a b l)
+    pub every-slice : (a b : ℕ) (l : List A) → Every P l → Every P (slice a b l)
     every-slice a b l e = every-drop a (take b l) (every-take b l e)
 
-    pub every-at : (i : ℕ) (l : List A) (d : A) → i < length l → All P l → P (getD l i d)
+    pub every-at : (i : ℕ) (l : List A) (d : A) → i < length l → Every P l → P (getD l i d)
     every-at zero [] d h e = absurd (omega arith)
     every-at (suc i) [] d h e = absurd (omega arith)
     every-at zero (x ∷ l) d h (also p ps) = p
     every-at (suc i) (x ∷ l) d h (also p ps) = every-at i l d (omega arith) ps
 
-    pub every-more : (l : List A) (x : A) → All P l → P x → All P (l ++ (x ∷ []))
+    pub every-more : (l : List A) (x : A) → Every P l → P x → Every P (l ++ (x ∷ []))
     every-more [] x nothing p = also p nothing
     every-more (y ∷ l) x (also q qs) p = also q (every-more l x qs p)
 
     -- the element between two lists
-    pub every-seam : (l : List A) (x : A) (r : List A) → All P (l ++ (x ∷ r)) → P x
+    pub every-seam : (l : List A) (x : A) (r : List A) → Every P (l ++ (x ∷ r)) → P x
     every-seam [] x r (also p ps) = p
     every-seam (y ∷ l) x r (also p ps) = every-seam l x r ps
 
-    pub every-join : (l r : List A) → All P l → All P r → All P (l ++ r)
+    pub every-join : (l r : List A) → Every P l → Every P r → Every P (l ++ r)
     every-join [] r e f = f
     every-join (x ∷ l) r (also p ps) f = also p (every-join l r ps f)
 
     -- an element, or the one that stands for none
-    pub every-or : (i : ℕ) (l : List A) (d : A) → P d → All P l → P (getD l i d)
+    pub every-or : (i : ℕ) (l : List A) (d : A) → P d → Every P l → P (getD l i d)
     every-or zero [] d q e = q
     every-or (suc i) [] d q e = q
     every-or zero (x ∷ l) d q (also p ps) = p

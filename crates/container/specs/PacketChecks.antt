@@ -49,7 +49,7 @@ unreadable : mergedAt room (18 ∷ 0 ∷ 74 ∷ 0 ∷ 18 ∷ 0 ∷ []) (2 ∷ 4 
 unfolding mergedAt packetsAt stamped unitsFrom mergePackets alone behindP join others isType count obusOf many manyF headObuOf passes sized readLeb lebRead unitBytes obuBytes framed lebBytes lebWrite streamBytes flat bytesOf flatMap andNext
 unreadable = refl
 
--- `2A`, `30`: an OBU without a size ends with its packet
+-- `28`, `30`: an OBU without a size ends with its packet
 unsized : mergedAt room (40 ∷ 48 ∷ []) (1 ∷ 2 ∷ []) (7 ∷ 8 ∷ []) ≡ accepted (packet 8 (42 ∷ 0 ∷ 50 ∷ 0 ∷ []) ∷ [])
 unfolding mergedAt packetsAt stamped unitsFrom mergePackets alone behindP join others isType count obusOf many manyF headObuOf passes sized readLeb lebRead unitBytes obuBytes framed lebBytes lebWrite streamBytes flat bytesOf flatMap andNext
 unsized = refl

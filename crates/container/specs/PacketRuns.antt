@@ -5,6 +5,7 @@ use mathlib.Core.List.{List, [], _∷_, _++_}
 use mathlib.Core.Bool.{Bool, true, false}
 use lib.ListN.{length, getD}
 use lib.Seq.{slice}
+use Rattle.bitio.specs.Every.{Every}
 use Rattle.bitio.specs.Parse.{Answer, refused, accepted, answer, Head, stop, item}
 use Rattle.bitio.specs.Lent.{pasted}
 use Rattle.obu.specs.Obu.{Obu, headObu, obus, unitBytes}
@@ -18,11 +19,6 @@ use Rattle.container.specs.Units.{unitsAt, endsOf, sizesOf, bytesAfter, 
 use Rattle.container.specs.Lists.{accepts}
 use Rattle.container.specs.PacketLists.{stamped, bytesOf, timesOf, roomOf, mergedAt, timesAfter, mergedSays}
 use Rattle.container.specs.declared.packets.Merged.{Merged}
-
--- P holds of each
-pub data All {A : Type 0} (P : A → Type 0) : List A → Type 0 where
-  none : All P []
-  also : {a : A} {l : List A} → P a → All P l → All P (a ∷ l)
 
 -- the units of s whose ends are given, the first of which starts at `at`; an end that is not there gives an empty unit
 unfoldable pub listedFrom : ℕ → List ℕ → List ℕ → List (List ℕ)
@@ -83,7 +79,7 @@ pub record Waits (u : List ℕ) : Type 0 where
 pub record Next (us : List (List ℕ)) (a c : ℕ) : Type 0 where
   pub order : a ≤ c
   pub within : c ≤ length us
-  pub wait : All Waits (slice a c us)
+  pub wait : Every Waits (slice a c us)
   pub close : c < length us → closes (getD us c []) ≡ true
 
 abbrev pub Empty : List ℕ → Type 0
@@ -93,7 +89,7 @@ Empty u = length u ≡ 0
 pub record Full (us : List (List ℕ)) (a b i : ℕ) : Type 0 where
   pub order : a ≤ i
   pub within : i ≤ b
-  pub empty : All Empty (slice a i us)
+  pub empty : Every Empty (slice a i us)
   pub full : i < b → 0 < length (getD us i [])
 
 -- the units from a to b parse
@@ -101,7 +97,7 @@ pub record Run (s es : List ℕ) (a b : ℕ) : Type 0 where
   pub short : length s ≤ limit
   pub within : b ≤ length es
   pub order : a ≤ b
-  pub parse : All Parses (slice a b (listed s es))
+  pub parse : Every Parses (slice a b (listed s es))
 
 -- and have room in d at `to`
 pub record RunRoom (s es : List ℕ) (a b : ℕ) (keep : Bool) (d : List ℕ) (to : ℕ) : Type 0 where
@@ -118,8 +114,8 @@ pub record Piece (s es : List ℕ) (a c b : ℕ) : Type 0 where
   pub order : a ≤ c
   pub after : c < b
   pub within : b ≤ length es
-  pub front : All Parses (slice a c (listed s es))
-  pub back : All Parses (slice (c + 1) b (listed s es))
+  pub front : Every Parses (slice a c (listed s es))
+  pub back : Every Parses (slice (c + 1) b (listed s es))
 
 -- and so does that at c
 pub record Joins (s es : List ℕ) (a c b : ℕ) : Type 0 where

@@ -4,14 +4,15 @@ use mathlib.Core.Path.{ap}
 use Prim.Native.Nat.{_-_, _≤_}
 use lib.ListN.{length}
 use lib.Seq.{slice}
-use Rattle.container.specs.PacketRuns.{All, listed, Empty}
+use Rattle.bitio.specs.Every.{Every}
+use Rattle.container.specs.PacketRuns.{listed, Empty}
 use Rattle.container.proofs.PacketListLaws.{listed-length, none-yet, empty-more}
 use denote.Ref.{now}
 use Rattle.container.proofs.packets.lists.first_full.Statement.{statement}
 use Rattle.container.proofs.packets.lists.first_full.Tie as tie
 
 abbrev Inv-loop : tie.InvT-loop
-Inv-loop packets ends a b i₀ i = (a ≤ i) × (i ≤ b) × All Empty (slice a i (listed packets ends))
+Inv-loop packets ends a b i₀ i = (a ≤ i) × (i ≤ b) × Every Empty (slice a i (listed packets ends))
 
 abbrev μ-loop : tie.MeasureT-loop
 μ-loop packets ends a b i₀ i = b - i

@@ -4,14 +4,15 @@ use mathlib.Core.Path.{sym, ap, _∙_}
 use Prim.Native.Nat.{_-_, _≤_}
 use lib.ListN.{length}
 use lib.Seq.{slice}
-use Rattle.container.specs.PacketRuns.{All, listed, closes, Waits}
+use Rattle.bitio.specs.Every.{Every}
+use Rattle.container.specs.PacketRuns.{listed, closes, Waits}
 use Rattle.container.proofs.PacketListLaws.{listed-length, none-yet, wait-more}
 use denote.Ref.{now}
 use Rattle.container.proofs.packets.lists.next_close.Statement.{statement}
 use Rattle.container.proofs.packets.lists.next_close.Tie as tie
 
 abbrev Inv-loop : tie.InvT-loop
-Inv-loop packets ends a i₀ i = (a ≤ i) × (i ≤ length ends) × All Waits (slice a i (listed packets ends))
+Inv-loop packets ends a i₀ i = (a ≤ i) × (i ≤ length ends) × Every Waits (slice a i (listed packets ends))
 
 abbrev μ-loop : tie.MeasureT-loop
 μ-loop packets ends a i₀ i = length ends - i
