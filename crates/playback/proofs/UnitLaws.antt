@@ -16,10 +16,11 @@ use Rattle.obu.specs.Obu.{Obu, passes, obuBytes, unitBytes}
 use Rattle.obu.specs.Unit.{isType, has, count, firstPayload}
 use Rattle.obu.specs.declared.unit.Kind.the-variants.{TemporalDelimiter, Frame as FrameObu}
 use Rattle.obu.proofs.ObuLaws.{Allowed, obus-allowed, unit-written}
+use Rattle.container.specs.Stream.{isDelimiter}
 use Rattle.container.proofs.StreamLaws.{leads}
 use Rattle.container.proofs.RoundTrip.{Whole}
 use Rattle.assemble.specs.Prepare.{isSequence, isFrame, firstOf, renewed, sent, showByte, showUnit}
-use Rattle.playback.specs.Premises.{isDelimiter, Delimited, Same, Premise}
+use Rattle.playback.specs.Premises.{Delimited, Same, Premise}
 
 -- ---- the first OBU of a kind
 

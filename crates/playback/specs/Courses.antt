@@ -6,11 +6,11 @@ use Rattle.bitio.specs.Parse.{refused}
 use Rattle.player.specs.Player.{State, play, leaves}
 
 -- From the state st, the units us are played in order, the first under position p and each other under the next.
--- Before, between and behind them any number of units may be played that are refused, of any bytes, under any position.
--- Each play gets the state that the last one left.
+-- 01: "Each play gets the slots and header the last one left, and nobody else writes them meanwhile."
 pub data Course : State → ℕ → List (List ℕ) → Type 0 where
   done : {st : State} {p : ℕ} → Course st p []
   plays : {st : State} {p : ℕ} {u : List ℕ} {us : List (List ℕ)} → Course (leaves st (play st p u)) (suc p) us → Course st p (u ∷ us)
+  -- 01: "Before and between them any number of refused units may be played, of any bytes, under any position." Here behind them too.
   noise : {st : State} {p : ℕ} {us : List (List ℕ)} (q : ℕ) (v : List ℕ) (n : ℕ) → play st q v ≡ refused n → Course (leaves st (play st q v)) p us → Course st p us
 
 -- P holds of each unit's position and of the state in which it is played

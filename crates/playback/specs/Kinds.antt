@@ -12,7 +12,7 @@ use Rattle.header.specs.declared.frame_header.FrameHeaderInfo.the-variants.{Exi
 use Rattle.assemble.specs.Blocks.{Kind, Key, Golden, Show}
 use Rattle.player.specs.Player.{unitFrame}
 
--- 01: a unit whose frame is a shown key is a key unit, one whose frame is show-existing a show unit, any other a golden unit
+-- 01: "A unit whose frame is a shown key is a key unit, one whose frame is show-existing a show unit, any other a golden unit."
 abbrev pub frameKind : FrameHeaderInfo → Kind
 frameKind (Existing slot) = Show
 frameKind (Frame f) = pick (eqb (f .«frame_type») keyFrame && f .«show_frame») Key Golden
@@ -29,11 +29,11 @@ saysKey (accepted Show) = false
 abbrev pub isKeyUnit : Sequence → List ℕ → Bool
 isKeyUnit q u = saysKey (unitKind q u)
 
--- 01: positions count from 1
+-- 01: "Positions count from 1"
 abbrev pub unitAt : List (List ℕ) → ℕ → List ℕ
 unitAt us p = getD us (p - 1) []
 
--- 01: each segment has as many positions as its frames, following those of the segments before; k positions lie before this one
+-- 01: "each board has as many as its frames, following those of the boards before"; k positions lie before this one
 unfoldable pub segmentBehind : List ℕ → ℕ → ℕ
 segmentBehind [] k = 0
 segmentBehind (n ∷ ns) k = pick (ltb k n) 0 (suc (segmentBehind ns (k - n)))
