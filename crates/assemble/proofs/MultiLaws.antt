@@ -12,15 +12,15 @@ use Rattle.obu.specs.Obu.{passes, obuBytes}
 use Rattle.obu.specs.Place.{extensionSays}
 use Rattle.obu.specs.Write.{obuLength, obu}
 use Rattle.obu.proofs.LengthLaws.{obu-length}
-use Rattle.header.proofs.BackFields.{both}
-use Rattle.assemble.specs.Blocks.{layout, number, listOf, total}
-use Rattle.assemble.specs.Assemble.{Output, Room, fits}
-use Rattle.assemble.specs.Code.{capped}
-use Rattle.assemble.specs.Says.{counts}
+use Rattle.emittable.proofs.BackFields.{both}
+use Rattle.blocks.specs.Blocks.{layout, number, listOf, total}
+use Rattle.pictures.specs.Assemble.{Output, Room, fits}
+use Rattle.pictures.specs.Code.{capped}
+use Rattle.assemble.specs.Whole.{counts}
 use Rattle.assemble.specs.Stages.{headerIn, ownIn, fitsIn}
 use Rattle.assemble.specs.declared.multi.Counts.{Counts}
 use Rattle.assemble.specs.declared.plan.Basis.{Basis}
-use Rattle.assemble.proofs.BlockLaws.{length-layout}
+use Rattle.blocks.proofs.BlockLaws.{length-layout}
 
 -- ---- the header OBU
 

@@ -20,25 +20,25 @@ use Rattle.obu.specs.declared.reader.Obu.{Obu as CodeObu}
 use Rattle.header.specs.Sequence.{Sequence, sequenceOf}
 use Rattle.header.specs.Support.{support}
 use Rattle.header.specs.Timed.{isTimed, retimed, withTiming, timed}
-use Rattle.header.specs.Emit.{sequenceBytes, emitPlaced, emitLent}
-use Rattle.header.specs.Emittable.{emittable}
+use Rattle.emit.specs.Emit.{sequenceBytes, emitPlaced, emitLent}
+use Rattle.emittable.specs.Emittable.{emittable}
 use Rattle.header.specs.declared.seq_header.SequenceHeader.{SequenceHeader}
 use Rattle.header.specs.declared.seq_header.OperatingPoint.{OperatingPoint}
 use Rattle.header.proofs.TimedLaws.{timed-of}
-use Rattle.assemble.specs.Lay.{framesIn}
-use Rattle.assemble.specs.Prepare.{isSequence, firstOf, Settings, timedSequence, Prepared}
-use Rattle.assemble.specs.Assemble.{Outcome, stopped, made, andAlso, inSegment, readHeader, sameHeaders, headerObu, prepareAll, pictureOf}
-use Rattle.assemble.specs.Sizes.{sized, ranged}
-use Rattle.assemble.specs.Code.{allSegments, laterSegments, firstSequence, renewing, orElse, allPrepared, capped, measured}
-use Rattle.assemble.specs.Says.{foundSays}
+use Rattle.blocks.specs.Lay.{framesIn}
+use Rattle.pictures.specs.Prepare.{isSequence, firstOf, Settings, timedSequence, Prepared}
+use Rattle.pictures.specs.Assemble.{Outcome, stopped, made, andAlso, inSegment, readHeader, sameHeaders, headerObu, prepareAll, pictureOf}
+use Rattle.pictures.specs.Sizes.{sized, ranged}
+use Rattle.pictures.specs.Code.{allSegments, laterSegments, firstSequence, renewing, orElse, allPrepared, capped, measured}
+use Rattle.pictures.specs.Says.{foundSays}
 use Rattle.assemble.specs.Stages.{Going, going, rateOf, WasRead, firstKey, fromPictures, fromTiming, fromHeader, fromKey, checked, planned, headerIn, planSays}
-use Rattle.assemble.specs.Rewrite.{obuIn}
-use Rattle.assemble.specs.declared.headers.FoundObu.{FoundObu}
-use Rattle.assemble.specs.declared.headers.FoundObu.the-variants.{Found}
+use Rattle.pictures.specs.Rewrite.{obuIn}
+use Rattle.pictures.specs.declared.headers.FoundObu.{FoundObu}
+use Rattle.pictures.specs.declared.headers.FoundObu.the-variants.{Found}
 use Rattle.assemble.specs.declared.plan.Basis.{Basis}
 use Rattle.assemble.specs.declared.plan.Planned.the-variants.{Refused, RefusedIn}
 use Rattle.assemble.specs.declared.plan.Plan.{Plan}
-use Rattle.assemble.proofs.PrepareLaws.{all-prepared}
+use Rattle.pictures.proofs.PrepareLaws.{all-prepared}
 use Rattle.assemble.proofs.RenewLaws.{header-read, renewal-emittable, emitted-at-most}
 
 module _ (s rs : List ℕ) where

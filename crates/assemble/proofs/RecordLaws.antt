@@ -14,8 +14,8 @@ use Rattle.bitio.specs.Limits.{limit}
 use Rattle.bitio.specs.Lent.{pasted}
 use Rattle.bitio.proofs.ParseLaws.{pick-cases}
 use Rattle.bitio.proofs.LentLaws.{pasted-nil, pasted-sets, pasted-more, pasted-length, pasted-take-end}
-use Rattle.assemble.specs.Assemble.{Outcome, stopped, Output}
-use Rattle.assemble.specs.Says.{outcome}
+use Rattle.pictures.specs.Assemble.{Outcome, stopped, Output}
+use Rattle.assemble.specs.Whole.{outcome}
 use Rattle.assemble.specs.Records.{fiveOf, numbersOf, copyCount, numbersAfter, noRoom, copiedOutcome, recordsOutcome}
 use Rattle.assemble.specs.declared.segments.Segment.{Segment}
 

@@ -8,13 +8,13 @@ use lib.ListN.{length}
 use Rattle.bitio.specs.Parse.{Answer, refused, accepted, andNext}
 use Rattle.header.specs.Sequence.{Sequence, parseSequence}
 use Rattle.header.specs.Support.{support}
-use Rattle.header.specs.Emit.{sequenceBytes}
-use Rattle.header.specs.Emittable.{emittable}
+use Rattle.emit.specs.Emit.{sequenceBytes}
+use Rattle.emittable.specs.Emittable.{emittable}
 use Rattle.header.proofs.TimedLaws.{supports}
-use Rattle.header.proofs.EmitLaws.{parse-emittable, payload-length}
-use Rattle.header.proofs.TimedEmitLaws.{timed-emittable}
-use Rattle.assemble.specs.Prepare.{Settings, timedSequence}
-use Rattle.assemble.specs.Assemble.{readHeader}
+use Rattle.emit.proofs.EmitLaws.{parse-emittable, payload-length}
+use Rattle.emit.proofs.TimedEmitLaws.{timed-emittable}
+use Rattle.pictures.specs.Prepare.{Settings, timedSequence}
+use Rattle.pictures.specs.Assemble.{readHeader}
 
 -- what can be emitted fits the room that is kept for it
 pub emitted-at-most : (q : Sequence) → emittable q ≡ true → length (sequenceBytes q) ≤ 400

@@ -8,17 +8,17 @@ use mathlib.Core.Option.{none, some}
 use lib.ListN.{length, getD, drop}
 use lib.Dec.{ltb, eqb}
 use borrow.Author.Tests.{ltb-false, eqb-false}
-use Rattle.assemble.proofs.SizeLaws.{frames-length}
+use Rattle.pictures.proofs.SizeLaws.{frames-length}
 use Rattle.bitio.specs.Parse.{Answer, refused, accepted, answer, andNext, onto}
 use Rattle.bitio.specs.Limits.{limit}
 use Rattle.obu.specs.Obu.{obus}
-use Rattle.assemble.specs.Blocks.{total}
-use Rattle.assemble.specs.Lay.{framesFrom, framesIn}
-use Rattle.assemble.specs.Segments.{Segment, framesOf, inside, segmentAt, segmentsFrom, segmentsOf}
-use Rattle.assemble.specs.Prepare.{Settings, effective, renewal}
-use Rattle.assemble.specs.Assemble.{Outcome, stopped, made, andAlso, inSegment, overall, noneEmpty, sizes, readHeader, sameHeaders, headerObu, prepareAll, pictureOf, Output, outputOf, Room, assembled, fitted, assemble}
-use Rattle.assemble.specs.Sizes.{sized, ranged}
-use Rattle.assemble.specs.Code.{segmentIn, segmentsIn, allSegments, laterSegments, firstSequence, capped}
+use Rattle.blocks.specs.Blocks.{total}
+use Rattle.blocks.specs.Lay.{framesFrom, framesIn}
+use Rattle.pictures.specs.Segments.{Segment, framesOf, inside, segmentAt, segmentsFrom, segmentsOf}
+use Rattle.pictures.specs.Prepare.{Settings, effective, renewal}
+use Rattle.pictures.specs.Assemble.{Outcome, stopped, made, andAlso, inSegment, overall, noneEmpty, sizes, readHeader, sameHeaders, headerObu, prepareAll, pictureOf, Output, outputOf, Room, assembled, fitted, assemble}
+use Rattle.pictures.specs.Sizes.{sized, ranged}
+use Rattle.pictures.specs.Code.{segmentIn, segmentsIn, allSegments, laterSegments, firstSequence, capped}
 use Rattle.assemble.specs.Stages.{Going, going, firstKey, fromTiming, fromHeader, fromKey, checked, planned}
 
 -- ---- accepted segments are those of the flat numbers

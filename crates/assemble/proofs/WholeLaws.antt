@@ -10,18 +10,18 @@ use Rattle.bitio.specs.Limits.{limit}
 use Rattle.bitio.specs.Lent.{pasted}
 use Rattle.header.specs.Sequence.{Sequence, sequenceOf}
 use Rattle.header.specs.declared.seq_header.OperatingPoint.{OperatingPoint}
-use Rattle.assemble.specs.Blocks.{listOf, cuesOf}
-use Rattle.assemble.specs.Lay.{framesIn, CanLayAll}
-use Rattle.assemble.specs.Prepare.{Settings, Prepared, showUnit}
-use Rattle.assemble.specs.Assemble.{Outcome, stopped, made, andAlso, pictureOf, endsFrom, showsOf, firstSlot, Output, outputOf, Room, fits, fitted, lentAfter}
-use Rattle.assemble.specs.Code.{segmentsIn, allSegments, judged, orElse, allPrepared, allSent, slotsOf, capped}
-use Rattle.assemble.specs.Says.{counts, countsOf, outcome}
+use Rattle.blocks.specs.Blocks.{listOf, cuesOf}
+use Rattle.blocks.specs.Lay.{framesIn, CanLayAll}
+use Rattle.pictures.specs.Prepare.{Settings, Prepared, showUnit}
+use Rattle.pictures.specs.Assemble.{Outcome, stopped, made, andAlso, pictureOf, endsFrom, showsOf, firstSlot, Output, outputOf, Room, fits, fitted, lentAfter}
+use Rattle.pictures.specs.Code.{segmentsIn, allSegments, judged, orElse, allPrepared, allSent, slotsOf, capped}
+use Rattle.assemble.specs.Whole.{counts, countsOf, outcome}
 use Rattle.assemble.specs.Stages.{Going, planned, firstKey, firstGolden, headerIn, newIn, basisSays, answerSays, planSays, needed, fitsIn, roomOf}
 use Rattle.assemble.specs.declared.multi.Counts.{Counts}
 use Rattle.assemble.specs.declared.plan.Basis.{Basis}
 use Rattle.assemble.specs.declared.plan.Planned.the-variants.{Ready, Refused, RefusedIn}
 use Rattle.assemble.specs.declared.plan.Plan.{Plan}
-use Rattle.assemble.proofs.PrepareLaws.{picture-sent, ends-sent, shows-slots, length-prepared, length-ends, length-shows, length-all}
+use Rattle.pictures.proofs.PrepareLaws.{picture-sent, ends-sent, shows-slots, length-prepared, length-ends, length-shows, length-all}
 use Rattle.assemble.proofs.StageLaws.{Sound, handed, assemble-staged, planned-sound, planned-weighed}
 use Rattle.assemble.proofs.PlanLaws.{says-refused, says-refused-in}
 use Rattle.assemble.proofs.MultiLaws.{length-list, same-counts, fits-same, Roomy, fits-roomy}

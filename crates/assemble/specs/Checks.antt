@@ -18,14 +18,14 @@ use Rattle.header.specs.SequenceCoding.{frameSize, frameIds, codingTools, scree
 use Rattle.header.specs.Sequence.{sequenceHeader, parseSequence}
 use Rattle.header.specs.Support.{support}
 use Rattle.header.specs.Timed.{retimed, withTiming}
-use Rattle.header.specs.PutFields.{put, putOr, putFlag, putFlagOr, putUvlcOr}
-use Rattle.header.specs.PutSequence.{putTiming, putModel, putOpening, putPoint, putPoints, putSize, putIds, putTools, putScreen, putFilters, putColor, putSampling, putCoding, putSequence}
-use Rattle.header.specs.Emit.{ofBits, packN, pack, trailed, sequenceBytes}
-use Rattle.header.specs.Frame.{showExisting, frameStart, orderHint, removalTimes, bufferRemoval, frameInfo, frameBits, frameHeader, parseFrame}
-use Rattle.assemble.specs.Blocks.{Key, Golden, Show, blocks, kinds, layout, positions, total}
-use Rattle.assemble.specs.Segments.{Segment, segmentAt, segmentsFrom, segmentsOf}
-use Rattle.assemble.specs.Prepare.{Settings, firstOf, sent, firstFrame, lowest, prepare, showUnit}
-use Rattle.assemble.specs.Assemble.{Outcome, stopped, made, andAlso, inSegment, overall, noneEmpty, sizes, readHeader, sameBytes, sameHeaders, prepareAll, endsFrom, Output, Room, fits, assembled, assemble, named, unitsOf}
+use Rattle.emittable.specs.PutFields.{put, putOr, putFlag, putFlagOr, putUvlcOr}
+use Rattle.emittable.specs.PutSequence.{putTiming, putModel, putOpening, putPoint, putPoints, putSize, putIds, putTools, putScreen, putFilters, putColor, putSampling, putCoding, putSequence}
+use Rattle.emit.specs.Emit.{ofBits, packN, pack, trailed, sequenceBytes}
+use Rattle.frame.specs.Frame.{showExisting, frameStart, orderHint, removalTimes, bufferRemoval, frameInfo, frameBits, frameHeader, parseFrame}
+use Rattle.blocks.specs.Blocks.{Key, Golden, Show, blocks, kinds, layout, positions, total}
+use Rattle.pictures.specs.Segments.{Segment, segmentAt, segmentsFrom, segmentsOf}
+use Rattle.pictures.specs.Prepare.{Settings, firstOf, sent, firstFrame, lowest, prepare, showUnit}
+use Rattle.pictures.specs.Assemble.{Outcome, stopped, made, andAlso, inSegment, overall, noneEmpty, sizes, readHeader, sameBytes, sameHeaders, prepareAll, endsFrom, Output, Room, fits, assembled, assemble, named, unitsOf}
 
 -- 01's K and G, and K with its header timed 25/1
 abbrev pub unitK : List ℕ

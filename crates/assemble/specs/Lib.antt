@@ -1,12 +1,4 @@
-pub mod Blocks
-pub mod Lay
-pub mod Segments
-pub mod Prepare
-pub mod Assemble
-pub mod Sizes
-pub mod Code
-pub mod Rewrite
-pub mod Says
+pub mod Whole
 pub mod Stages
 pub mod Records
 pub mod Checks

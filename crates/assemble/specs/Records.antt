@@ -7,8 +7,8 @@ use lib.ListN.{length, take}
 use lib.Dec.{leb, ltb}
 use Rattle.bitio.specs.Limits.{limit}
 use Rattle.bitio.specs.Lent.{pasted}
-use Rattle.assemble.specs.Assemble.{Outcome, stopped, Output}
-use Rattle.assemble.specs.Says.{outcome}
+use Rattle.pictures.specs.Assemble.{Outcome, stopped, Output}
+use Rattle.assemble.specs.Whole.{outcome}
 use Rattle.assemble.specs.declared.segments.Segment.{Segment}
 
 -- the five numbers of a segment, as assembly reads them

@@ -13,12 +13,12 @@ use Rattle.obu.specs.Place.{part, extensionSays}
 use Rattle.obu.specs.Write.{obu}
 use Rattle.header.specs.Sequence.{Sequence, sequenceOf}
 use Rattle.header.specs.declared.seq_header.OperatingPoint.{OperatingPoint}
-use Rattle.assemble.specs.Blocks.{listOf, cuesOf}
-use Rattle.assemble.specs.Lay.{framesIn}
-use Rattle.assemble.specs.Prepare.{Settings, effective, renewal, Prepared}
-use Rattle.assemble.specs.Assemble.{Outcome, stopped, made, andAlso, inSegment, readHeader, sameHeaders, headerObu, prepareAll, pictureOf, Room}
-use Rattle.assemble.specs.Sizes.{sized, ranged}
-use Rattle.assemble.specs.Code.{allSegments, laterSegments, firstSequence, judged, renewing, orElse, allPrepared, capped}
+use Rattle.blocks.specs.Blocks.{listOf, cuesOf}
+use Rattle.blocks.specs.Lay.{framesIn}
+use Rattle.pictures.specs.Prepare.{Settings, effective, renewal, Prepared}
+use Rattle.pictures.specs.Assemble.{Outcome, stopped, made, andAlso, inSegment, readHeader, sameHeaders, headerObu, prepareAll, pictureOf, Room}
+use Rattle.pictures.specs.Sizes.{sized, ranged}
+use Rattle.pictures.specs.Code.{allSegments, laterSegments, firstSequence, judged, renewing, orElse, allPrepared, capped}
 use Rattle.assemble.specs.declared.multi.Counts.{Counts}
 use Rattle.assemble.specs.declared.plan.Basis.{Basis}
 use Rattle.assemble.specs.declared.plan.Planned.{Planned}

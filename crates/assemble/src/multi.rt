@@ -4,26 +4,26 @@ ghost use Prim.Native.Nat.{_+_, _≤_};
 ghost use lib.ListN.{length};
 ghost use Rattle.bitio.specs.Lent.{pasted};
 ghost use Rattle.header.specs.Sequence.{sequenceOf};
-ghost use Rattle.assemble.specs.Blocks.{total};
-ghost use Rattle.assemble.specs.Lay.{framesIn};
-ghost use Rattle.assemble.specs.Code.{judged, orElse, capped};
+ghost use Rattle.blocks.specs.Blocks.{total};
+ghost use Rattle.blocks.specs.Lay.{framesIn};
+ghost use Rattle.pictures.specs.Code.{judged, orElse, capped};
 ghost use Rattle.assemble.specs.Stages.{firstKey, firstGolden, ownIn, headerIn, needed, fitsIn, roomOf};
-ghost use Rattle.assemble.specs.Assemble.{lentAfter};
-ghost use Rattle.assemble.specs.Says.{assembledSays, countsOf, outcome};
-use crate::blocks::count_cues;
-use crate::blocks::put_list;
-use crate::pictures::put_pictures;
-use crate::pictures::put_shows;
-use crate::pictures::slot_or_zero;
-use crate::pictures::unit_at;
+ghost use Rattle.pictures.specs.Assemble.{lentAfter};
+ghost use Rattle.assemble.specs.Whole.{assembledSays, countsOf, outcome};
 use crate::plan::Basis;
 use crate::plan::Planned;
 use crate::plan::plan_multi;
-use crate::sizes::total_frames;
+use blocks::blocks::count_cues;
+use blocks::blocks::put_list;
 use header::seq_header::OperatingPoint;
 use obu::reader::payload;
 use obu::writer::obu_len;
 use obu::writer::put_measured;
+use pictures::pictures::put_pictures;
+use pictures::pictures::put_shows;
+use pictures::pictures::slot_or_zero;
+use pictures::pictures::unit_at;
+use pictures::sizes::total_frames;
 
 // How much was written to each lent slice, and the first golden slot.
 pub struct Counts {

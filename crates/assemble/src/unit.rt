@@ -2,7 +2,7 @@
 ghost use mathlib.Core.Path.{_≡_};
 ghost use mathlib.Core.List.{_∷_};
 ghost use lib.ListN.{getD};
-ghost use Rattle.assemble.specs.Assemble.{named};
+ghost use Rattle.pictures.specs.Assemble.{named};
 use obu::reader::payload;
 
 // Where picture unit i ends; 0 where there is none.

@@ -6,12 +6,13 @@ ghost use lib.Dec.{leb};
 ghost use Rattle.bitio.specs.Parse.{answer};
 ghost use Rattle.bitio.specs.Lent.{lent};
 ghost use Rattle.container.specs.Units.{sizesOf, bytesAfter, endsAfter, countOf, outAfter};
-ghost use Rattle.container.specs.Container.{stream, annexb, read, writeAt, canonicalAt};
-ghost use Rattle.container.specs.PacketLists.{bytesOf, roomOf, mergedAt, timesAfter};
+ghost use Rattle.container.specs.Container.{stream, annexb, read, writeAt};
+ghost use Rattle.packets.specs.Packets.{canonicalAt};
+ghost use Rattle.packets.specs.PacketLists.{bytesOf, roomOf, mergedAt, timesAfter};
 ghost use Rattle.bench.specs.Counts.{unitsOrNone, bytesOrNone};
-use container::packets::Merged;
 use container::units::Joined;
 use container::units::Split;
+use packets::packets::Merged;
 
 // The copy that every writer makes: src to the front of out, or nothing and 0 if it has no room.
 #[no_mangle]
@@ -32,7 +33,7 @@ pub extern "C" fn bench_split_annexb(data: &[u8], out: &mut [u8], ends: &mut [u3
     ensures { λ _. ⌜ now (out .exit) ≡ bytesAfter (read annexb (record { bytes = length (now (out .entry)); ends = length (now (ends .entry)) }) (now («data» .entry))) (now (out .entry)) ⌝ }
     ensures { λ _. ⌜ now (ends .exit) ≡ endsAfter (read annexb (record { bytes = length (now (out .entry)); ends = length (now (ends .entry)) }) (now («data» .entry))) (now (ends .entry)) ⌝ }
 {
-    match container::annexb::split_annexb(data, out, ends) {
+    match annexb::annexb::split_annexb(data, out, ends) {
         Split::Refused(_) => 0,
         Split::Units(_, u) => u,
     }
@@ -56,7 +57,7 @@ pub extern "C" fn bench_write_annexb(units: &[u8], unit_ends: &[u32], out: &mut 
     ensures { λ r. ⌜ r ≡ bytesOrNone (countOf (writeAt annexb (record { bytes = length (now (out .entry)); ends = 0 }) (now (units .entry)) (now («unit_ends» .entry)))) ⌝ }
     ensures { λ _. ⌜ now (out .exit) ≡ outAfter (writeAt annexb (record { bytes = length (now (out .entry)); ends = 0 }) (now (units .entry)) (now («unit_ends» .entry))) (now (out .entry)) ⌝ }
 {
-    match container::annexb::write_annexb(units, unit_ends, out) {
+    match annexb::annexb::write_annexb(units, unit_ends, out) {
         Joined::Refused(_) => 0,
         Joined::Bytes(n) => n,
     }
@@ -77,7 +78,7 @@ pub extern "C" fn bench_merge_packets(
     ensures { λ _. ⌜ now («out_ends» .exit) ≡ endsAfter (answer bytesOf (mergedAt (roomOf (now (out .entry)) (now («out_ends» .entry)) (now («out_times» .entry))) (now (packets .entry)) (now («packet_ends» .entry)) (now (times .entry)))) (now («out_ends» .entry)) ⌝ }
     ensures { λ _. ⌜ now («out_times» .exit) ≡ timesAfter (mergedAt (roomOf (now (out .entry)) (now («out_ends» .entry)) (now («out_times» .entry))) (now (packets .entry)) (now («packet_ends» .entry)) (now (times .entry))) (now («out_times» .entry)) ⌝ }
 {
-    match container::packets::merge_frameless_packets(
+    match packets::packets::merge_frameless_packets(
         packets,
         packet_ends,
         times,
@@ -96,7 +97,7 @@ pub extern "C" fn bench_canonicalize_tu(unit: &[u8], out: &mut [u8]) -> usize
     ensures { λ r. ⌜ r ≡ bytesOrNone (countOf (canonicalAt (record { bytes = length (now (out .entry)); ends = 0 }) (now (unit .entry)))) ⌝ }
     ensures { λ _. ⌜ now (out .exit) ≡ outAfter (canonicalAt (record { bytes = length (now (out .entry)); ends = 0 }) (now (unit .entry))) (now (out .entry)) ⌝ }
 {
-    match container::packets::canonicalize_tu(unit, out) {
+    match packets::packets::canonicalize_tu(unit, out) {
         Joined::Refused(_) => 0,
         Joined::Bytes(n) => n,
     }

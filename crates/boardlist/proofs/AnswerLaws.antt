@@ -8,8 +8,8 @@ use lib.ListN.{length, take}
 use Rattle.bitio.specs.Parse.{Answer, accepted}
 use Rattle.bitio.specs.Lent.{pasted, placed, lent}
 use Rattle.bitio.proofs.LentLaws.{pasted-take-end, pasted-length, placed-says-room}
-use Rattle.assemble.specs.Assemble.{Outcome, stopped, made, andAlso, Output, lentAfter}
-use Rattle.assemble.specs.Says.{counts, countsOf, outcome}
+use Rattle.pictures.specs.Assemble.{Outcome, stopped, made, andAlso, Output, lentAfter}
+use Rattle.assemble.specs.Whole.{counts, countsOf, outcome}
 use Rattle.assemble.specs.declared.multi.Counts.{Counts}
 use Rattle.listing.specs.File.{Reading, bad, full, read, pictureCount, numbersOf, readInto, numbersAfter}
 use Rattle.listing.specs.Text.{listing, refusedText, refusedInText, badFile}

@@ -10,9 +10,9 @@ use lib.Dec.{leb, ltb}
 use borrow.Author.Tests.{leb-true}
 use Rattle.bitio.specs.Limits.{limit}
 use Rattle.bitio.proofs.ParseLaws.{pick-cases}
-use Rattle.assemble.specs.Segments.{segmentsOf}
-use Rattle.assemble.specs.Assemble.{Outcome, stopped, made, andAlso, overall, Output, Room, fits, assembled, fitted, assemble}
-use Rattle.assemble.specs.Says.{outcome}
+use Rattle.pictures.specs.Segments.{segmentsOf}
+use Rattle.pictures.specs.Assemble.{Outcome, stopped, made, andAlso, overall, Output, Room, fits, assembled, fitted, assemble}
+use Rattle.assemble.specs.Whole.{outcome}
 
 -- o has room in these
 pub record Held (o : Output) (list pictures ends shows : List ℕ) : Type 0 where

@@ -3,8 +3,8 @@ use Prim.Native.Nat.{ℕ, _-_, _*_, _≤_}
 use mathlib.Core.List.{List}
 use mathlib.Core.Option.{none, some}
 use lib.ListN.{length, take, drop}
-use Rattle.assemble.specs.Assemble.{Outcome, stopped, made, Output}
-use Rattle.assemble.specs.Says.{outcome}
+use Rattle.pictures.specs.Assemble.{Outcome, stopped, made, Output}
+use Rattle.assemble.specs.Whole.{outcome}
 use Rattle.assemble.specs.declared.multi.Counts.{Counts}
 use Rattle.listing.specs.File.{Reading, bad, full, read, numbersOf, readInto}
 use Rattle.listing.specs.Text.{listing, refusedText, refusedInText, badFile}

@@ -3,7 +3,7 @@ ghost use mathlib.Core.Path.{_≡_};
 ghost use Prim.Native.Nat.{_*_};
 ghost use Rattle.bitio.specs.Lent.{placed, lent};
 ghost use Rattle.bitio.specs.Leb.{putSays};
-ghost use Rattle.assemble.specs.Says.{outcome};
+ghost use Rattle.assemble.specs.Whole.{outcome};
 ghost use Rattle.boardlist.specs.Printed.{textOf, madeText, CountsFit, LayoutFits, between, printed};
 use assemble::multi::Assembled;
 use assemble::multi::Counts;

@@ -3,7 +3,7 @@ use Prim.Native.Nat.{ℕ, _+_, _*_, _%_}
 use mathlib.Core.Option.{none, some}
 use Rattle.bitio.specs.Parse.{Answer, refused, accepted}
 use Rattle.container.specs.Units.{Sizes}
-use Rattle.assemble.specs.Assemble.{Outcome, stopped, made}
+use Rattle.pictures.specs.Assemble.{Outcome, stopped, made}
 use Rattle.assemble.specs.declared.multi.Counts.{Counts}
 
 -- 0, or 01's number

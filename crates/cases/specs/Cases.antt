@@ -23,19 +23,19 @@ use Rattle.header.specs.SequencePoints.{operatingPoint, operatingPoints}
 use Rattle.header.specs.SequenceCoding.{frameSize, frameIds, codingTools, screenTools, filters, colorDescription, colorSampling, coding}
 use Rattle.header.specs.Sequence.{Sequence, sequenceHeader, parseSequence}
 use Rattle.header.specs.Timed.{retimed, withTiming, timed}
-use Rattle.header.specs.PutFields.{put, putOr, putFlag, putFlagOr, putUvlcOr, fits, fitsOr, flagFitsOr, uvlcFitsOr}
-use Rattle.header.specs.PutSequence.{putTiming, putModel, putOpening, putPoint, putPoints, putSize, putIds, putTools, putScreen, putFilters, putColor, putSampling, putCoding, putSequence}
-use Rattle.header.specs.Emittable.{timingFits, modelFits, openingFits, pointFits, pointsFit, sizeFits, idsFit, toolsFit, screenFits, colorFits, samplingFits, codingFits, emittable}
-use Rattle.header.specs.Emit.{ofBits, packN, pack, trailed, sequenceBytes, emitted}
-use Rattle.header.specs.Frame.{showExisting, frameStart, orderHint, removalTimes, bufferRemoval, frameInfo, frameBits, frameHeader, parseFrameFrom}
+use Rattle.emittable.specs.PutFields.{put, putOr, putFlag, putFlagOr, putUvlcOr, fits, fitsOr, flagFitsOr, uvlcFitsOr}
+use Rattle.emittable.specs.PutSequence.{putTiming, putModel, putOpening, putPoint, putPoints, putSize, putIds, putTools, putScreen, putFilters, putColor, putSampling, putCoding, putSequence}
+use Rattle.emittable.specs.Emittable.{timingFits, modelFits, openingFits, pointFits, pointsFit, sizeFits, idsFit, toolsFit, screenFits, colorFits, samplingFits, codingFits, emittable}
+use Rattle.emit.specs.Emit.{ofBits, packN, pack, trailed, sequenceBytes, emitted}
+use Rattle.frame.specs.Frame.{showExisting, frameStart, orderHint, removalTimes, bufferRemoval, frameInfo, frameBits, frameHeader, parseFrameFrom}
 use Rattle.header.specs.Support.{support}
-use Rattle.header.specs.Frame.{parseFrame}
-use Rattle.assemble.specs.Blocks.{blocks, layout, positions, total}
-use Rattle.assemble.specs.Segments.{segmentAt, segmentsFrom, segmentsOf}
-use Rattle.assemble.specs.Prepare.{firstOf, sent, firstFrame, lowest, prepare}
-use Rattle.assemble.specs.Assemble.{Outcome, stopped, made, Output, andAlso, inSegment, overall, noneEmpty, sizes, readHeader, sameBytes, sameHeaders, prepareAll, endsFrom, fits as fitsRoom, assembled, assemble}
-use Rattle.header.specs.declared.frame_header.FrameHeaderInfo.{FrameHeaderInfo}
-use Rattle.header.specs.declared.frame_header.FrameHeaderInfo.the-variants.{Existing, Frame}
+use Rattle.frame.specs.Frame.{parseFrame}
+use Rattle.blocks.specs.Blocks.{blocks, layout, positions, total}
+use Rattle.pictures.specs.Segments.{segmentAt, segmentsFrom, segmentsOf}
+use Rattle.pictures.specs.Prepare.{firstOf, sent, firstFrame, lowest, prepare}
+use Rattle.pictures.specs.Assemble.{Outcome, stopped, made, Output, andAlso, inSegment, overall, noneEmpty, sizes, readHeader, sameBytes, sameHeaders, prepareAll, endsFrom, fits as fitsRoom, assembled, assemble}
+use Rattle.frame.specs.declared.frame_header.FrameHeaderInfo.{FrameHeaderInfo}
+use Rattle.frame.specs.declared.frame_header.FrameHeaderInfo.the-variants.{Existing, Frame}
 
 -- an answer as a list of byte strings or numbers
 abbrev pub Row : Type 0

@@ -6,7 +6,6 @@ use lib.ListN.{length}
 use Rattle.bitio.specs.Parse.{Answer, refused, accepted, andNext}
 use Rattle.container.specs.Stream.{streamUnits, streamBytes}
 use Rattle.container.specs.AnnexB.{annexbUnits, annexbBytes}
-use Rattle.container.specs.Packets.{canonical}
 use Rattle.container.specs.Limits.{led34, Room, fitBytes, fitUnits}
 use Rattle.container.specs.Units.{unitsAt}
 
@@ -33,7 +32,3 @@ write c room us = led34 (length (streamBytes us)) (fitBytes room (bytesIn c us))
 -- the same of units in lent memory, s their bytes and es their ends: 34 leads, 36 is next
 unfoldable pub writeAt : Container → Room → List ℕ → List ℕ → Answer (List ℕ)
 writeAt c room s es = led34 (length s) (andNext (unitsAt s es) (λ us. fitBytes room (bytesIn c us)))
-
--- 01, canonicalize_tu, with its limits
-unfoldable pub canonicalAt : Room → List ℕ → Answer (List ℕ)
-canonicalAt room u = led34 (length u) (fitBytes room (accepted (canonical u)))

@@ -1,6 +1,5 @@
 pub mod Stream
 pub mod AnnexB
-pub mod Packets
 pub mod Limits
 pub mod Units
 pub mod Ranges
@@ -8,10 +7,3 @@ pub mod Extents
 pub mod Survey
 pub mod Lists
 pub mod Container
-pub mod Spans
-pub mod Fill
-pub mod Join
-pub mod PacketLists
-pub mod Canonical
-pub mod PacketRuns
-pub mod PacketChecks

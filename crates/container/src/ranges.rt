@@ -25,7 +25,7 @@ fn is_kept(t: u8, keep: bool) -> bool
 }
 
 // How many bytes an OBU has, written, if it is kept.
-pub(crate) fn kept_len(o: Obu, keep: bool) -> usize
+pub fn kept_len(o: Obu, keep: bool) -> usize
     requires { ⌜ (o .start ≤ o .end) × (o .end ≤ limit) ⌝ }
     ensures { λ r. ⌜ r ≡ pick (isKept keep (o .«obu_type»)) (obuLength (extensionSays (o .extension)) (o .end - o .start)) 0 ⌝ }
 {
@@ -38,7 +38,7 @@ pub(crate) fn kept_len(o: Obu, keep: bool) -> usize
 }
 
 // How many bytes the OBUs from a to b have, written.
-pub(crate) fn written_len(s: &[u8], a: usize, b: usize, keep: bool) -> usize
+pub fn written_len(s: &[u8], a: usize, b: usize, keep: bool) -> usize
     requires { ⌜ Ranged (now s) a b ⌝ }
     ensures { λ r. ⌜ Measured (now (s .entry)) a b keep r ⌝ }
 {
@@ -67,14 +67,7 @@ fn put_kept(s: &[u8], o: Obu, keep: bool, out: &mut [u8], to: usize) -> usize
 }
 
 // Writes the OBUs from a to b at `to`, where their room is known.
-pub(crate) fn put_written(
-    s: &[u8],
-    a: usize,
-    b: usize,
-    keep: bool,
-    out: &mut [u8],
-    to: usize,
-) -> usize
+pub fn put_written(s: &[u8], a: usize, b: usize, keep: bool, out: &mut [u8], to: usize) -> usize
     requires { ⌜ Roomy (now s) a b keep (now out) to ⌝ }
     ensures { λ r. ⌜ WroteKept (now (s .entry)) a b keep (now (out .entry)) to r (now (out .exit)) ⌝ }
 {

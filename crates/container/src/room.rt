@@ -2,7 +2,7 @@
 ghost use mathlib.Core.Path.{_≡_};
 ghost use Rattle.container.specs.Limits.{fits};
 
-pub(crate) fn has_room(bytes: usize, units: usize, out_len: usize, ends_len: usize) -> bool
+pub fn has_room(bytes: usize, units: usize, out_len: usize, ends_len: usize) -> bool
     ensures { λ r. ⌜ r ≡ fits bytes units (record { bytes = «out_len»; ends = «ends_len» }) ⌝ }
 {
     (bytes <= 4_000_000_000) & ((bytes <= out_len) & (units <= ends_len))

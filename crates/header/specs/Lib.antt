@@ -7,11 +7,3 @@ pub mod Sequence
 pub mod ReadSays
 pub mod Support
 pub mod Timed
-pub mod PutFields
-pub mod PutSequence
-pub mod Emittable
-pub mod Emit
-pub mod Wrote
-pub mod Frame
-pub mod FrameSays
-pub mod RemovalFlag

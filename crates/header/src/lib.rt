@@ -1,4 +1,3 @@
 // The sequence header and the frame header of AV1: read, checked, timed and emitted.
 pub mod fields;
-pub mod frame_header;
 pub mod seq_header;

@@ -1,11 +1,5 @@
 // The sequence header (AV1 5.5). A field that is not in the bits has the value that it counts as.
 pub mod check;
-pub mod emit;
-pub mod emit_coding;
-pub mod emit_fields;
-pub mod emit_fits;
-pub mod emit_fits_coding;
-pub mod emit_opening;
 pub mod read;
 pub mod read_coding;
 pub mod read_color;

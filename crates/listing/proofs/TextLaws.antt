@@ -11,7 +11,7 @@ use lib.Dec.{leb}
 use borrow.Author.Tests.{le-leb, lt-leb, eq-eqb, ne-eqb, leb-true, leb-false, not-true, not-false}
 use Rattle.bitio.specs.Lent.{pasted}
 use Rattle.bitio.proofs.LentLaws.{pasted-nil, pasted-more}
-use Rattle.assemble.specs.Assemble.{named}
+use Rattle.pictures.specs.Assemble.{named}
 use Rattle.listing.specs.Decimal.{decimal, field, counted, Wrote}
 use Rattle.listing.specs.Text.{letter, slotIn, slotField, line, lines, unitsWord, cuesWord, listing}
 use Rattle.listing.proofs.WroteLaws.{wrote-length, wrote-more}

@@ -6,7 +6,7 @@ use mathlib.Core.Bool.{true, false}
 use lib.ListN.{length, take, replicate}
 use Rattle.bitio.specs.Lent.{pasted, hasRoom, lent}
 use Rattle.obu.specs.Place.{part}
-use Rattle.assemble.specs.Assemble.{named}
+use Rattle.pictures.specs.Assemble.{named}
 use Rattle.assemble.specs.Checks.{pictureKG, rangesKG, outputKG}
 use Rattle.listing.specs.File.{numberAt, lengths, numbersFrom, isWhole, Reading, read, full, bad, readInto, numbersAfter}
 use Rattle.listing.specs.Decimal.{digitsIn, decimal}

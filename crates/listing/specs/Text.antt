@@ -4,7 +4,7 @@ use mathlib.Core.List.{List, [], _∷_, _++_}
 use mathlib.Core.Bool.{cond as pick}
 use lib.ListN.{length, getD}
 use lib.Dec.{eqb}
-use Rattle.assemble.specs.Assemble.{named}
+use Rattle.pictures.specs.Assemble.{named}
 use Rattle.listing.specs.Decimal.{field, counted}
 
 -- ---- a unit's line

@@ -6,7 +6,7 @@ ghost use lib.ListN.{length};
 ghost use lib.Dec.{leb};
 ghost use Rattle.bitio.specs.Lent.{placed, lent};
 ghost use Rattle.bitio.specs.Leb.{putSays};
-ghost use Rattle.assemble.specs.Assemble.{named};
+ghost use Rattle.pictures.specs.Assemble.{named};
 ghost use Rattle.listing.specs.Decimal.{Wrote};
 ghost use Rattle.listing.specs.Text.{letter, slotIn, slotField, line, lines, listing, refusedText, refusedInText, badFile};
 use crate::decimal::decimal_len;

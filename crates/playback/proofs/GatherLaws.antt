@@ -16,8 +16,8 @@ use Rattle.bitio.proofs.LentLaws.{pasted-nil, pasted-one, pasted-more, pasted-l
 use Rattle.container.specs.Stream.{flat, streamBytes}
 use Rattle.container.specs.Limits.{Room}
 use Rattle.container.specs.Units.{endsOf, bytesAfter, endsAfter}
-use Rattle.container.proofs.SplitLaws.{Says, says-refused}
-use Rattle.assemble.specs.Assemble.{named}
+use Rattle.annexb.proofs.SplitLaws.{Says, says-refused}
+use Rattle.pictures.specs.Assemble.{named}
 use Rattle.playback.specs.Gather.{listed, gathered, CanGather}
 
 module _ (l p e s : List ℕ) where

@@ -1,15 +1,3 @@
-pub mod BlockLaws
-pub mod ListLaws
-pub mod HandedLaws
-pub mod GivenLaws
-pub mod LentLaws
-pub mod HeaderLaws
-pub mod PlayerLaws
-pub mod UnitLaws
-pub mod AssembleLaws
-pub mod Turns
-pub mod Demand3
-pub mod Listing
 pub mod GatherLaws
 pub mod ShownLaws
 pub mod WayLaws

@@ -17,7 +17,7 @@ use Rattle.bitio.proofs.LentLaws.{pasted-nil, pasted-set, pasted-length}
 use Rattle.obu.specs.Place.{part}
 use Rattle.container.specs.Units.{unitsFrom, unitsAt, countOf, outAfter}
 use Rattle.container.specs.Lists.{accepts}
-use Rattle.container.proofs.CutLaws.{accepted-is, refused-36}
+use Rattle.annexb.proofs.CutLaws.{accepted-is, refused-36}
 use Rattle.player.specs.Player.{State, start, Played, play, leaves}
 use Rattle.player.specs.Code.{shows, keptBehind, stateSays, playedOn, playedBy}
 use Rattle.player.specs.declared.step.State.{State as CodeState}

@@ -13,11 +13,11 @@ use Rattle.bitio.specs.Parse.{Answer, refused, accepted}
 use Rattle.bitio.proofs.LentLaws.{pasted-length}
 use Rattle.container.specs.Units.{bytesAfter, endsAfter, countOf, outAfter}
 use Rattle.container.specs.Container.{Container}
-use Rattle.container.proofs.SplitLaws.{and-true}
-use Rattle.assemble.specs.Segments.{Segment, segmentsOf}
-use Rattle.assemble.specs.Prepare.{Settings}
-use Rattle.assemble.specs.Assemble.{Outcome, stopped, made, andAlso, overall, Output, Room, fits, assembled, assemble, lentAfter}
-use Rattle.assemble.specs.Says.{counts, countsOf, outcome}
+use Rattle.annexb.proofs.SplitLaws.{and-true}
+use Rattle.pictures.specs.Segments.{Segment, segmentsOf}
+use Rattle.pictures.specs.Prepare.{Settings}
+use Rattle.pictures.specs.Assemble.{Outcome, stopped, made, andAlso, overall, Output, Room, fits, assembled, assemble, lentAfter}
+use Rattle.assemble.specs.Whole.{counts, countsOf, outcome}
 use Rattle.assemble.specs.declared.multi.Counts.{Counts}
 use Rattle.playback.specs.declared.play.Shows.{Shows}
 use Rattle.playback.specs.declared.play.Shows.the-variants.{Positions, Refused as ShowsRefused}

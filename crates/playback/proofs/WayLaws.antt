@@ -19,11 +19,11 @@ use Rattle.container.specs.declared.units.Split.{Split}
 use Rattle.container.specs.declared.units.Split.the-variants.{Units, Refused as SplitRefused}
 use Rattle.container.specs.declared.units.Joined.{Joined}
 use Rattle.container.specs.declared.units.Joined.the-variants.{Bytes, Refused as JoinedRefused}
-use Rattle.container.proofs.SplitLaws.{and-true}
+use Rattle.annexb.proofs.SplitLaws.{and-true}
 use Rattle.playback.specs.Gather.{listed, gathered}
 use Rattle.playback.specs.Shown.{fromCue, playFrom}
 use Rattle.playback.specs.Way.{gatheredIn, writtenIn, backIn, shownIn}
-use Rattle.playback.proofs.LentLaws.{units-there, lent-write}
+use Rattle.container.proofs.LentLaws.{units-there, lent-write}
 
 -- ---- what is accepted has room
 

@@ -6,7 +6,7 @@ use Rattle.bitio.specs.Limits.{limit}
 use Rattle.bitio.specs.Parse.{Answer, accepted}
 use Rattle.container.specs.Limits.{Room, fitUnits}
 use Rattle.container.specs.Stream.{streamBytes}
-use Rattle.assemble.specs.Assemble.{named}
+use Rattle.pictures.specs.Assemble.{named}
 
 -- the units that the entries name, in order
 unfoldable pub listed : (list picture ends shows : List ℕ) → List (List ℕ)

@@ -4,7 +4,7 @@ use Prim.Native.Nat.{ℕ}
 use mathlib.Core.List.{List}
 use mathlib.Core.Option.{none, some}
 use lib.ListN.{length}
-use Rattle.assemble.specs.Assemble.{Outcome, stopped, made, andAlso, overall, Output}
+use Rattle.pictures.specs.Assemble.{Outcome, stopped, made, andAlso, overall, Output}
 use Rattle.container.specs.Container.{Container}
 use Rattle.playback.specs.Way.{shownIn}
 use Rattle.playback.specs.declared.walk.Walked.{Walked}

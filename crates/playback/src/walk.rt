@@ -1,8 +1,8 @@
 // The whole way for one list at run time: assembled, gathered, written in a container, read back, and played from a cue.
 ghost use mathlib.Core.Path.{_≡_};
-ghost use Rattle.assemble.specs.Assemble.{overall, lentAfter};
+ghost use Rattle.pictures.specs.Assemble.{overall, lentAfter};
 ghost use Rattle.container.specs.Units.{bytesAfter, endsAfter, outAfter};
-ghost use Rattle.assemble.specs.Says.{outcome};
+ghost use Rattle.assemble.specs.Whole.{outcome};
 ghost use Rattle.playback.specs.Shown.{showsSay};
 ghost use Rattle.playback.specs.Way.{formSays, gatheredIn, writtenIn, backIn, shownIn};
 ghost use Rattle.playback.specs.Walk.{walk, numberOf, walkedSays, stepAfter};

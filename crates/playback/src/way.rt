@@ -8,8 +8,8 @@ ghost use Rattle.playback.specs.Way.{formSays, gatheredIn, writtenIn, ba
 use crate::gather::gather_units;
 use crate::play::Shows;
 use crate::play::play_from;
-use container::annexb::split_annexb;
-use container::annexb::write_annexb;
+use annexb::annexb::split_annexb;
+use annexb::annexb::write_annexb;
 use container::stream::split_obu_stream;
 use container::stream::write_obu_stream;
 use container::units::Joined;

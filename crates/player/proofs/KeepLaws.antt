@@ -15,7 +15,7 @@ use Rattle.header.specs.Support.{support}
 use Rattle.header.specs.declared.seq_header.SequenceHeader.{SequenceHeader as Header′}
 use Rattle.header.specs.declared.seq_header.SequenceAnswer.the-variants.{Header, Refused}
 use Rattle.header.specs.declared.seq_header.SequenceRead.{SequenceRead}
-use Rattle.header.proofs.FrameFromLaws.{read-whole}
+use Rattle.frame.proofs.FrameFromLaws.{read-whole}
 use Rattle.player.specs.Player.{keepAs, keep}
 use Rattle.player.specs.Code.{keptOf, keptSays, headersSay, keeping, headerKept, keptBehind}
 use Rattle.player.specs.declared.keep.Last.the-variants.{Header as Keeps}

@@ -14,8 +14,8 @@ use Rattle.obu.specs.Obu.{Obu, obus}
 use Rattle.obu.specs.Unit.{isKind, count, firstPayload, ofUnit}
 use Rattle.obu.specs.declared.unit.Kind.the-variants.{Frame as FrameObu}
 use Rattle.header.specs.Sequence.{Sequence, sequenceOf}
-use Rattle.header.specs.Frame.{parseFrame}
-use Rattle.header.specs.declared.frame_header.FrameHeaderInfo.{FrameHeaderInfo}
+use Rattle.frame.specs.Frame.{parseFrame}
+use Rattle.frame.specs.declared.frame_header.FrameHeaderInfo.{FrameHeaderInfo}
 use Rattle.header.specs.declared.seq_header.SequenceHeader.{SequenceHeader}
 use Rattle.player.specs.Player.{Shown, keep, known, soleFrame, unitFrame, act, State, start, Played, play, leaves}
 use Rattle.player.specs.Code.{shows, actedOn, keptSays, keptBehind, stateSays, startState, playedOn, playedBy, leftIn, leftBy, playKept}

@@ -17,7 +17,7 @@ use Rattle.header.specs.SequencePoints.{operatingPoint, operatingPoints}
 use Rattle.header.specs.SequenceCoding.{frameSize, frameIds, codingTools, screenTools, filters, colorDescription, colorSampling, coding}
 use Rattle.header.specs.Sequence.{sequenceHeader, parseSequence}
 use Rattle.header.specs.Support.{support}
-use Rattle.header.specs.Frame.{showExisting, frameStart, orderHint, removalTimes, bufferRemoval, frameInfo, frameBits, frameHeader, parseFrame}
+use Rattle.frame.specs.Frame.{showExisting, frameStart, orderHint, removalTimes, bufferRemoval, frameInfo, frameBits, frameHeader, parseFrame}
 use Rattle.player.specs.Player.{empty, filled, refresh, State, start, keepAs, soleFrame, play, leaves}
 use Rattle.player.specs.declared.slots.Slot.{Slot}
 

@@ -12,9 +12,9 @@ use Rattle.obu.specs.Unit.{isKind, count, firstPayload}
 use Rattle.obu.specs.declared.unit.Kind.the-variants.{SequenceHeader, Frame as FrameObu}
 use Rattle.header.specs.Sequence.{Sequence, parseSequence}
 use Rattle.header.specs.Support.{support}
-use Rattle.header.specs.Frame.{keyFrame, parseFrame}
-use Rattle.header.specs.declared.frame_header.FrameHeaderInfo.{FrameHeaderInfo}
-use Rattle.header.specs.declared.frame_header.FrameHeaderInfo.the-variants.{Existing, Frame}
+use Rattle.frame.specs.Frame.{keyFrame, parseFrame}
+use Rattle.frame.specs.declared.frame_header.FrameHeaderInfo.{FrameHeaderInfo}
+use Rattle.frame.specs.declared.frame_header.FrameHeaderInfo.the-variants.{Existing, Frame}
 use Rattle.player.specs.declared.slots.Slot.{Slot}
 
 -- ---- the slots

@@ -3,8 +3,8 @@ ghost use mathlib.Core.Path.{_≡_};
 ghost use lib.ListN.{getD};
 ghost use Rattle.player.specs.Player.{empty, refresh, showSlot, act};
 ghost use Rattle.player.specs.Code.{actedOn};
-use header::frame_header::FrameHeaderInfo;
-use header::frame_header::KEY_FRAME;
+use frame::frame_header::FrameHeaderInfo;
+use frame::frame_header::KEY_FRAME;
 
 // Empty, or holding the unit at a position; of an empty slot nothing else is looked at.
 pub struct Slot {

@@ -1,23 +1,23 @@
 // One line to its operation.
-use crate::assemble_ops;
-use crate::container_ops;
-use crate::container_ops::ENDS;
-use crate::fields::number;
-use crate::fields::read_fields;
-use crate::lent::Room;
-use crate::operations::ASSEMBLE;
-use crate::operations::PLAY;
-use crate::operations::ROOM;
-use crate::operations::is_on_lists;
-use crate::operations::start;
-use crate::output::Buffer;
-use crate::output::bad_line;
 use crate::play_ops;
 use crate::requests::Request;
 use crate::requests::answer_in;
 use crate::requests::lent_to;
-use crate::text::word_end;
-use crate::text::word_key;
+use listops::assemble_ops;
+use protocol::fields::number;
+use protocol::fields::read_fields;
+use protocol::lent::Room;
+use protocol::operations::ASSEMBLE;
+use protocol::operations::PLAY;
+use protocol::operations::ROOM;
+use protocol::operations::is_on_lists;
+use protocol::operations::start;
+use protocol::output::Buffer;
+use protocol::output::bad_line;
+use protocol::text::word_end;
+use protocol::text::word_key;
+use unitops::container_ops;
+use unitops::container_ops::ENDS;
 
 // What the prefix `room B E T ` says, and where the operation starts behind it.
 struct Prefix {

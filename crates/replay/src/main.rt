@@ -1,25 +1,11 @@
 // Answers the requests of the line protocol, one a line, from standard input to standard output.
-mod assemble_ops;
-mod assemble_text;
-mod bitio_ops;
-mod container_ops;
-mod fields;
-mod header_ops;
-mod header_text;
-mod lent;
 mod lines;
-mod obu_ops;
-mod operations;
-mod outcome;
-mod output;
 mod play_ops;
 mod requests;
-mod text;
-mod unit_text;
 
 use lines::answer;
-use output::Buffer;
-use output::flush;
+use protocol::output::Buffer;
+use protocol::output::flush;
 
 // How far the program has come.
 struct Progress {

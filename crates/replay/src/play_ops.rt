@@ -1,19 +1,19 @@
 // The operations of the crate player.
 ghost use Prim.Native.Nat.{_≤_};
 ghost use lib.ListN.{length};
-use crate::output::Buffer;
-use crate::output::bad_line;
-use crate::output::put_number;
-use crate::output::put_text;
-use crate::text::Decimal;
-use crate::text::Decoded;
-use crate::text::decode;
-use crate::text::read_decimal;
-use crate::text::word_end;
 use player::play::played;
 use player::slots::Answer;
 use player::start::start_state;
 use player::step::State;
+use protocol::output::Buffer;
+use protocol::output::bad_line;
+use protocol::output::put_number;
+use protocol::output::put_text;
+use protocol::text::Decimal;
+use protocol::text::Decoded;
+use protocol::text::decode;
+use protocol::text::read_decimal;
+use protocol::text::word_end;
 
 // A unit and its position, read from one word.
 struct UnitWord {

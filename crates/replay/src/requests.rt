@@ -1,25 +1,25 @@
 // A request in lent memory.
-use crate::bitio_ops;
-use crate::container_ops;
-use crate::header_ops;
-use crate::lent::Room;
-use crate::lent::mark;
-use crate::obu_ops;
-use crate::operations::BITS;
-use crate::operations::CANON;
-use crate::operations::EMIT;
-use crate::operations::FRAME;
-use crate::operations::LEB;
-use crate::operations::LEBPUT;
-use crate::operations::OBUPUT;
-use crate::operations::OBUS;
-use crate::operations::SEQ;
-use crate::operations::SUPPORT;
-use crate::operations::TIMED;
-use crate::operations::UVLC;
-use crate::outcome::Outcome;
-use crate::outcome::put_outcome;
-use crate::output::Buffer;
+use elementops::bitio_ops;
+use elementops::header_ops;
+use elementops::obu_ops;
+use protocol::lent::Room;
+use protocol::lent::mark;
+use protocol::operations::BITS;
+use protocol::operations::CANON;
+use protocol::operations::EMIT;
+use protocol::operations::FRAME;
+use protocol::operations::LEB;
+use protocol::operations::LEBPUT;
+use protocol::operations::OBUPUT;
+use protocol::operations::OBUS;
+use protocol::operations::SEQ;
+use protocol::operations::SUPPORT;
+use protocol::operations::TIMED;
+use protocol::operations::UVLC;
+use protocol::outcome::Outcome;
+use protocol::outcome::put_outcome;
+use protocol::output::Buffer;
+use unitops::container_ops;
 
 // A request without its byte strings.
 pub(crate) struct Request {

@@ -1,6 +1,6 @@
 use borrow.Author.Needs.{needs}
 use mathlib.Core.Path.{_≡_, sym, ap, _∙_}
-use Rattle.container.specs.PacketLists.{mergedSays}
+use Rattle.packets.specs.PacketLists.{mergedSays}
 use Rattle.bench.specs.Counts.{unitsOrNone}
 use Rattle.bench.proofs.bench_merge_packets.Statement.{statement}
 use Rattle.bench.proofs.bench_merge_packets.Tie as tie

@@ -2,8 +2,8 @@ use borrow.Author.Needs.{needs}
 use Prim.Native.Nat.{ℕ}
 use mathlib.Core.Path.{_≡_, sym, ap, _∙_}
 use denote.Ref.{now}
-use Rattle.assemble.specs.Assemble.{Outcome}
-use Rattle.assemble.specs.Says.{assembledSays}
+use Rattle.pictures.specs.Assemble.{Outcome}
+use Rattle.assemble.specs.Whole.{assembledSays}
 use Rattle.assemble.specs.declared.multi.Counts.{Counts}
 use Rattle.capi.specs.Door.{assembledCode, numberAfter}
 use Rattle.capi.proofs.magbelo_assemble.Statement.{statement}

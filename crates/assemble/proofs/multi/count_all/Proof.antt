@@ -1,7 +1,7 @@
 use borrow.Author.Needs.{needs}
 use mathlib.Core.Path.{refl}
 use denote.Ref.{now}
-use Rattle.assemble.specs.Lay.{framesIn}
+use Rattle.blocks.specs.Lay.{framesIn}
 use Rattle.assemble.proofs.MultiLaws.{units-are, same-counts}
 use Rattle.assemble.proofs.multi.count_all.Statement.{statement}
 use Rattle.assemble.proofs.multi.count_all.Tie as tie

@@ -1,7 +1,7 @@
 use borrow.Author.Needs.{needs}
 use mathlib.Core.Path.{sym, ap, _∙_}
 use denote.Ref.{now}
-use Rattle.assemble.specs.Sizes.{checkedSays}
+use Rattle.pictures.specs.Sizes.{checkedSays}
 use Rattle.assemble.proofs.PlanLaws.{check-long, check-fit, check-unfit}
 use Rattle.assemble.proofs.plan.check_input.Statement.{statement}
 use Rattle.assemble.proofs.plan.check_input.Tie as tie

@@ -4,12 +4,12 @@ use mathlib.Core.Path.{_≡_, sym, ap, _∙_}
 use mathlib.Core.List.{List}
 use denote.Ref.{now}
 use Rattle.obu.specs.Place.{part}
-use Rattle.assemble.specs.Assemble.{readHeader, sameHeaders}
-use Rattle.assemble.specs.Sizes.{checkedSays}
-use Rattle.assemble.specs.Code.{laterSegments}
-use Rattle.assemble.specs.Says.{sequenceIn}
+use Rattle.pictures.specs.Assemble.{readHeader, sameHeaders}
+use Rattle.pictures.specs.Sizes.{checkedSays}
+use Rattle.pictures.specs.Code.{laterSegments}
+use Rattle.pictures.specs.Says.{sequenceIn}
 use Rattle.assemble.specs.Stages.{rateOf, firstKey}
-use Rattle.assemble.specs.Rewrite.{obuIn}
+use Rattle.pictures.specs.Rewrite.{obuIn}
 use Rattle.assemble.proofs.PlanLaws.{says-refused, says-refused-in, header-refused, header-other, header-same}
 use Rattle.assemble.proofs.plan.plan_header.Statement.{statement}
 use Rattle.assemble.proofs.plan.plan_header.Tie as tie

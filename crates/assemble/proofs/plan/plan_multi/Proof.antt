@@ -2,11 +2,11 @@ use native.Mathlib.Omega.{arith}
 use borrow.Author.Needs.{needs}
 use mathlib.Core.Path.{_≡_, sym, ap, _∙_}
 use denote.Ref.{now}
-use Rattle.assemble.specs.Prepare.{Settings}
-use Rattle.assemble.specs.Assemble.{made}
-use Rattle.assemble.specs.Sizes.{checkedSays}
-use Rattle.assemble.specs.Code.{firstSequence}
-use Rattle.assemble.specs.Says.{foundSays}
+use Rattle.pictures.specs.Prepare.{Settings}
+use Rattle.pictures.specs.Assemble.{made}
+use Rattle.pictures.specs.Sizes.{checkedSays}
+use Rattle.pictures.specs.Code.{firstSequence}
+use Rattle.pictures.specs.Says.{foundSays}
 use Rattle.assemble.specs.Stages.{checked}
 use Rattle.assemble.proofs.StageLaws.{Sound, checked-sound}
 use Rattle.assemble.proofs.PlanLaws.{says-refused, says-refused-in, plan-unchecked, plan-unfound, plan-found, found-type, found-at}

@@ -4,8 +4,8 @@ use mathlib.Core.Path.{sym, ap, _∙_}
 use mathlib.Core.List.{List}
 use denote.Ref.{now}
 use Rattle.header.specs.Sequence.{sequenceOf}
-use Rattle.assemble.specs.Code.{allSegments, measured}
-use Rattle.assemble.specs.Says.{measuredSays}
+use Rattle.pictures.specs.Code.{allSegments, measured}
+use Rattle.pictures.specs.Says.{measuredSays}
 use Rattle.assemble.specs.Stages.{planSays}
 use Rattle.assemble.proofs.PlanLaws.{says-refused-in, pictures-refused, pictures-made}
 use Rattle.assemble.proofs.plan.plan_pictures.Statement.{statement}

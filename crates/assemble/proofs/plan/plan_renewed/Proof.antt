@@ -3,7 +3,7 @@ use borrow.Author.Needs.{needs}
 use mathlib.Core.Path.{refl, ap, _∙_}
 use denote.Ref.{now}
 use Rattle.header.specs.Sequence.{sequenceOf}
-use Rattle.assemble.specs.Code.{orElse}
+use Rattle.pictures.specs.Code.{orElse}
 use Rattle.assemble.proofs.PlanLaws.{new-there, renewed-pictures, header-new}
 use Rattle.assemble.proofs.plan.plan_renewed.Statement.{statement}
 use Rattle.assemble.proofs.plan.plan_renewed.Tie as tie

@@ -5,8 +5,8 @@ use mathlib.Core.Path.{_≡_, refl, _∙_, ap}
 use mathlib.Core.List.{List}
 use lib.ListN.{take, drop}
 use denote.Ref.{now}
-use Rattle.assemble.specs.Assemble.{Outcome, andAlso, Output, lentAfter}
-use Rattle.assemble.specs.Says.{countsOf}
+use Rattle.pictures.specs.Assemble.{Outcome, andAlso, Output, lentAfter}
+use Rattle.assemble.specs.Whole.{countsOf}
 use Rattle.assemble.proofs.RecordLaws.{head-part, copied-long, copied-refused, copied-made}
 use Rattle.assemble.proofs.segments.assemble_copied.Statement.{statement}
 use Rattle.assemble.proofs.segments.assemble_copied.Tie as tie

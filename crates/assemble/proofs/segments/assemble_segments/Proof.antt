@@ -37,8 +37,8 @@ use denote.Triple.Entry.{Args, Vals, onEntry}
 use denote.Triple.Spec.{Meets, tripleOf}
 use denote.Triple.Table.{entered, cited}
 use denote.Triple.Walked.{Stays, walkOf, Walks, ends-at, walked, walk-meets}
-use Rattle.assemble.specs.Assemble.{Outcome, Output, lentAfter}
-use Rattle.assemble.specs.Says.{assembledSays, countsOf}
+use Rattle.pictures.specs.Assemble.{Outcome, Output, lentAfter}
+use Rattle.assemble.specs.Whole.{assembledSays, countsOf}
 use Rattle.assemble.specs.Records.{numbersAfter, copiedOutcome, recordsOutcome}
 use Rattle.assemble.specs.declared.segments.Segment.{Segment}
 use Rattle.assemble.specs.declared.multi.Assembled.{Assembled}

@@ -2,7 +2,7 @@
 use borrow.Author.Needs.{needs}
 use native.Mathlib.Omega.{arith}
 use denote.Ref.{now}
-use Rattle.assemble.proofs.UnitLaws.{getD-past}
+use Rattle.pictures.proofs.UnitLaws.{getD-past}
 use Rattle.assemble.proofs.unit.end_of.Statement.{statement}
 use Rattle.assemble.proofs.unit.end_of.Tie as tie
 

@@ -2,7 +2,7 @@
 use borrow.Author.Needs.{needs}
 use mathlib.Core.Path.{_∙_}
 use denote.Ref.{now}
-use Rattle.assemble.proofs.UnitLaws.{getD-before}
+use Rattle.pictures.proofs.UnitLaws.{getD-before}
 use Rattle.assemble.proofs.unit.start_of.Statement.{statement}
 use Rattle.assemble.proofs.unit.start_of.Tie as tie
 

@@ -2,7 +2,7 @@
 use borrow.Author.Needs.{needs}
 use mathlib.Core.Path.{_∙_}
 use denote.Ref.{now}
-use Rattle.assemble.proofs.UnitLaws.{named-picture, named-show, named-none}
+use Rattle.pictures.proofs.UnitLaws.{named-picture, named-show, named-none}
 use Rattle.assemble.proofs.unit.unit.Statement.{statement}
 use Rattle.assemble.proofs.unit.unit.Tie as tie
 

@@ -3,7 +3,7 @@ use borrow.Author.Needs.{needs}
 use denote.Ref.{now}
 use Prim.Native.Nat.{_*_}
 use mathlib.Core.Path.{sym, ap, _∙_}
-use Rattle.assemble.specs.Says.{assembledSays, outcome}
+use Rattle.assemble.specs.Whole.{assembledSays, outcome}
 use Rattle.boardlist.specs.Printed.{between}
 use Rattle.boardlist.proofs.MadeLaws.{outcome-held}
 use Rattle.boardlist.proofs.AnswerLaws.{retold, made-is, refused-is, refused-in-is}

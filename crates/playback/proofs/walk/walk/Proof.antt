@@ -3,7 +3,7 @@ use native.Mathlib.Omega.{arith}
 use mathlib.Core.Path.{sym, ap, _∙_}
 use mathlib.Core.Option.{none, some}
 use denote.Ref.{now}
-use Rattle.assemble.specs.Says.{assembledSays, outcome}
+use Rattle.assemble.specs.Whole.{assembledSays, outcome}
 use Rattle.playback.specs.Way.{formSays}
 use Rattle.playback.proofs.WalkLaws.{outcome-has, handed-list, handed-picture, handed-ends, handed-shows, walk-stop, walk-go}
 use Rattle.playback.proofs.walk.walk.Statement.{statement}

@@ -1,7 +1,7 @@
 use borrow.Author.Needs.{needs}
 use mathlib.Core.Path.{sym, ap, _∙_}
 use denote.Ref.{now}
-use Rattle.header.specs.Frame.{frameSays}
+use Rattle.frame.specs.Frame.{frameSays}
 use Rattle.player.specs.Player.{act}
 use Rattle.player.specs.Code.{keptSays, playedOn, leftIn}
 use Rattle.player.proofs.StepLaws.{frame-left, kept-none, kept-refused, kept-frame}

@@ -1,8 +1,8 @@
 use borrow.Author.Needs.{needs}
 use native.Mathlib.Omega.{arith}
 use mathlib.Core.Path.{sym, ap, _∙_}
-use Rattle.replay.specs.Says.{decodedSays}
-use Rattle.replay.proofs.DecodeLaws.{comes-within}
+use Rattle.protocol.specs.Says.{decodedSays}
+use Rattle.protocol.proofs.DecodeLaws.{comes-within}
 use Rattle.replay.proofs.play_ops.unit_word.Statement.{statement}
 use Rattle.replay.proofs.play_ops.unit_word.Tie as tie
 

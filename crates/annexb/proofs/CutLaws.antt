@@ -1,0 +1,145 @@
+-- Laws of units in lent memory: cut from their bytes by their ends, one after the other. Assumes nothing.
+use Prim.Native.Nat.{ℕ, suc, _+_, _-_, _≤_, _<_}
+use native.Mathlib.Omega.{arith}
+use native.Mathlib.Numerals.{add-one}
+use mathlib.Core.Path.{_≡_, refl, sym, ap, _∙_}
+use mathlib.Core.List.{List, [], _∷_, _++_, append-nil}
+use mathlib.Core.Bool.{Bool, true, false, cond as pick, _&&_}
+use lib.ListN.{length, getD, take, drop, length-drop, drop-of-length-le}
+use lib.Seq.{drop-cons, drop-drop}
+use lib.Dec.{leb, eqb}
+use borrow.Author.Tests.{le-leb, lt-leb, leb-true, leb-false, ne-eqb, eqb-true, eqb-false}
+use Rattle.bitio.specs.Parse.{Answer, refused, accepted, onto}
+use Rattle.container.specs.Units.{unitsFrom, unitsAt}
+use Rattle.annexb.specs.Spans.{span}
+use Rattle.container.specs.Lists.{accepts}
+use Rattle.annexb.proofs.SpanLaws.{ahead, ahead-nil, ahead-onto, ahead-split}
+
+-- the units are those of the front, and then those from `at` on, the next of which is number i
+pub record Cut (s es : List ℕ) (at i : ℕ) (front : List (List ℕ)) : Type 0 where
+  pub whole : unitsAt s es ≡ ahead front (unitsFrom at (drop at s) (drop i es))
+  pub low : at ≤ length s
+
+pub cut-start : (s es : List ℕ) → Cut s es 0 0 []
+cut-start s es = record { whole = ahead-nil (unitsFrom 0 s es); low = omega arith }
+
+-- an answer that is accepted or refused with 36
+pub not-accepted : {A : Type 0} {x : Answer A} {k : ℕ} → x ≡ refused k → accepts x ≡ true → ⊥
+not-accepted p q = let z : _≡_ {A = ℕ} 0 1 = clash (rw p at q) in omega arith
+  where
+    clash : false ≡ true → _≡_ {A = ℕ} 0 1
+    clash e = cc
+
+module _ (s es : List ℕ) {at i : ℕ} {front : List (List ℕ)} (c : Cut s es at i front) where
+  module _ (l : i < length es) where
+    abbrev end : ℕ
+    end = getD es i 0
+
+    abbrev rest : Answer (List (List ℕ))
+    rest = unitsFrom at (drop at s) (drop i es)
+
+    step : rest ≡ pick (leb at end && leb (end - at) (length (drop at s))) (onto (take (end - at) (drop at s)) (unitsFrom end (drop (end - at) (drop at s)) (drop (suc i) es))) (refused 36)
+    unfolding unitsFrom
+    step = rw (drop-cons es i 0 l)
+
+    cut-fits : at ≤ end → end ≤ length s → rest ≡ onto (span s at end) (unitsFrom end (drop end s) (drop (i + 1) es))
+    unfolding span
+    cut-fits a b =
+        let n = length-drop at s in
+        let k : end - at ≤ length (drop at s) = omega (arith, c .low) in
+        let j : at + (end - at) ≡ end = omega arith in
+        step ∙ rw (le-leb at end a, le-leb (end - at) (length (drop at s)) k, drop-drop, j, add-one i)
+
+    pub cut-next : at ≤ end → end ≤ length s → Cut s es end (i + 1) (front ++ (span s at end ∷ []))
+    cut-next a b =
+        record { whole = c .whole ∙ ap (ahead front) (cut-fits a b) ∙ ahead-onto front (span s at end) (unitsFrom end (drop end s) (drop (i + 1) es)); low = b }
+
+    pub cut-fall : end < at → unitsAt s es ≡ refused 36
+    cut-fall a = let e : rest ≡ refused 36 = step ∙ rw (lt-leb at end a) in c .whole ∙ ap (ahead front) e
+
+    pub cut-past : at ≤ end → length s < end → unitsAt s es ≡ refused 36
+    cut-past a b =
+        let n = length-drop at s in
+        let k : length (drop at s) < end - at = omega (arith, c .low) in
+        let e : rest ≡ refused 36 = step ∙ rw (le-leb at end a, lt-leb (end - at) (length (drop at s)) k) in
+        c .whole ∙ ap (ahead front) e
+
+    -- ends that cut the bytes do not fall, and are within them
+    pub cut-good : accepts (unitsAt s es) ≡ true → (at ≤ end) × (end ≤ length s)
+    cut-good q = go (leb at end) (leb end (length s)) refl refl
+      where
+        go : (a b : Bool) → leb at end ≡ a → leb end (length s) ≡ b → (at ≤ end) × (end ≤ length s)
+        go true true x y = (leb-true at end x, leb-true end (length s) y)
+        go false b x y = absurd (not-accepted (cut-fall (leb-false at end x)) q)
+        go true false x y = absurd (not-accepted (cut-past (leb-true at end x) (leb-false end (length s) y)) q)
+
+    -- the unit is one of all
+    pub cut-part : (us : List (List ℕ)) → unitsAt s es ≡ accepted us → at ≤ end → end ≤ length s → (ls : List (List ℕ)) × (us ≡ front ++ (span s at end ∷ ls))
+    cut-part us q a b =
+        let y = ahead-split front rest us (sym (c .whole) ∙ q) in
+        let z = ahead-split (span s at end ∷ []) (unitsFrom end (drop end s) (drop (i + 1) es)) (y .0) (sym (cut-fits a b) ∙ y .1) in
+        (z .0, y .2 ∙ ap (λ t. front ++ t) (z .2))
+
+  module _ (l : length es ≤ i) where
+    abbrev tail : Answer (List (List ℕ))
+    tail = unitsFrom at (drop at s) (drop i es)
+
+    last : tail ≡ pick (eqb (length s - at) 0) (accepted []) (refused 36)
+    unfolding unitsFrom
+    last = rw (drop-of-length-le es l, length-drop)
+
+    pub cut-end : at ≡ length s → unitsAt s es ≡ accepted front
+    cut-end e =
+        let k : length s - at ≡ 0 = omega arith in
+        let e : tail ≡ accepted [] = last ∙ rw k in
+        c .whole ∙ ap (ahead front) e ∙ ap accepted (append-nil front)
+
+    pub cut-short : (at ≡ length s → ⊥) → unitsAt s es ≡ refused 36
+    cut-short n =
+        let k : length s - at ≡ 0 → ⊥ = λ z. n (omega (arith, c .low)) in
+        let e : tail ≡ refused 36 = last ∙ rw (ne-eqb (length s - at) 0 k) in
+        c .whole ∙ ap (ahead front) e
+
+    -- the last end decides
+    pub cut-last : eqb at (length s) ≡ accepts (unitsAt s es)
+    cut-last = go (eqb at (length s)) refl
+      where
+        go : (b : Bool) → eqb at (length s) ≡ b → b ≡ accepts (unitsAt s es)
+        go true e = rw (cut-end (eqb-true at (length s) e))
+        go false e = rw (cut-short (eqb-false at (length s) e))
+
+    -- where the ends cut the bytes, nothing is left
+    pub cut-done : accepts (unitsAt s es) ≡ true → unitsAt s es ≡ accepted front
+    cut-done q = go (eqb (length s - at) 0) refl
+      where
+        go : (b : Bool) → eqb (length s - at) 0 ≡ b → unitsAt s es ≡ accepted front
+        go true e = let d : tail ≡ accepted [] = last ∙ rw e in c .whole ∙ ap (ahead front) d ∙ ap accepted (append-nil front)
+        go false e = let d : tail ≡ refused 36 = last ∙ rw e in absurd (not-accepted (c .whole ∙ ap (ahead front) d) q)
+
+-- what is accepted
+pub accepted-is : {A : Type 0} (x : Answer A) → accepts x ≡ true → (a : A) × (x ≡ accepted a)
+accepted-is {A} (refused k) q = absurd (not-accepted {A = A} {x = refused k} {k = k} refl q)
+accepted-is (accepted a) q = (a, refl)
+
+-- what is not is refused with 36
+from-36 : (at : ℕ) (s es : List ℕ) (k : ℕ) → unitsFrom at s es ≡ refused k → k ≡ 36
+unfolding unitsFrom
+from-36 at s [] k e = go (eqb (length s) 0) e
+  where
+    go : (b : Bool) → _≡_ {A = Answer (List (List ℕ))} (pick b (accepted []) (refused 36)) (refused k) → k ≡ 36
+    go true e = let z : _≡_ {A = ℕ} 0 1 = cc in absurd (omega arith)
+    go false e = cc
+from-36 at s (x ∷ es) k e = go (leb at x && leb (x - at) (length s)) (unitsFrom x (drop (x - at) s) es) refl e (λ j q. from-36 x (drop (x - at) s) es j q)
+  where
+    go : (b : Bool) (y : Answer (List (List ℕ))) → unitsFrom x (drop (x - at) s) es ≡ y → pick b (onto (take (x - at) s) y) (refused 36) ≡ refused k
+        → ((j : ℕ) → unitsFrom x (drop (x - at) s) es ≡ refused j → j ≡ 36) → k ≡ 36
+    go false y p e ih = cc
+    go true (refused j) p e ih = let q : k ≡ j = cc in q ∙ ih j p
+    go true (accepted l) p e ih = let z : _≡_ {A = ℕ} 0 1 = cc in absurd (omega arith)
+
+pub refused-36 : (s es : List ℕ) → accepts (unitsAt s es) ≡ false → unitsAt s es ≡ refused 36
+refused-36 s es q = go (unitsAt s es) refl q
+  where
+    go : (x : Answer (List (List ℕ))) → unitsAt s es ≡ x → accepts x ≡ false → x ≡ refused 36
+    go (refused k) p q = ap refused (from-36 0 s es k p)
+    go (accepted l) p q = let z : _≡_ {A = ℕ} 0 1 = cc in absurd (omega arith)

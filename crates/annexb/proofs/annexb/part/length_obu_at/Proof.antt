@@ -1,0 +1,53 @@
+use borrow.Author.Needs.{needs}
+use native.Mathlib.Omega.{arith}
+use mathlib.Core.Path.{sym, ap, _∙_}
+use denote.Ref.{now}
+use Rattle.annexb.specs.Spans.{partSays}
+use Rattle.annexb.proofs.PartLaws.{IsPart, is-part, not-part, length-stop, length-part}
+use Rattle.annexb.proofs.annexb.part.length_obu_at.Statement.{statement}
+use Rattle.annexb.proofs.annexb.part.length_obu_at.Tie as tie
+
+got : (c : tie.After-found)
+    → (let a = c .before .before .before .before .args in
+    IsPart 10 11 (now (a .s)) (a .at) (a .end) (c .found .given .0 .0) (c .found .given .0 .1 .0))
+got c =
+    let b = c .before .before .before .before in
+    is-part 10 11 _ _ _ (b .pre .0) (b .pre .1) (sym (c .before .before .part-at .ensures) ∙ ap partSays (c .found .given .1))
+
+part-at-requires : tie.Need-part-at-requires
+part-at-requires c κs = search needs
+
+enum-known-found : tie.Need-enum-known-found
+enum-known-found c = search needs
+
+enum-told : tie.Need-enum-told
+enum-told c = search needs
+
+part-refusal-requires : tie.Need-part-refusal-requires
+part-refusal-requires c κs = search needs
+
+returns : tie.Need-returns
+returns c =
+    let k = c .before .before in
+    let a = k .before .before .before .args in
+    rw (c .part-refusal .ensures) (length-stop (now (a .s)) (a .at) (a .end) (not-part 10 11 _ _ _ (k .before .part-at .result) (k .match .keys2) (k .before .part-at .ensures)))
+
+inner-obu-requires : tie.Need-inner-obu-requires
+inner-obu-requires c κs = let g = got (c .before) in (g .ends, omega (arith, g .within))
+
+returns-2 : tie.Need-returns-2
+returns-2 c =
+    let b = c .before .before .before .before .before .before in
+    c .inner-obu .ensures ∙ length-part _ _ _ (b .pre .1) (got (c .before .before))
+
+pub length-obu-at-spec : {M : Type 1} → statement M
+length-obu-at-spec =
+    tie.close
+    (tie.spec
+    part-at-requires
+    enum-known-found
+    enum-told
+    part-refusal-requires
+    returns
+    inner-obu-requires
+    returns-2)

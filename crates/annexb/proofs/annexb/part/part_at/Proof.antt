@@ -1,0 +1,92 @@
+use borrow.Author.Needs.{needs}
+use native.Mathlib.Omega.{arith}
+use mathlib.Core.Path.{_≡_, sym, _∙_, ap}
+use mathlib.Core.List.{List}
+use Prim.Native.Nat.{ℕ, _+_, _≤_}
+use denote.Ref.{now}
+use lib.ListN.{length}
+use Rattle.bitio.specs.Leb.{readLeb, number, lebAnswer}
+use Rattle.bitio.specs.declared.leb128.Leb.the-variants.{Value}
+use Rattle.bitio.proofs.LebLaws.{is-number, is-bad}
+use Rattle.annexb.specs.Spans.{span}
+use Rattle.annexb.proofs.SpanLaws.{span-length, span-drop}
+use Rattle.annexb.proofs.PartLaws.{part-none, part-over, part-got}
+use Rattle.annexb.proofs.annexb.part.part_at.Statement.{statement}
+use Rattle.annexb.proofs.annexb.part.part_at.Tie as tie
+
+-- a number in the part from a to e
+number-at : (s : List ℕ) (a e v n : ℕ) → a ≤ e → e ≤ length s → lebAnswer (span s a e) (readLeb (span s a e)) ≡ Value v n
+    → (readLeb (span s a e) ≡ number v (span s (a + n) e)) × (a + n ≤ e)
+number-at s a e v n l m q =
+    let i = is-number (span s a e) v n q in
+    (i .read ∙ ap (number v) (span-drop s a e n), omega (arith, i .within, span-length s a e m))
+
+got : (c : tie.After-size)
+    → (let a = c .before .before .before .before .before .args in
+    (readLeb (span (now (a .s)) (a .at) (a .end)) ≡ number (c .size .given .0 .0) (span (now (a .s)) (a .at + c .size .given .0 .1 .0) (a .end))) × (a .at + c .size .given .0 .1 .0 ≤ a .end))
+unfolding span
+got c =
+    let b = c .before .before .before .before .before in
+    number-at (now (b .args .s)) (b .args .at) (b .args .end) _ _ (b .pre .0) (b .pre .1) (sym (c .before .before .length-of .ensures) ∙ c .size .given .1)
+
+sub-length-of : tie.Need-sub-length-of
+sub-length-of c = search needs
+
+part-length-of-start : tie.Need-part-length-of-start
+part-length-of-start c = search needs
+
+part-length-of-end : tie.Need-part-length-of-end
+part-length-of-end c = search needs
+
+length-of-requires : tie.Need-length-of-requires
+length-of-requires c κs = search needs
+
+enum-known-size : tie.Need-enum-known-size
+enum-known-size c = search needs
+
+enum-told : tie.Need-enum-told
+enum-told c = search needs
+
+returns : tie.Need-returns
+unfolding span
+returns c =
+    let a = c .before .before .before .before .before .args in
+    part-none (now (a .s)) (a .at) (a .end) _ _ (is-bad (span (now (a .s)) (a .at) (a .end)) (sym (c .before .before .length-of .ensures) ∙ c .enum-told .given .1))
+
+add-start : tie.Need-add-start
+add-start c = omega (arith, got (c .before) .1)
+
+sub-if1 : tie.Need-sub-if1
+sub-if1 c = omega (arith, got (c .before) .1)
+
+returns-2 : tie.Need-returns-2
+returns-2 c =
+    let g = got (c .before .before) in
+    let b = c .before .before .before .before .before .before .before in
+    part-over (now (b .args .s)) (b .args .at) (b .args .end) _ _ (b .pre .1) _ _ (g .0) (c .if1 .taken)
+
+add-t16 : tie.Need-add-t16
+add-t16 c = omega (arith, got (c .before .before) .1)
+
+returns-3 : tie.Need-returns-3
+returns-3 c =
+    let g = got (c .before .before) in
+    let b = c .before .before .before .before .before .before .before in
+    part-got (now (b .args .s)) (b .args .at) (b .args .end) _ _ (b .pre .1) _ _ (g .0) (g .1) (c .if1 .left)
+
+pub part-at-spec : {M : Type 1} → statement M
+part-at-spec =
+    tie.close
+    (tie.spec
+    sub-length-of
+    part-length-of-start
+    part-length-of-end
+    length-of-requires
+    enum-known-size
+    enum-told
+    returns
+    add-start
+    sub-if1
+    returns-2
+    add-t16
+    returns-3)

@@ -1,0 +1,89 @@
+use borrow.Author.Needs.{needs}
+use native.Mathlib.Omega.{arith}
+use mathlib.Core.Path.{_≡_, ap}
+use Prim.Native.Nat.{_+_, _<_}
+use denote.Ref.{now}
+use lib.ListN.{length, length-set}
+use Rattle.obu.specs.Obu.{extBytes}
+use Rattle.obu.specs.Place.{extensionSays}
+use Rattle.annexb.proofs.JoinLaws.{inner-plain, inner-ext}
+use Rattle.annexb.proofs.annexb.write.put_inner_header.Statement.{statement}
+use Rattle.annexb.proofs.annexb.write.put_inner_header.Tie as tie
+
+-- there is room for the extension byte
+room : (c : tie.After-known-told) → c .before .before .before .args .at + 1 < length (now (c .before .before .before .args .out))
+room c =
+    let b = c .before .before .before in
+    let h : length (extBytes (extensionSays (b .args .extension))) ≡ 1 = ap (λ x. length (extBytes (extensionSays x))) (c .before .extension .given .1) in
+    omega (arith, b .pre .1)
+
+enum-told : tie.Need-enum-told
+enum-told c = search needs
+
+mul-out : tie.Need-mul-out
+mul-out c = search needs
+
+slice-write-out : tie.Need-slice-write-out
+slice-write-out c = search needs
+
+add-result : tie.Need-add-result
+add-result c = search needs
+
+enum-known-extension : tie.Need-enum-known-extension
+enum-known-extension c = search needs
+
+mul-out-2 : tie.Need-mul-out-2
+mul-out-2 c = search needs
+
+add-out : tie.Need-add-out
+add-out c = search needs
+
+slice-write-out-2 : tie.Need-slice-write-out-2
+slice-write-out-2 c = search needs
+
+add-next : tie.Need-add-next
+add-next c = search needs
+
+slice-write-out-3 : tie.Need-slice-write-out-3
+slice-write-out-3 c = rw length-set (room c)
+
+add-result-2 : tie.Need-add-result-2
+add-result-2 c = search needs
+
+same-length : tie.Need-same-length
+same-length c = search needs
+
+returns : tie.Need-returns
+returns c =
+    let a = c .before .before .args in
+    let e = c .enum-told .given .1 in
+    rw e (inner-plain (now (a .out)) (a .at) (a .«obu-type») (omega (arith, c .before .before .pre .1)))
+
+same-length-2 : tie.Need-same-length-2
+same-length-2 c = search needs
+
+returns-2 : tie.Need-returns-2
+returns-2 c =
+    let a = c .before .before .before .args in
+    let e = c .before .extension .given .1 in
+    rw e (inner-ext (now (a .out)) (a .at) (a .«obu-type») _ (room c))
+
+pub put-inner-header-spec : {M : Type 1} → statement M
+put-inner-header-spec =
+    tie.close
+    (tie.spec
+    enum-told
+    mul-out
+    slice-write-out
+    add-result
+    enum-known-extension
+    mul-out-2
+    add-out
+    slice-write-out-2
+    add-next
+    slice-write-out-3
+    add-result-2
+    same-length
+    returns
+    same-length-2
+    returns-2)

@@ -1,0 +1,105 @@
+use borrow.Author.Needs.{needs}
+use native.Mathlib.Omega.{arith}
+use mathlib.Core.Path.{_≡_, sym, ap, _∙_}
+use Prim.Native.Nat.{_+_, _-_, _≤_}
+use denote.Ref.{now}
+use lib.ListN.{length}
+use Rattle.bitio.specs.Leb.{lebBytes}
+use Rattle.obu.specs.Place.{extensionSays}
+use Rattle.obu.proofs.ObuLaws.{passes-small}
+use Rattle.annexb.specs.Spans.{span}
+use Rattle.annexb.specs.Fill.{Laid}
+use Rattle.annexb.specs.Join.{innerLength}
+use Rattle.annexb.proofs.SpanLaws.{span-length}
+use Rattle.annexb.proofs.JoinLaws.{inner-laid}
+use Rattle.annexb.proofs.annexb.write.put_length_obu.Statement.{statement}
+use Rattle.annexb.proofs.annexb.write.put_length_obu.Tie as tie
+
+-- the payload is as long as its place says
+size : (c : tie.Start) → (let o = c .args .o in length (span (now (c .args .u)) (o .start) (o .end)) ≡ o .end - o .start)
+size c = span-length (now (c .args .u)) (c .args .o .start) (c .args .o .end) (c .pre .0 .2)
+
+-- the length that was written
+wrote : (c : tie.After-put-leb128)
+    → (let b = c .before .before .before .before .before in
+    let o = b .args .o in
+    Laid (now (b .args .out)) (b .args .w) (lebBytes (innerLength (extensionSays (o .extension)) (length (span (now (b .args .u)) (o .start) (o .end))))) (c .put-leb128 .last .0) (c .put-leb128 .result))
+wrote c =
+    let b = c .before .before .before .before .before in
+    let o = b .args .o in
+    let n : c .before .inner-len .result ≡ innerLength (extensionSays (o .extension)) (length (span (now (b .args .u)) (o .start) (o .end))) =
+    c .before .inner-len .ensures ∙ ap (innerLength (extensionSays (o .extension))) (sym (size b)) in
+    let e = c .put-leb128 .ensures in
+    rw (← n) (record { next = e .0; out = e .1 })
+
+-- what is left has room behind it
+room : (c : tie.After-put-leb128)
+    → (let o = c .before .before .before .before .before .args .o in
+    c .put-leb128 .result + innerLength (extensionSays (o .extension)) (o .end - o .start) ≤ length (c .put-leb128 .last .0))
+room c =
+    let b = c .before .before .before .before .before in
+    let n = ap (λ n. length (lebBytes n)) (c .before .inner-len .ensures) in
+    omega (arith, b .pre .1 .1, c .put-leb128 .ensures .0, c .put-leb128 .kept)
+
+sub-inner-len : tie.Need-sub-inner-len
+sub-inner-len c = search needs
+
+inner-len-requires : tie.Need-inner-len-requires
+inner-len-requires c κs = let b = c .before .before .before in omega (arith, b .pre .0)
+
+put-leb128-requires : tie.Need-put-leb128-requires
+put-leb128-requires c κs =
+    let b = c .before .before .before .before in
+    rw (c .inner-len .ensures) (omega (arith, b .pre .1 .1))
+
+put-inner-header-requires : tie.Need-put-inner-header-requires
+put-inner-header-requires c κs =
+    let l = c .before .before .before in
+    let b = l .before .before .before .before .before in
+    (passes-small _ (b .pre .1 .0), omega (arith, room l))
+
+sub-put-bytes : tie.Need-sub-put-bytes
+sub-put-bytes c = search needs
+
+part-put-bytes-start : tie.Need-part-put-bytes-start
+part-put-bytes-start c = search needs
+
+part-put-bytes-end : tie.Need-part-put-bytes-end
+part-put-bytes-end c = search needs
+
+put-bytes-requires : tie.Need-put-bytes-requires
+unfolding span
+put-bytes-requires c κs =
+    let h = c .before .before .before .before in
+    let l = h .before .before .before .before in
+    let b = l .before .before .before .before .before in
+    omega (arith, room l, h .put-inner-header .ensures .next, size b, h .put-inner-header .kept)
+
+same-length : tie.Need-same-length
+same-length c = search needs
+
+returns : tie.Need-returns
+unfolding span
+returns c =
+    let p = c .before .before in
+    let h = p .before .before .before .before .before in
+    let l = h .before .before .before .before in
+    let b = l .before .before .before .before .before in
+    let e = p .put-bytes .ensures in
+    let o = b .args .o in
+    inner-laid (omega (arith, b .pre .1 .1)) (o .«obu_type») (extensionSays (o .extension)) (span (now (b .args .u)) (o .start) (o .end)) (wrote l) (h .put-inner-header .ensures) (record { next = e .0; out = e .1 })
+
+pub put-length-obu-spec : {M : Type 1} → statement M
+put-length-obu-spec =
+    tie.close
+    (tie.spec
+    sub-inner-len
+    inner-len-requires
+    put-leb128-requires
+    put-inner-header-requires
+    sub-put-bytes
+    part-put-bytes-start
+    part-put-bytes-end
+    put-bytes-requires
+    same-length
+    returns)

@@ -1,0 +1,44 @@
+-- Parts of lent bytes by position, as the functions of Annex B find them. Assumes nothing.
+use Prim.Native.Nat.{ℕ, _-_}
+use mathlib.Core.List.{List}
+use lib.ListN.{length, take, drop}
+use Rattle.bitio.specs.Parse.{Head, stop, item}
+use Rattle.obu.specs.Obu.{Obu}
+use Rattle.obu.specs.Place.{Place, placed, extensionSays}
+use Rattle.obu.specs.Place.Place.{wrong as wrongObu}
+use Rattle.annexb.specs.declared.annexb.part.PartAt.{PartAt}
+use Rattle.annexb.specs.declared.annexb.part.PartAt.the-variants.{Part, Refused as PartRefused}
+use Rattle.annexb.specs.declared.annexb.part.InnerAt.{InnerAt}
+use Rattle.annexb.specs.declared.annexb.part.InnerAt.the-variants.{Found, Refused as InnerRefused}
+
+-- the bytes from a to e
+unfoldable pub span : List ℕ → ℕ → ℕ → List ℕ
+span s a e = take (e - a) (drop a s)
+
+-- a refusal, or where a part starts and ends
+pub data Spot : Type 0 where
+  wrong : ℕ → Spot
+  spot : (start end : ℕ) → Spot
+
+-- e is where the bytes end that the head was read from
+abbrev pub spotOf : ℕ → Head (List ℕ) → Spot
+spotOf e (stop k) = wrong k
+spotOf e (item p r) = spot (e - length r - length p) (e - length r)
+
+abbrev pub placeTo : ℕ → Head Obu → Place
+placeTo e (stop k) = wrongObu k
+placeTo e (item o r) = placed (o .type) (o .ext) (e - length r - length (o .payload)) (e - length r)
+
+-- a refusal's number, 0 where there is none
+abbrev pub spotRefusal : Spot → ℕ
+spotRefusal (wrong k) = k
+spotRefusal (spot a b) = 0
+
+-- 01's number and values for each case of PartAt and InnerAt
+abbrev pub partSays : PartAt → Spot
+partSays (Part a b) = spot a b
+partSays (PartRefused k) = wrong k
+
+abbrev pub innerSays : InnerAt → Place
+innerSays (Found o) = placed (o .«obu_type») (extensionSays (o .extension)) (o .start) (o .end)
+innerSays (InnerRefused k) = wrongObu k

@@ -1,0 +1,2 @@
+// Units from and to Annex B.
+pub mod annexb;

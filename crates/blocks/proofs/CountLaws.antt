@@ -1,0 +1,158 @@
+-- Laws of cues counted: as many as key units, wherever they stand. Assumes nothing.
+use Prim.Native.Nat.{ℕ, suc, _+_, _*_, _-_, _/_, _%_, _≤_, _<_, min}
+use native.Mathlib.Omega.{arith}
+use native.Mathlib.Numerals.{add-one}
+use mathlib.Core.Path.{_≡_, refl, ap, _∙_}
+use mathlib.Core.List.{List, [], _∷_, _++_, map}
+use mathlib.Core.Bool.{Bool, true, false, not, cond as pick, _||_}
+use lib.ListN.{length, getD, drop, length-append, length-map}
+use lib.Dec.{leb, eqb}
+use Rattle.blocks.specs.Blocks.{Kind, code, block, blocks, kinds, positions, isKeyEntry, number, layout, listOf, total}
+use Rattle.blocks.specs.Lay.{framesFrom, framesIn, entriesOf, cuesFrom, blockCue}
+use Rattle.blocks.proofs.BlockLaws.{length-layout}
+use Rattle.blocks.proofs.LayLaws.{cues-append, block-cue, blocks-none, blocks-more, entries-append}
+use Rattle.blocks.proofs.ListLaws.{from, list-more, list-none, frames-more, frames-none}
+
+-- ---- positions counted
+
+pub count-anywhere : {A : Type 0} (is : A → Bool) (p q : ℕ) (l : List A) → length (positions is p l) ≡ length (positions is q l)
+unfolding positions
+count-anywhere is p q [] = refl
+count-anywhere {A} is p q (a ∷ l) = go (count-anywhere is (suc p) (suc q) l) (is a)
+  where
+    go : length (positions is (suc p) l) ≡ length (positions is (suc q) l) → (t : Bool)
+        → length (pick t (p ∷ positions is (suc p) l) (positions is (suc p) l)) ≡ length (pick t (q ∷ positions is (suc q) l) (positions is (suc q) l))
+    go e true = ap suc e
+    go e false = e
+
+pub count-most : {A : Type 0} (is : A → Bool) (p : ℕ) (l : List A) → length (positions is p l) ≤ length l
+unfolding positions
+count-most is p [] = omega arith
+count-most {A} is p (a ∷ l) = go (count-most is (suc p) l) (is a)
+  where
+    go : length (positions is (suc p) l) ≤ length l → (t : Bool) → length (pick t (p ∷ positions is (suc p) l) (positions is (suc p) l)) ≤ suc (length l)
+    go e true = omega arith
+    go e false = omega arith
+
+-- how many cues entries have
+abbrev pub count : List ℕ → ℕ
+count xs = length (cuesFrom 0 xs)
+
+pub count-append : (xs ys : List ℕ) → count (xs ++ ys) ≡ count xs + count ys
+count-append xs ys =
+    let e = ap length (cues-append 0 xs ys) in
+    let k = length-append (cuesFrom 0 xs) (cuesFrom (0 + length xs) ys) in
+    let m = count-anywhere isKeyEntry (suc (0 + length xs)) 1 ys in
+    omega arith
+
+-- the segment does not matter
+count-cons : (x y : ℕ) (xs ys : List ℕ) → isKeyEntry x ≡ isKeyEntry y → count xs ≡ count ys → count (x ∷ xs) ≡ count (y ∷ ys)
+unfolding positions
+count-cons x y xs ys e h =
+    let a = count-anywhere isKeyEntry 2 1 xs in
+    let b = count-anywhere isKeyEntry 2 1 ys in
+    rw e (go (isKeyEntry y) (omega arith))
+  where
+    go : (t : Bool) → length (positions isKeyEntry 2 xs) ≡ length (positions isKeyEntry 2 ys)
+        → length (pick t (1 ∷ positions isKeyEntry 2 xs) (positions isKeyEntry 2 xs)) ≡ length (pick t (1 ∷ positions isKeyEntry 2 ys) (positions isKeyEntry 2 ys))
+    go true e = ap suc e
+    go false e = e
+
+pub count-segment : (i : ℕ) (ks : List Kind) → count (entriesOf i ks) ≡ count (entriesOf 0 ks)
+count-segment i [] = refl
+count-segment i (k ∷ ks) =
+    let e : (i * 4 + code k) % 4 ≡ (0 * 4 + code k) % 4 = omega arith in
+    count-cons (i * 4 + code k) (0 * 4 + code k) (entriesOf i ks) (entriesOf 0 ks) (ap (λ (n : ℕ). eqb n 0) e) (count-segment i ks)
+
+count-none : count [] ≡ 0
+unfolding positions
+count-none = refl
+
+-- ---- one more
+
+pub one-more : (key : Bool) (n : ℕ) → key ≡ true → n + 1 ≡ n + length (blockCue key 0)
+one-more key n e = rw e
+
+pub none-more : (key : Bool) (n : ℕ) → key ≡ false → n ≡ n + length (blockCue key 0)
+none-more key n e = rw e (omega arith)
+
+cue-most : (key : Bool) → length (blockCue key 0) ≤ 1
+cue-most true = omega arith
+cue-most false = omega arith
+
+-- ---- a segment's cues
+
+-- n are counted, and `left` frames are left
+pub record Counting (gop frames left n : ℕ) (after : Bool) : Type 0 where
+  pub fuel : ℕ
+  pub enough : left ≤ fuel
+  pub sum : n + count (entriesOf 0 (blocks fuel gop after left)) ≡ count (entriesOf 0 (kinds gop frames))
+  pub small : n + left ≤ frames
+
+pub counting-start : (gop frames : ℕ) → Counting gop frames frames 0 false
+counting-start gop frames = record { fuel = frames; enough = omega arith; sum = omega arith; small = omega arith }
+
+module _ {gop frames left n : ℕ} {after : Bool} (s : Counting gop frames left n after) where
+  pub counting-end : left ≤ 0 → n ≡ count (entriesOf 0 (kinds gop frames))
+  counting-end h =
+      let z : left ≡ 0 = omega arith in
+      let e : count (entriesOf 0 (blocks (s .fuel) gop after left)) ≡ 0 =
+      ap (λ (m : ℕ). count (entriesOf 0 (blocks (s .fuel) gop after m))) z ∙ ap (λ (l : List Kind). count (entriesOf 0 l)) (blocks-none (s .fuel) gop after) ∙ count-none in
+      omega (arith, s .sum, e)
+
+  pub counting-turn : (m n′ : ℕ) → 1 ≤ left → 1 ≤ gop → m ≡ min left gop → n′ ≡ n + length (blockCue (not after || leb 2 m) 0) → Counting gop frames (left - m) n′ (after || leb 2 m)
+  counting-turn m n′ h g e w =
+      let a = ap (λ (l : List Kind). count (entriesOf 0 l)) (blocks-more (s .fuel) gop after left m h (s .enough) e) in
+      let b = ap count (entries-append 0 (block after m) (blocks (s .fuel - 1) gop (after || leb 2 m) (left - m))) in
+      let k = count-append (entriesOf 0 (block after m)) (entriesOf 0 (blocks (s .fuel - 1) gop (after || leb 2 m) (left - m))) in
+      let q = ap length (block-cue 0 0 m after (omega arith)) in
+      let u = cue-most (not after || leb 2 m) in
+      record {
+        fuel = s .fuel - 1;
+        enough = omega (arith, s .enough);
+        sum = omega (arith, s .sum, a, b, k, q);
+        small = omega (arith, s .small);
+      }
+
+-- ---- all segments' cues
+
+pub record CountingAll (gop : ℕ) (rs : List ℕ) (i n : ℕ) : Type 0 where
+  pub within : i ≤ length rs / 5
+  pub sum : n + count (from gop rs i) ≡ count (listOf gop (framesIn rs))
+
+pub all-start : (gop : ℕ) (rs : List ℕ) → CountingAll gop rs 0 0
+all-start gop rs =
+    let z : length rs / 5 - 0 ≡ length rs / 5 = omega arith in
+    record { within = omega arith; sum = omega (arith, ap (λ (m : ℕ). count (map number (layout gop 0 (framesFrom m rs)))) z) }
+
+pub all-most : (gop : ℕ) (rs : List ℕ) → 1 ≤ gop → count (listOf gop (framesIn rs)) ≤ total (framesIn rs)
+all-most gop rs g =
+    omega (arith, count-most isKeyEntry 1 (listOf gop (framesIn rs)), length-map (layout gop 0 (framesIn rs)) number, length-layout gop 0 (framesIn rs) g)
+
+module _ {gop : ℕ} {rs : List ℕ} {i n : ℕ} (s : CountingAll gop rs i n) where
+  pub all-end : length rs / 5 ≤ i → n ≡ count (listOf gop (framesIn rs))
+  all-end h =
+      let e : count (from gop rs i) ≡ 0 =
+      ap (λ (l : List ℕ). count (map number (layout gop i l))) (frames-none (length rs / 5) i (drop (5 * i) rs) h) ∙ ap count (list-none gop i) ∙ count-none in
+      omega (arith, s .sum, e)
+
+  module _ (h : i < length rs / 5) where
+    abbrev mine : ℕ
+    mine = count (entriesOf 0 (kinds gop (getD rs (5 * i + 4) 0)))
+
+    parts : count (from gop rs i) ≡ mine + count (from gop rs (i + 1))
+    parts =
+        let frames = getD rs (5 * i + 4) 0 in
+        let ns = framesFrom (length rs / 5 - (i + 1)) (drop (5 * (i + 1)) rs) in
+        let a = ap (λ (l : List ℕ). count (map number (layout gop i l))) (frames-more (length rs / 5) i rs h) in
+        let b = ap count (list-more gop i frames ns) in
+        let k = count-append (entriesOf i (kinds gop frames)) (map number (layout gop (suc i) ns)) in
+        let m = count-segment i (kinds gop frames) in
+        let z = ap (λ (j : ℕ). count (map number (layout gop j ns))) (add-one i) in
+        omega (arith, a, b, k, m, z)
+
+    pub all-small : (r : ℕ) → 1 ≤ gop → r ≡ mine → n + r ≤ total (framesIn rs)
+    all-small r g e = omega (arith, s .sum, parts, all-most gop rs g)
+
+    pub all-turn : (r : ℕ) → r ≡ mine → CountingAll gop rs (i + 1) (n + r)
+    all-turn r e = record { within = omega arith; sum = omega (arith, s .sum, parts) }

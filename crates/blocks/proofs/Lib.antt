@@ -1,0 +1,4 @@
+pub mod BlockLaws
+pub mod LayLaws
+pub mod ListLaws
+pub mod CountLaws

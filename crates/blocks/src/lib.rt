@@ -1,0 +1,2 @@
+// The list of units and its cues.
+pub mod blocks;

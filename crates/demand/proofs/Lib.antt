@@ -1,0 +1,11 @@
+pub mod BlockLaws
+pub mod ListLaws
+pub mod HandedLaws
+pub mod GivenLaws
+pub mod HeaderLaws
+pub mod PlayerLaws
+pub mod UnitLaws
+pub mod AssembleLaws
+pub mod Turns
+pub mod Demand3
+pub mod Listing

@@ -1,0 +1,84 @@
+-- Laws of the player: the slots that a frame fills, the header that a unit leaves, and the outcome of an accepted play. Assumes nothing.
+use Prim.Native.Nat.{ℕ, suc, _/_, _%_, _^_, _≤_, _<_}
+use native.Mathlib.Omega.{arith}
+use mathlib.Core.Path.{_≡_, refl, ap}
+use mathlib.Core.List.{List, [], _∷_}
+use mathlib.Core.Bool.{Bool, true, false, cond as pick, _||_}
+use mathlib.Core.Option.{Option, some}
+use lib.ListN.{length, getD}
+use lib.Dec.{eqb}
+use borrow.Author.Tests.{eqb-false, le-ltb}
+use Rattle.bitio.specs.Parse.{accepted, andNext}
+use Rattle.bitio.specs.Limits.{limit}
+use Rattle.bitio.specs.Every.{Every}
+use Rattle.bitio.specs.Every.Every.{none as nothing, also}
+use Rattle.obu.specs.Obu.{Obu, obus}
+use Rattle.obu.specs.Unit.{has, count, firstPayload}
+use Rattle.header.specs.Sequence.{Sequence, parseSequence}
+use Rattle.header.specs.Support.{support}
+use Rattle.frame.specs.Frame.{parseFrame}
+use Rattle.frame.specs.declared.frame_header.FrameHeaderInfo.{FrameHeaderInfo}
+use Rattle.pictures.specs.Prepare.{isSequence, isFrame, lowest}
+use Rattle.player.specs.Player.{empty, refresh, Shown, act, State, keepAs, keep, soleFrame, play}
+use Rattle.player.specs.declared.slots.Slot.{Slot}
+use Rattle.demand.specs.Premises.{Same}
+
+pub length-refresh : (flags : ℕ) (new : Slot) (ss : List Slot) → length (refresh flags new ss) ≡ length ss
+unfolding refresh
+length-refresh flags new [] = refl
+length-refresh flags new (s ∷ ss) = ap suc (length-refresh (flags / 2) new ss)
+
+-- a frame that refreshes something fills its lowest slot
+pub record Hit (flags : ℕ) (new : Slot) (ss : List Slot) : Type 0 where
+  pub within : lowest (length ss) flags < length ss
+  pub holds : getD (refresh flags new ss) (lowest (length ss) flags) empty ≡ new
+
+pub hit : (flags : ℕ) (new : Slot) (ss : List Slot) → 0 < flags → flags < 2 ^ length ss → Hit flags new ss
+unfolding refresh lowest
+hit flags new [] h k = absurd (omega arith)
+hit flags new (s ∷ ss) h k = go (λ a b. hit (flags / 2) new ss a b) (eqb (flags % 2) 1) refl
+  where
+    go : (0 < flags / 2 → flags / 2 < 2 ^ length ss → Hit (flags / 2) new ss) → (t : Bool) → eqb (flags % 2) 1 ≡ t → Hit flags new (s ∷ ss)
+    go more true e = record { within = rw e (omega arith); holds = rw e }
+    go more false e =
+        let z = eqb-false (flags % 2) 1 e in
+        let k′ : flags < 2 ^ suc (length ss) = k in
+        let r = more (omega arith) (omega arith) in
+        record { within = rw e (omega (arith, r .within)); holds = rw e (r .holds) }
+
+-- ---- the header that a unit leaves
+
+module _ (s : List ℕ) (q : Sequence) (read : parseSequence s ≡ accepted q) (fine : support (q .header) ≡ accepted tt) where
+  -- a unit whose sequence payloads are all s leaves its header
+  pub keep-same : {os : List Obu} → Every (Same s) os → keep (some q) os ≡ accepted (some q)
+  unfolding keepAs andNext
+  keep-same nothing = refl
+  keep-same (also {a = o} {l = os} e es) = go (isSequence o) e (keep-same es)
+    where
+      go : (t : Bool) → (t ≡ true → o .payload ≡ s) → keep (some q) os ≡ accepted (some q)
+          → pick t (andNext (parseSequence (o .payload)) (λ q. andNext (support (q .header)) (λ _. keep (some q) os))) (keep (some q) os) ≡ accepted (some q)
+      go true w ih = rw (w refl, read, fine) ih
+      go false w ih = ih
+
+  pub keep-first : (k : Option Sequence) {os : List Obu} → Every (Same s) os → has isSequence os ≡ true → keep k os ≡ accepted (some q)
+  unfolding keepAs andNext has
+  keep-first k nothing h = let z : _≡_ {A = ℕ} 0 1 = cc in absurd (omega arith)
+  keep-first k (also {a = o} {l = os} e es) h = go (isSequence o) e h (λ w. keep-first k es w)
+    where
+      go : (t : Bool) → (t ≡ true → o .payload ≡ s) → (t || has isSequence os) ≡ true → (has isSequence os ≡ true → keep k os ≡ accepted (some q))
+          → pick t (andNext (parseSequence (o .payload)) (λ q. andNext (support (q .header)) (λ _. keep (some q) os))) (keep k os) ≡ accepted (some q)
+      go true w h ih = rw (w refl, read, fine) (keep-same es)
+      go false w h ih = ih h
+
+-- ---- the outcome of a play
+
+-- the frame of a unit that has one
+pub sole-is : (os : List Obu) → count isFrame os ≡ 1 → soleFrame os ≡ accepted (firstPayload isFrame os)
+unfolding soleFrame
+sole-is os e = rw e
+
+pub play-is : (st : State) (p : ℕ) (u : List ℕ) (os : List Obu) (q : Sequence) (x : FrameHeaderInfo) (r : Shown) → length u ≤ limit → obus u ≡ accepted os
+    → keep (st .kept) os ≡ accepted (some q) → count isFrame os ≡ 1 → parseFrame q (firstPayload isFrame os) ≡ accepted x → act (st .slots) p x ≡ accepted r
+    → play st p u ≡ accepted (record { shown = r .shown; state = record { slots = r .slots; kept = some q } })
+unfolding play andNext
+play-is st p u os q x r n a b c d e = rw (le-ltb limit (length u) n, a, b, sole-is os c, d, e)

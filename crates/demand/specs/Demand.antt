@@ -1,0 +1,152 @@
+-- What demand 3 claims of an accepted list. Assumes nothing.
+-- What stands in quotation marks is document 01's wording, which says board for segment. What Premises, Courses and Kinds quote is not quoted again here.
+use Prim.Native.Nat.{ℕ, suc, _-_, _≤_, _<_}
+use mathlib.Core.Path.{_≡_}
+use mathlib.Core.List.{List, [], _∷_, List·Memᴰ}
+use mathlib.Core.Logic.{_↔_, _⊎_}
+use mathlib.Core.Bool.{Bool, true}
+use mathlib.Core.Option.{some}
+use lib.ListN.{length, getD, drop}
+use Rattle.bitio.specs.Parse.{refused, accepted}
+use Rattle.header.specs.Sequence.{Sequence, parseSequence}
+use Rattle.frame.specs.declared.frame_header.FrameInfo.{FrameInfo}
+use Rattle.frame.specs.declared.frame_header.FrameHeaderInfo.the-variants.{Existing, Frame}
+use Rattle.container.specs.Limits.{Room}
+use Rattle.container.specs.Stream.{streamBytes}
+use Rattle.container.specs.Units.{endsOf}
+use Rattle.container.specs.Container.{Container, read, write, writeAt}
+use Rattle.blocks.specs.Blocks.{Kind, Key, Golden, Show, number, listOf, positions, total}
+use Rattle.pictures.specs.Segments.{Segment, framesOf}
+use Rattle.pictures.specs.Prepare.{Settings, effective, renewal, sent, slotOf, showUnit}
+use Rattle.pictures.specs.Assemble.{Output, unitsOf}
+use Rattle.player.specs.Player.{empty, filled, State, start, play, unitFrame}
+use Rattle.demand.specs.Kinds.{unitKind, isKeyUnit, unitAt, segmentOf}
+use Rattle.demand.specs.Premises.{firstSequence, listHeader}
+use Rattle.demand.specs.Courses.{Course, Throughout}
+
+-- rising, the first at lo or above
+unfoldable pub Rising : ℕ → List ℕ → Type 0
+Rising lo [] = Unit
+Rising lo (x ∷ l) = (lo ≤ x) × (Rising (suc x) l)
+
+abbrev pub noSegment : Segment
+noSegment = record { key = []; golden = []; frames = 0 }
+
+-- the segment whose position p is
+abbrev pub ownSegment : List Segment → ℕ → Segment
+ownSegment xs p = getD xs (segmentOf (framesOf xs) p) noSegment
+
+-- the list's sequence header is q, before timing
+module _ (set : Settings) (q : Sequence) where
+  -- u has the bytes of the segment's key or golden, copied or rewritten.
+  -- 01: "Timing absent: sequence headers are replaced and units holding one rewritten; else units are copied."
+  abbrev pub IsKey : Segment → List ℕ → Type 0
+  IsKey x u = sent (renewal set q) (x .key) ≡ accepted u
+
+  abbrev pub IsGolden : Segment → List ℕ → Type 0
+  IsGolden x u = sent (renewal set q) (x .golden) ≡ accepted u
+
+  -- or of the segment's own show unit, which names the slot of the segment's own golden.
+  -- 01: "The show index is the lowest slot refreshed by the golden's first frame header."
+  abbrev pub IsShow : Segment → List ℕ → Type 0
+  IsShow x u = (f : FrameInfo) × (unitFrame (effective set q) (x .golden) ≡ accepted (Frame f)) × (u ≡ showUnit (slotOf (f .«refresh_frame_flags»)))
+
+  abbrev pub IsUnit : Kind → Segment → List ℕ → Type 0
+  IsUnit Key x u = IsKey x u
+  IsUnit Golden x u = IsGolden x u
+  IsUnit Show x u = IsShow x u
+
+  -- position p of the list r
+  pub record Listed (xs : List Segment) (r : Output) (p : ℕ) : Type 0 where
+    pub kind : Kind
+    -- its entry names that kind of unit of the segment whose position it is.
+    -- 01: "A list entry is segment × 4 + kind (key 0, golden 1, show 2), segments from 0"
+    pub entry : getD (r .list) (p - 1) 0 ≡ number (record { segment = segmentOf (framesOf xs) p; kind = kind })
+    -- its bytes are that unit's
+    pub bytes : IsUnit kind (ownSegment xs p) (unitAt (unitsOf r) p)
+    -- and say so
+    pub says : unitKind (effective set q) (unitAt (unitsOf r) p) ≡ accepted kind
+
+  -- ---- one play, of the units us from the cue c on
+
+  module _ (xs : List Segment) (us : List (List ℕ)) (c p : ℕ) (st : State) where
+    -- the unit at p, a show unit played in the state st, shows position o
+    pub record ShowsGolden (o : ℕ) : Type 0 where
+      -- the slot that it names is at that moment filled and showable.
+      -- 01: "A show unit shows its slot"
+      pub slot : ℕ
+      pub names : unitFrame (effective set q) (unitAt us p) ≡ accepted (Existing slot)
+      pub keyMark : Bool
+      pub holds : getD (st .slots) slot empty ≡ filled o true keyMark
+      -- o is the greatest position below p whose unit is a golden unit
+      pub below : o < p
+      pub golden : unitKind (effective set q) (unitAt us o) ≡ accepted Golden
+      pub greatest : (j : ℕ) → o < j → j < p → unitKind (effective set q) (unitAt us j) ≡ accepted Golden → ⊥
+      -- it lies behind the cue and is the golden of p's own segment.
+      -- 01: "A golden unit is a board's own if it lies at one of that board's positions and has the bytes of its golden, copied or rewritten as above."
+      pub behind : c < o
+      pub among : segmentOf (framesOf xs) o ≡ segmentOf (framesOf xs) p
+      pub own : IsGolden (ownSegment xs p) (unitAt us o)
+
+    -- what the answer has to be: for a key or golden unit its own position
+    abbrev pub Right : Kind → ℕ → Type 0
+    Right Key o = o ≡ p
+    Right Golden o = o ≡ p
+    Right Show o = ShowsGolden o
+
+    -- the unit at p, played in the state st, is not refused, and shows what it has to, by what it is as its bytes say
+    pub record PlaysRight : Type 0 where
+      pub kind : Kind
+      pub says : unitKind (effective set q) (unitAt us p) ≡ accepted kind
+      pub shown : ℕ
+      pub after : State
+      pub answer : play st p (unitAt us p) ≡ accepted (record { shown = some shown; state = after })
+      pub right : Right kind shown
+
+-- the list's units, written in a container and read back: us.
+-- 01: "All the list's units are written in order, the container being the stream or Annex B."
+pub record ReadBack (r : Output) (us : List (List ℕ)) : Type 0 where
+  pub container : Container
+  pub room : Room
+  pub bytes : List ℕ
+  pub written : write container room (unitsOf r) ≡ accepted bytes
+  pub room′ : Room
+  pub readBack : read container room′ bytes ≡ accepted us
+
+-- Demand 3, of what assembly has handed out for the segments xs.
+-- 01: "It is a single claim about the whole way from the boards to the last unit played, not one for each call."
+pub record Demand (set : Settings) (xs : List Segment) (r : Output) : Type 0 where
+  -- What the list's sequence header reads as.
+  -- As it goes out, timed if it was not, every cue's unit has it, and position 1 is a cue.
+  pub header : Sequence
+  pub reads : parseSequence (listHeader xs) ≡ accepted header
+  pub starts : List·Memᴰ 1 (r .cues)
+  pub carries : (cue : ℕ) → List·Memᴰ cue (r .cues) → parseSequence (firstSequence (unitAt (unitsOf r) cue)) ≡ accepted (effective set header)
+  --
+  -- 1. The entries are, segment after segment, what the blocks give; there are as many units as frames ordered;
+  --    each has the bytes of its segment's key or golden, copied or rewritten, or of the segment's own show unit.
+  -- 01: "Blocks of min(frames left, gop_size): key, golden, then show units. A block of 1 after a golden is one show unit. A segment of 1 frame is its key."
+  pub entries : r .list ≡ listOf (set .gop) (framesOf xs)
+  -- 01: "The frames ordered are the sum of the boards' frame counts."
+  pub count : length (unitsOf r) ≡ total (framesOf xs)
+  pub units : (p : ℕ) → 1 ≤ p → p ≤ total (framesOf xs) → Listed set header xs r p
+  --
+  -- 2. The units are written from lent memory: their bytes one behind the other, and the end of each.
+  pub lent : (c : Container) (room : Room) → writeAt c room (streamBytes (unitsOf r)) (endsOf 0 (unitsOf r)) ≡ write c room (unitsOf r)
+  -- 01: "Writing may be refused with 34 or 35 only, reading back with 35 only; then nothing is read back."
+  pub writing : (c : Container) (room : Room) (n : ℕ) → write c room (unitsOf r) ≡ refused n → (n ≡ 34) ⊎ (n ≡ 35)
+  pub reading : (c : Container) (room room′ : Room) (bs : List ℕ) → write c room (unitsOf r) ≡ accepted bs → (n : ℕ) → read c room′ bs ≡ refused n → n ≡ 35
+  -- else the units read back are the list's, byte for byte
+  pub back : (us : List (List ℕ)) → ReadBack r us → us ≡ unitsOf r
+  --
+  -- 3. The cues are exactly the positions, rising, of the units that are key units as their bytes say.
+  -- 01: "cues count units from 1"
+  pub cues : r .cues ≡ positions (isKeyUnit (effective set header)) 1 (unitsOf r)
+  pub exactly : (p : ℕ) → List·Memᴰ p (r .cues) ↔ ((1 ≤ p) × (p ≤ total (framesOf xs)) × (unitKind (effective set header) (unitAt (unitsOf r) p) ≡ accepted Key))
+  pub rising : Rising 1 (r .cues)
+  --
+  -- 4. From every cue on, the units read back are played, from eight empty slots and no kept header.
+  --    Whatever refused units are played before and between them: none of them is refused, and each shows what it has to.
+  -- 01: "Each unit read back is played under its position."
+  pub played : (us : List (List ℕ)) → ReadBack r us → (cue : ℕ) → List·Memᴰ cue (r .cues) → (course : Course start cue (drop (cue - 1) us))
+      → Throughout (λ p st. PlaysRight set header xs us cue p st) course

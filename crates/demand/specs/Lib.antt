@@ -1,0 +1,4 @@
+pub mod Kinds
+pub mod Premises
+pub mod Courses
+pub mod Demand

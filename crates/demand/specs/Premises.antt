@@ -1,0 +1,56 @@
+-- What demand 3 asks of the segments and the settings. Assumes nothing.
+use Prim.Native.Nat.{ℕ, _^_, _<_}
+use mathlib.Core.Path.{_≡_}
+use mathlib.Core.List.{List, [], _∷_}
+use mathlib.Core.Bool.{true, false}
+use Rattle.bitio.specs.Parse.{accepted}
+use Rattle.bitio.specs.Every.{Every}
+use Rattle.obu.specs.Obu.{Obu, obus, Written}
+use Rattle.obu.specs.Unit.{count, firstPayload, ofUnit}
+use Rattle.header.specs.Sequence.{Sequence, parseSequence}
+use Rattle.container.specs.Stream.{isDelimiter}
+use Rattle.pictures.specs.Segments.{Segment}
+use Rattle.pictures.specs.Prepare.{isSequence, isFrame, Settings}
+
+-- the first sequence payload of a unit
+abbrev pub firstSequence : List ℕ → List ℕ
+firstSequence u = ofUnit [] (firstPayload isSequence) (obus u)
+
+-- 01: "The list's sequence header is the first sequence payload of its first key."
+abbrev pub listHeader : List Segment → List ℕ
+listHeader [] = []
+listHeader (x ∷ xs) = firstSequence (x .key)
+
+-- the first OBU is a temporal delimiter and no other is
+abbrev pub Delimited : List Obu → Type 0
+Delimited [] = ⊥
+Delimited (o ∷ os) = (isDelimiter o ≡ true) × (count isDelimiter os ≡ 0)
+
+-- a sequence header's payload is s
+abbrev pub Same : List ℕ → Obu → Type 0
+Same s o = isSequence o ≡ true → o .payload ≡ s
+
+-- a unit u among the keys and goldens, s being the list's sequence header
+pub record Premise (s u : List ℕ) : Type 0 where
+  -- 1. it is in written form: writing its OBUs gives it again.
+  -- 01: "Written form: size present, shortest leb128, reserved bit 0."
+  pub held : List Obu
+  pub written : Written u held
+  -- 2. its first OBU is a temporal delimiter and no other is
+  pub delimited : Delimited held
+  -- 3. exactly one OBU is a frame
+  pub single : count isFrame held ≡ 1
+  -- 4. the payload of every sequence header OBU in it is s
+  pub same : Every (Same s) held
+
+pub record Premises (xs : List Segment) : Type 0 where
+  pub keys : Every (λ x. Premise (listHeader xs) (x .key)) xs
+  pub goldens : Every (λ x. Premise (listHeader xs) (x .golden)) xs
+  -- 5. the list's sequence header has no decoder model
+  pub noModel : (q : Sequence) → parseSequence (listHeader xs) ≡ accepted q → q .header .opening .model .«decoder_model_info_present» ≡ false
+
+-- fps and fps_den are u32.
+-- 01: "A setting must fit its field in `AssembleParams`"
+pub record InFields (set : Settings) : Type 0 where
+  pub fps : set .fps < 2 ^ 32
+  pub den : set .den < 2 ^ 32

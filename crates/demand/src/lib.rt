@@ -1,0 +1,1 @@
+// Demand 3: what is assembled plays as it should. It has no code.

@@ -1,0 +1,11 @@
+pub mod PackLaws
+pub mod PutLaws
+pub mod FormFields
+pub mod FormOpening
+pub mod FormPoints
+pub mod FormCoding
+pub mod FormSequence
+pub mod EmitLaws
+pub mod TimedEmitLaws
+pub mod WroteLaws
+pub mod PayloadLaws

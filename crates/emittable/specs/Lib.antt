@@ -1,0 +1,3 @@
+pub mod PutFields
+pub mod PutSequence
+pub mod Emittable

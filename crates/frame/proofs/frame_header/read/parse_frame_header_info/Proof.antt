@@ -1,0 +1,38 @@
+use borrow.Author.Needs.{needs}
+use mathlib.Core.Path.{_∙_}
+use Rattle.frame.proofs.FrameFromLaws.{beside-read, beside-refused}
+use Rattle.frame.proofs.frame_header.read.parse_frame_header_info.Statement.{statement}
+use Rattle.frame.proofs.frame_header.read.parse_frame_header_info.Tie as tie
+
+parse-sequence-header-requires : tie.Need-parse-sequence-header-requires
+parse-sequence-header-requires c κs = search needs
+
+enum-known-answer : tie.Need-enum-known-answer
+enum-known-answer c = search needs
+
+frame-header-info-requires : tie.Need-frame-header-info-requires
+frame-header-info-requires c κs = search needs
+
+enum-known-answer-2 : tie.Need-enum-known-answer-2
+enum-known-answer-2 c = search needs
+
+returns : tie.Need-returns
+returns c =
+    let p = c .before .before .before .before .before .parse-sequence-header in
+    c .frame-header-info .ensures ∙ beside-read _ (p .result) _ _ (p .ensures) (c .before .before .answer .given .1)
+
+returns-2 : tie.Need-returns-2
+returns-2 c =
+    let p = c .before .before .before .before .parse-sequence-header in
+    beside-refused _ (p .result) _ _ (p .ensures) (c .before .answer2 .given .1)
+
+pub parse-frame-header-info-spec : {M : Type 1} → statement M
+parse-frame-header-info-spec =
+    tie.close
+    (tie.spec
+    parse-sequence-header-requires
+    enum-known-answer
+    frame-header-info-requires
+    enum-known-answer-2
+    returns
+    returns-2)

@@ -1,0 +1,123 @@
+-- Laws of canonicalize_tu: its outcomes. Assumes nothing.
+use Prim.Native.Nat.{ℕ, _≤_, _<_}
+use native.Mathlib.Omega.{arith}
+use mathlib.Core.Path.{_≡_, refl, sym, ap, _∙_}
+use mathlib.Core.List.{List, [], _∷_, _++_}
+use mathlib.Core.Bool.{true, false}
+use lib.ListN.{length, drop}
+use lib.Dec.{eqb}
+use borrow.Author.Tests.{le-leb, lt-leb, leb-true, leb-false, eq-eqb, ne-eqb}
+use types.Run.{OneOf}
+use denote.Enum.Declared.{tagOf}
+use Rattle.bitio.specs.Parse.{Answer, refused, accepted, onto}
+use Rattle.bitio.specs.Lent.{pasted}
+use Rattle.obu.specs.Obu.{Obu, obus}
+use Rattle.obu.specs.Unit.{count, has, strayIn, ofUnit}
+use Rattle.obu.proofs.UnitLaws.{has-count}
+use Rattle.obu.proofs.ObuLaws.{obus-nil, obus-item}
+use Rattle.obu.proofs.reader.ObuAt.{the-type}
+use Rattle.obu.specs.declared.reader.ObuAt.{ObuAt}
+use Rattle.obu.specs.Place.{obuPlace, obuSays}
+use Rattle.obu.proofs.PlaceLaws.{Placed, walk-start, walk-stop, not-found}
+use Rattle.container.specs.Stream.{isDelimiter, others}
+use Rattle.packets.specs.Packets.{canonical, canonicalOf}
+use Rattle.bitio.specs.Limits.{limit}
+use Rattle.container.specs.Limits.{Room}
+use Rattle.container.specs.Units.{countOf, outAfter}
+use Rattle.packets.specs.Packets.{canonicalAt}
+use Rattle.container.specs.Ranges.{keptBytes, Range}
+use Rattle.container.proofs.StreamLaws.{bytes-append}
+use Rattle.container.proofs.RangeLaws.{placed-step, range-one, range-from}
+use Rattle.packets.specs.Canonical.{Split}
+
+-- ---- the first OBU
+
+some-bytes : (s : List ℕ) (o : Obu) (os : List Obu) → obus s ≡ accepted (o ∷ os) → 0 < length s
+some-bytes [] o os e = let z : _≡_ {A = ℕ} 0 1 = cc obus-nil in absurd (omega arith)
+some-bytes (b ∷ s) o os e = omega arith
+
+-- a unit that parses and has an OBU has one at its start
+pub split-none : (s : List ℕ) (r : ObuAt) → OneOf (1 ∷ 2 ∷ []) (tagOf the-type r) → obuSays r ≡ obuPlace s 0 → Split s 0
+split-none s r k e o os q =
+    let w = walk-stop (walk-start s) _ (not-found s 0 r k (some-bytes s o os q) e) in
+    let z : _≡_ {A = ℕ} 0 1 = cc in
+    absurd (omega arith)
+
+pub split-at : {s : List ℕ} {o : Obu} {a b : ℕ} → Placed s 0 o a b → Split s b
+split-at {s} {o} {a} {b} p x os q = go (obus (drop b s)) refl (sym (obus-item s o (drop b s) (p .head)) ∙ q)
+  where
+    go : (y : Answer (List Obu)) → obus (drop b s) ≡ y → onto o y ≡ accepted (x ∷ os) → Range s 0 b (x ∷ []) × Range s b (length s) os
+    go (refused k) e f = let z : _≡_ {A = ℕ} 0 1 = cc in absurd (omega arith)
+    go (accepted l) e f =
+        let i : o ≡ x = cc in
+        let j : l ≡ os = cc in
+        (rw (← i) (range-one (placed-step p)), range-from s (p .within) (e ∙ ap accepted j))
+
+-- ---- a clean unit, and one with a stray delimiter
+
+none-behind : (os : List Obu) → has isDelimiter os ≡ false → eqb (count isDelimiter os) 0 ≡ true
+none-behind os e = let k = leb-false 1 (count isDelimiter os) (has-count isDelimiter os ∙ e) in eq-eqb (count isDelimiter os) 0 (omega arith)
+
+one-behind : (os : List Obu) → has isDelimiter os ≡ true → eqb (count isDelimiter os) 0 ≡ false
+one-behind os e = let k = leb-true 1 (count isDelimiter os) (has-count isDelimiter os ∙ e) in ne-eqb (count isDelimiter os) 0 (λ z. omega arith)
+
+pub clean-same : (u : List ℕ) → ofUnit false strayIn (obus u) ≡ false → canonical u ≡ u
+unfolding canonical count
+clean-same u e = go (obus u) e
+  where
+    go : (x : Answer (List Obu)) → ofUnit false strayIn x ≡ false → canonicalOf u x ≡ u
+    go (refused k) e = refl
+    go (accepted []) e = refl
+    go (accepted (o ∷ os)) e = rw (none-behind os e)
+
+pub record Stray (u : List ℕ) : Type 0 where
+  pub o : Obu
+  pub os : List Obu
+  pub reads : obus u ≡ accepted (o ∷ os)
+  pub same : canonical u ≡ keptBytes true (o ∷ []) ++ keptBytes false os
+
+pub stray : (u : List ℕ) → ofUnit false strayIn (obus u) ≡ true → Stray u
+unfolding canonical
+stray u e = go (obus u) refl e
+  where
+    go : (x : Answer (List Obu)) → obus u ≡ x → ofUnit false strayIn x ≡ true → Stray u
+    go (refused k) p e = let z : _≡_ {A = ℕ} 0 1 = cc in absurd (omega arith)
+    go (accepted []) p e = let z : _≡_ {A = ℕ} 0 1 = cc in absurd (omega arith)
+    go (accepted (o ∷ os)) p e =
+        record { o = o; os = os; reads = p; same = rw (p, one-behind os e) (bytes-append (o ∷ []) (others os)) }
+
+-- ---- the outcomes
+
+abbrev pub roomOf : List ℕ → Room
+roomOf d = record { bytes = length d; ends = 0 }
+
+module _ (u d : List ℕ) where
+  pub canon-long : limit < length u → (refused 34 ≡ countOf (canonicalAt (roomOf d) u)) × (d ≡ outAfter (canonicalAt (roomOf d) u) d)
+  unfolding canonicalAt
+  canon-long l = let e = lt-leb (length u) limit l in (rw e, rw e)
+
+  module _ (short : length u ≤ limit) (bs : List ℕ) (same : canonical u ≡ bs) where
+    pub canon-large : limit < length bs → (refused 35 ≡ countOf (canonicalAt (roomOf d) u)) × (d ≡ outAfter (canonicalAt (roomOf d) u) d)
+    unfolding canonicalAt
+    canon-large l =
+        let e = le-leb (length u) limit short in
+        let f = lt-leb (length bs) limit l in
+        (rw (e, same, f), rw (e, same, f))
+
+    module _ (fit : length bs ≤ limit) where
+      pub canon-full : length d < length bs → (refused 35 ≡ countOf (canonicalAt (roomOf d) u)) × (d ≡ outAfter (canonicalAt (roomOf d) u) d)
+      unfolding canonicalAt
+      canon-full l =
+          let e = le-leb (length u) limit short in
+          let f = le-leb (length bs) limit fit in
+          let g = lt-leb (length bs) (length d) l in
+          (rw (e, same, f, g), rw (e, same, f, g))
+
+      pub canon-there : length bs ≤ length d → {n : ℕ} {o : List ℕ} → n ≡ length bs → o ≡ pasted d 0 bs
+          → (accepted n ≡ countOf (canonicalAt (roomOf d) u)) × (o ≡ outAfter (canonicalAt (roomOf d) u) d)
+      unfolding canonicalAt
+      canon-there l q r =
+          let e = le-leb (length u) limit short in
+          let f = le-leb (length bs) limit fit in
+          let g = le-leb (length bs) (length d) l in
+          (rw (e, same, f, g) (ap accepted q), rw (e, same, f, g) r)

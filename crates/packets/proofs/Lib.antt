@@ -1,0 +1,9 @@
+pub mod SliceLaws
+pub mod PacketLaws
+pub mod PacketSteps
+pub mod PacketListLaws
+pub mod CanonicalLaws
+pub mod PacketRunLaws
+pub mod PacketPieceLaws
+pub mod PacketMergeLaws
+pub mod PacketOutcomeLaws

@@ -1,0 +1,248 @@
+-- Laws of one output packet, measured and written. Assumes nothing.
+use Prim.Native.Nat.{ℕ, _+_, _≤_, _<_, min}
+use native.Mathlib.Omega.{arith}
+use mathlib.Core.Path.{_≡_, refl, sym, ap, _∙_}
+use mathlib.Core.List.{List, [], _∷_, _++_}
+use mathlib.Core.Bool.{Bool, true, false}
+use lib.ListN.{length, length-append}
+use lib.Seq.{slice}
+use Rattle.bitio.specs.Parse.{Answer, refused, accepted, answer}
+use Rattle.bitio.specs.Lent.{pasted}
+use Rattle.bitio.specs.Every.Every.{also}
+use Rattle.obu.specs.Obu.{Obu, headObuOf, obus}
+use Rattle.obu.specs.Unit.{count, ofUnit}
+use Rattle.obu.proofs.ObuLaws.{obus-nil}
+use Rattle.bitio.specs.Limits.{limit}
+use Rattle.container.specs.Stream.{lead, others, either}
+use Rattle.container.specs.Ranges.{Range, here, more, keptBytes, Ranged, Measured, Roomy, Wrote, WroteKept}
+use Rattle.container.proofs.StreamLaws.{bytes-append}
+use Rattle.container.proofs.RangeLaws.{range-end}
+use Rattle.packets.specs.PacketRuns.{listed, unitOf, held, parsed, leadOf, piece, most, Parses, Full, Run, RunRoom, parsesUnit, Piece, Joins}
+use Rattle.packets.proofs.SliceLaws.{slice-at, every-join, every-or}
+use Rattle.packets.proofs.PacketListLaws.{listed-length, listed-out, listed-short}
+use Rattle.packets.proofs.PacketSteps.{first-obu, lead-found, lead-missing}
+use Rattle.packets.proofs.PacketRunLaws.{runBytes, held-append, wrote-length, wrote-append}
+
+-- ---- whether a unit parses
+
+module _ (p : Obu → Bool) where
+  pub parses-counted : (x : Answer (List Obu)) (n : ℕ) → answer (count p) x ≡ accepted n → true ≡ ofUnit false (λ os. true) x
+  parses-counted (refused k) n e = let z : _≡_ {A = ℕ} 0 1 = cc in absurd (omega arith)
+  parses-counted (accepted os) n e = refl
+
+  pub parses-refused : (x : Answer (List Obu)) (k : ℕ) → answer (count p) x ≡ refused k → false ≡ ofUnit false (λ os. true) x
+  parses-refused (refused j) k e = refl
+  parses-refused (accepted os) k e = let z : _≡_ {A = ℕ} 0 1 = cc in absurd (omega arith)
+
+pub parses-is : (u : List ℕ) → parsesUnit u ≡ true → Parses u
+parses-is u e = go (obus u) refl e
+  where
+    go : (x : Answer (List Obu)) → obus u ≡ x → ofUnit false (λ os. true) x ≡ true → Parses u
+    go (refused k) q e = let z : _≡_ {A = ℕ} 0 1 = cc in absurd (omega arith)
+    go (accepted os) q e = record { os = os; reads = q }
+
+pub parses-not : (u : List ℕ) → parsesUnit u ≡ false → (k : ℕ) × (obus u ≡ refused k)
+parses-not u e = go (obus u) refl e
+  where
+    go : (x : Answer (List Obu)) → obus u ≡ x → ofUnit false (λ os. true) x ≡ false → (k : ℕ) × (obus u ≡ refused k)
+    go (refused k) q e = (k, q)
+    go (accepted os) q e = let z : _≡_ {A = ℕ} 0 1 = cc in absurd (omega arith)
+
+-- ---- the delimiter that moves to the front
+
+lead-empty : leadOf [] ≡ []
+unfolding headObuOf
+lead-empty = refl
+
+-- the head of a unit that parses
+pub lead-parsed : (u : List ℕ) → Parses u → leadOf u ≡ lead (parsed u)
+lead-parsed [] p = rw (obus-nil, lead-empty)
+lead-parsed (b ∷ u) p =
+    let g = first-obu (b ∷ u) (p .os) (omega arith) (p .reads) in
+    rw (p .reads, g .list, g .head)
+
+module _ {s es : List ℕ} {a b i : ℕ} (r : Run s es a b) (f : Full (listed s es) a b i) where
+  inside : b ≤ length (listed s es)
+  inside = omega (arith, listed-length 0 s es, r .within)
+
+  pub head-found : i < b → leadOf (unitOf s es i) ≡ lead (held (slice a b (listed s es)))
+  head-found l = lead-found (listed s es) a b i inside f l (r .parse)
+
+  pub head-missing : b ≤ i → leadOf (unitOf s es (length es)) ≡ lead (held (slice a b (listed s es)))
+  head-missing l =
+      let e : i ≡ b = omega (arith, f .within) in
+      rw (listed-out s es (length es) (omega arith), lead-empty, lead-missing (listed s es) a b i inside f e)
+
+range-nil : {s : List ℕ} {a b : ℕ} {l : List Obu} → Range s a b l → l ≡ [] → a ≡ b
+range-nil (here l) e = refl
+range-nil (more p r) e = let z : _≡_ {A = ℕ} 0 1 = cc in absurd (omega arith)
+
+module _ {u v : List ℕ} (q : u ≡ v) {e : ℕ} (r : Range u 0 e (leadOf u)) where
+  -- a delimiter stands there
+  pub lead-yes : 0 < e → (x : List Obu) → leadOf v ≡ either (leadOf v) x
+  lead-yes l x = rw (← q) (go (leadOf u) r)
+    where
+      go : (m : List Obu) → Range u 0 e m → m ≡ either m x
+      go [] k = let z = range-nil k refl in absurd (omega arith)
+      go (o ∷ os) k = refl
+
+  -- none does
+  pub lead-no : e ≤ 0 → leadOf v ≡ []
+  lead-no l = rw (← q) (range-end r l)
+
+-- ---- the runs of a piece
+
+module _ {s es : List ℕ} {a c b : ℕ} (p : Piece s es a c b) where
+  pub front-run : Run s es a c
+  front-run = record { short = p .short; within = omega (arith, p .after, p .within); order = p .order; parse = p .front }
+
+  pub back-run : Run s es (c + 1) b
+  back-run = record { short = p .short; within = p .within; order = omega (arith, p .after); parse = p .back }
+
+  whole : slice a b (listed s es) ≡ slice a c (listed s es) ++ (unitOf s es c ∷ slice (c + 1) b (listed s es))
+  whole = slice-at a c b (listed s es) [] (p .order) (p .after) (omega (arith, listed-length 0 s es, p .within))
+
+  pub whole-run : Parses (unitOf s es c) → Run s es a b
+  whole-run m =
+      record {
+        short = p .short;
+        within = p .within;
+        order = omega (arith, p .order, p .after);
+        parse = rw whole (every-join Parses (slice a c (listed s es)) (unitOf s es c ∷ slice (c + 1) b (listed s es)) (p .front) (also m (p .back)));
+      }
+
+  whole-held : held (slice a b (listed s es)) ≡ held (slice a c (listed s es)) ++ (parsed (unitOf s es c) ++ held (slice (c + 1) b (listed s es)))
+  unfolding held
+  whole-held = ap held whole ∙ held-append (slice a c (listed s es)) (unitOf s es c ∷ slice (c + 1) b (listed s es))
+
+  -- the packet that closes parses
+  pub piece-joined : (m : Parses (unitOf s es c)) (x : List Obu)
+      → x ≡ either (lead (held (slice a c (listed s es)))) (either (lead (parsed (unitOf s es c))) (lead (held (slice (c + 1) b (listed s es)))))
+      → piece (listed s es) a c b ≡ keptBytes true x ++ runBytes false (listed s es) a b
+  unfolding piece
+  piece-joined m x e =
+      let w = held (slice a c (listed s es)) in
+      let t = held (slice (c + 1) b (listed s es)) in
+      rw (e, whole-held, m .reads) (bytes-append (either (lead w) (either (lead (m .os)) (lead t))) (others (w ++ (m .os ++ t))))
+
+  -- it does not
+  pub piece-apart : (k : ℕ) → obus (unitOf s es c) ≡ refused k
+      → piece (listed s es) a c b ≡ runBytes true (listed s es) a c ++ (unitOf s es c ++ runBytes true (listed s es) (c + 1) b)
+  unfolding piece
+  piece-apart k e = rw e
+
+-- ---- a packet's head, measured and written
+
+module _ (s es : List ℕ) (i : ℕ) {u : List ℕ} {e : ℕ} (short : length s ≤ limit) (q : u ≡ unitOf s es i) (r : Range u 0 e (leadOf u)) where
+  pub head-ranged : Ranged u 0 e
+  head-ranged =
+      let k = every-or (λ x. length x ≤ length s) i (listed s es) [] (omega arith) (listed-short 0 s es) in
+      record { short = omega (arith, ap length q); os = leadOf u; range = r }
+
+  pub head-measured : {n : ℕ} → Measured u 0 e true n → n ≡ length (keptBytes true (leadOf (unitOf s es i)))
+  head-measured f = f (leadOf u) r ∙ ap (λ x. length (keptBytes true (leadOf x))) q
+
+  pub head-wrote : {d o : List ℕ} {to w : ℕ} → WroteKept u 0 e true d to w o → Wrote d to (keptBytes true (leadOf (unitOf s es i))) w o
+  head-wrote {d} {o} {to} {w} f = rw q at (f (leadOf u) r)
+
+  pub head-roomy : {d : List ℕ} {to : ℕ} → to + length (keptBytes true (leadOf (unitOf s es i))) ≤ length d → Roomy u 0 e true d to
+  head-roomy l = record { os = leadOf u; range = r; room = omega (arith, ap (λ x. length (keptBytes true (leadOf x))) q) }
+
+-- ---- the three places where the delimiter may stand
+
+module _ (s es : List ℕ) (a c b : ℕ) (j : Joins s es a c b) where
+  abbrev first : List Obu
+  first = lead (held (slice a c (listed s es)))
+
+  abbrev second : List Obu
+  second = lead (parsed (unitOf s es c))
+
+  abbrev third : List Obu
+  third = lead (held (slice (c + 1) b (listed s es)))
+
+  module _ (i : ℕ) (h : leadOf (unitOf s es i) ≡ first) {u : List ℕ} (q : u ≡ unitOf s es i) {e : ℕ} (r : Range u 0 e (leadOf u)) where
+    pub take-first : 0 < e → leadOf (unitOf s es i) ≡ either first (either second third)
+    take-first l = lead-yes q r l (either second third) ∙ ap (λ y. either y (either second third)) h
+
+    pub none-first : e ≤ 0 → first ≡ []
+    none-first l = sym h ∙ lead-no q r l
+
+  module _ (n : first ≡ []) {u : List ℕ} (q : u ≡ unitOf s es c) {e : ℕ} (r : Range u 0 e (leadOf u)) where
+    pub take-second : 0 < e → leadOf (unitOf s es c) ≡ either first (either second third)
+    take-second l =
+        lead-yes q r l third ∙ ap (λ y. either y third) (lead-parsed (unitOf s es c) (j .mid)) ∙ ap (λ y. either y (either second third)) (sym n)
+
+    pub take-third : e ≤ 0 → (i : ℕ) → leadOf (unitOf s es i) ≡ third → leadOf (unitOf s es i) ≡ either first (either second third)
+    take-third l i h =
+        let k : second ≡ [] = sym (lead-parsed (unitOf s es c) (j .mid)) ∙ lead-no q r l in
+        h ∙ ap (λ y. either y third) (sym k) ∙ ap (λ y. either y (either second third)) (sym n)
+
+  -- ---- where the packet that closes parses
+
+  module _ (i : ℕ) (h : leadOf (unitOf s es i) ≡ either first (either second third)) where
+    split : piece (listed s es) a c b ≡ keptBytes true (leadOf (unitOf s es i)) ++ runBytes false (listed s es) a b
+    split = piece-joined (j .all) (j .mid) (leadOf (unitOf s es i)) h
+
+    split-length : length (piece (listed s es) a c b) ≡ length (keptBytes true (leadOf (unitOf s es i))) + length (runBytes false (listed s es) a b)
+    split-length = ap length split ∙ length-append (keptBytes true (leadOf (unitOf s es i))) (runBytes false (listed s es) a b)
+
+    pub joined-size : {m n k : ℕ} → m ≡ length (keptBytes true (leadOf (unitOf s es i))) → n ≡ min (length (runBytes false (listed s es) a b)) most → k ≡ min (m + n) most
+        → k ≡ min (length (piece (listed s es) a c b)) most
+    joined-size p q r = omega (arith, split-length)
+
+    pub joined-head : (d : List ℕ) (to : ℕ) → to + length (piece (listed s es) a c b) ≤ length d → to + length (keptBytes true (leadOf (unitOf s es i))) ≤ length d
+    joined-head d to room = omega (arith, split-length)
+
+    module _ {d : List ℕ} {to : ℕ} (room : to + length (piece (listed s es) a c b) ≤ length d) where
+      module _ {o : List ℕ} {w : ℕ} (x : Wrote d to (keptBytes true (leadOf (unitOf s es i))) w o) where
+        pub joined-room : RunRoom s es a b false o w
+        joined-room =
+            record {
+              run = whole-run (j .all) (j .mid);
+              room = omega (arith, split-length, x .next, wrote-length x (joined-head d to room));
+            }
+
+        pub joined-wrote : {p : List ℕ} {v : ℕ} → Wrote o w (runBytes false (listed s es) a b) v p → Wrote d to (piece (listed s es) a c b) v p
+        joined-wrote y = rw split (wrote-append x y (omega arith))
+
+-- ---- where it does not
+
+module _ (s es : List ℕ) (a c b : ℕ) (j : Piece s es a c b) (k : ℕ) (bad : obus (unitOf s es c) ≡ refused k) where
+  abbrev front : List ℕ
+  front = runBytes true (listed s es) a c
+
+  abbrev back : List ℕ
+  back = runBytes true (listed s es) (c + 1) b
+
+  apart : piece (listed s es) a c b ≡ front ++ (unitOf s es c ++ back)
+  apart = piece-apart j k bad
+
+  apart-length : length (piece (listed s es) a c b) ≡ length front + (length (unitOf s es c) + length back)
+  apart-length = ap length apart ∙ length-append front (unitOf s es c ++ back) ∙ ap (λ n. length front + n) (length-append (unitOf s es c) back)
+
+  pub apart-size : {m n x y r : ℕ} → m ≡ min (length front) most → n ≡ length (unitOf s es c) → x ≡ min (m + n) most → y ≡ min (length back) most → r ≡ min (x + y) most
+      → r ≡ min (length (piece (listed s es) a c b)) most
+  apart-size p q u v w = omega (arith, apart-length)
+
+  module _ {d : List ℕ} {to : ℕ} (room : to + length (piece (listed s es) a c b) ≤ length d) where
+    pub apart-front : RunRoom s es a c true d to
+    apart-front = record { run = front-run j; room = omega (arith, apart-length) }
+
+    module _ {o : List ℕ} {w : ℕ} (x : Wrote d to front w o) where
+      pub apart-mid : w + length (unitOf s es c) ≤ length o
+      apart-mid = omega (arith, apart-length, x .next, wrote-length x (apart-front .room))
+
+      module _ {p : List ℕ} {v : ℕ} (y : Wrote o w (unitOf s es c) v p) where
+        pub apart-back : RunRoom s es (c + 1) b true p v
+        apart-back =
+            record {
+              run = back-run j;
+              room = omega (arith, apart-length, x .next, y .next, wrote-length x (apart-front .room), wrote-length y apart-mid);
+            }
+
+        pub apart-wrote : {f : List ℕ} {g : ℕ} → Wrote p v back g f → Wrote d to (piece (listed s es) a c b) g f
+        apart-wrote z = rw apart (wrote-append x (wrote-append y z (omega (arith, apart-mid))) (omega arith))
+
+-- a copy of u, which is v
+pub copied : {u v d o : List ℕ} {to w : ℕ} → u ≡ v → w ≡ to + length u → o ≡ pasted d to u → Wrote d to v w o
+copied {u} {v} {d} {o} {to} {w} q e f = rw (← q) (record { next = e; lent = f })

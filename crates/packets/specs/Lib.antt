@@ -1,0 +1,5 @@
+pub mod Packets
+pub mod PacketLists
+pub mod Canonical
+pub mod PacketRuns
+pub mod PacketChecks

@@ -1,0 +1,68 @@
+-- Packets joined, and units made canonical (01, 'Units from a stream'). Assumes nothing.
+use Prim.Native.Nat.{ℕ}
+use mathlib.Core.List.{List, [], _∷_, _++_, tail}
+use mathlib.Core.Bool.{Bool, true, false, cond as pick}
+use lib.ListN.{length}
+use lib.Dec.{eqb}
+use Rattle.bitio.specs.Parse.{Answer, refused, accepted}
+use Rattle.obu.specs.Obu.{Obu, obus, unitBytes}
+use Rattle.obu.specs.Unit.{count}
+use Rattle.container.specs.Stream.{isDelimiter, hasFrame, others, join}
+use Rattle.container.specs.Limits.{led34, Room, fitBytes}
+
+pub record Packet : Type 0 where
+  pub time : ℕ
+  pub bytes : List ℕ
+
+-- what a packet makes of the OBUs that wait: a packet that goes out, or more that waits
+pub data Met : Type 0 where
+  out : Packet → Met
+  wait : List Obu → Met
+
+-- 01: a joined packet has the later packet's time; a packet that does not parse stays as it is, after any waiting OBUs
+abbrev pub meet : List Obu → Packet → Answer (List Obu) → Met
+meet w q (refused k) = out (record { time = q .time; bytes = unitBytes w ++ q .bytes })
+meet w q (accepted os) = pick (hasFrame os) (out (record { time = q .time; bytes = unitBytes (join w os) })) (wait (w ++ os))
+
+-- 01: a frameless tail takes the last packet's time; behind one that does not parse it is appended
+abbrev pub tailed : Packet → List Obu → Answer (List Obu) → Packet
+tailed p w (refused k) = record { time = p .time; bytes = p .bytes ++ unitBytes w }
+tailed p w (accepted os) = record { time = p .time; bytes = unitBytes (join os w) }
+
+abbrev pub on : {A : Type 0} → Met → (Packet → A) → (List Obu → A) → A
+on (out r) f g = f r
+on (wait w) f g = g w
+
+-- p is the last packet that went out, w what waits behind it
+unfoldable pub behindP : Packet → List Obu → List Packet → List Packet
+behindP p w [] = tailed p w (obus (p .bytes)) ∷ []
+behindP p w (q ∷ qs) = on (meet w q (obus (q .bytes))) (λ r. p ∷ behindP r [] qs) (λ v. behindP p v qs)
+
+abbrev pub firstTime : List Obu → ℕ → ℕ → ℕ
+firstTime [] t u = u
+firstTime (o ∷ w) t u = t
+
+-- none has gone out yet. 01: frameless packets alone have the time t of the first with bytes; empty packets vanish
+unfoldable pub alone : ℕ → List Obu → List Packet → List Packet
+alone t [] [] = []
+alone t (o ∷ w) [] = record { time = t; bytes = unitBytes (o ∷ w) } ∷ []
+alone t w (q ∷ qs) = on (meet w q (obus (q .bytes))) (λ r. behindP r [] qs) (λ v. alone (firstTime w t (q .time)) v qs)
+
+unfoldable pub mergePackets : List Packet → List Packet
+mergePackets qs = alone 0 [] qs
+
+-- 01, canonicalize_tu: drops delimiters after the first place; an unreadable or clean unit is copied
+abbrev pub cleaned : List Obu → List Obu
+cleaned [] = []
+cleaned (o ∷ os) = o ∷ others os
+
+abbrev pub canonicalOf : List ℕ → Answer (List Obu) → List ℕ
+canonicalOf u (refused k) = u
+canonicalOf u (accepted os) = pick (eqb (count isDelimiter (tail os)) 0) u (unitBytes (cleaned os))
+
+unfoldable pub canonical : List ℕ → List ℕ
+canonical u = canonicalOf u (obus u)
+
+-- 01, canonicalize_tu, with its limits
+unfoldable pub canonicalAt : Room → List ℕ → Answer (List ℕ)
+canonicalAt room u = led34 (length u) (fitBytes room (accepted (canonical u)))

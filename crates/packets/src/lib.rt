@@ -1,0 +1,2 @@
+// Packets joined and units made canonical.
+pub mod packets;

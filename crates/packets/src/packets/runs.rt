@@ -1,0 +1,75 @@
+// Runs of packets: how many bytes their OBUs have, written one behind the other, and the writing.
+ghost use mathlib.Core.Path.{_≡_};
+ghost use Prim.Native.Nat.{_+_, min};
+ghost use lib.ListN.{length};
+ghost use lib.Seq.{slice};
+ghost use Rattle.container.specs.Ranges.{keptBytes, Range, Wrote};
+ghost use Rattle.packets.specs.PacketRuns.{listed, held, leadOf, most, Run, RunRoom};
+use crate::packets::lists::packet;
+use container::ranges::put_written;
+use container::ranges::written_len;
+use obu::reader::ObuAt;
+use obu::reader::obu_at;
+use obu::unit::Kind;
+use obu::unit::is_type;
+
+// A sum, as far as a usize counts.
+pub(crate) fn add(a: usize, b: usize) -> usize
+    ensures { λ r. ⌜ r ≡ min (a + b) most ⌝ }
+{
+    if 0xffff_ffff_ffff_ffff - a < b {
+        return 0xffff_ffff_ffff_ffff;
+    }
+    a + b
+}
+
+// Where the delimiter at the head of a packet ends, 0 if there is none.
+pub(crate) fn lead_end(s: &[u8]) -> usize
+    ensures { λ r. ⌜ Range (now (s .entry)) 0 r (leadOf (now (s .entry))) ⌝ }
+{
+    let ObuAt::Found(o) = obu_at(s, 0) else {
+        return 0;
+    };
+    if is_type(Kind::TemporalDelimiter, o.obu_type) {
+        return o.end;
+    }
+    0
+}
+
+// How many bytes the OBUs of the packets from a to b have, written.
+pub(crate) fn run_len(packets: &[u8], ends: &[u32], a: usize, b: usize, keep: bool) -> usize
+    requires { ⌜ Run (now packets) (now ends) a b ⌝ }
+    ensures { λ r. ⌜ r ≡ min (length (keptBytes keep (held (slice a b (listed (now (packets .entry)) (now (ends .entry))))))) most ⌝ }
+{
+    let mut i = a;
+    let mut n: usize = 0;
+    while i < b {
+        let u = packet(packets, ends, i);
+        n = add(n, written_len(u, 0, u.len(), keep));
+        i += 1;
+    }
+    n
+}
+
+// Writes them at `to`, where their room is known.
+pub(crate) fn put_run(
+    packets: &[u8],
+    ends: &[u32],
+    a: usize,
+    b: usize,
+    keep: bool,
+    out: &mut [u8],
+    to: usize,
+) -> usize
+    requires { ⌜ RunRoom (now packets) (now ends) a b keep (now out) to ⌝ }
+    ensures { λ r. ⌜ Wrote (now (out .entry)) to (keptBytes keep (held (slice a b (listed (now (packets .entry)) (now (ends .entry)))))) r (now (out .exit)) ⌝ }
+{
+    let mut i = a;
+    let mut w = to;
+    while i < b {
+        let u = packet(packets, ends, i);
+        w = put_written(u, 0, u.len(), keep, out, w);
+        i += 1;
+    }
+    w
+}

@@ -1,0 +1,145 @@
+-- Laws of the first frame header of a unit and of what is asked of it, by the tests that the code makes. Assumes nothing.
+use Prim.Native.Nat.{ℕ, suc}
+use native.Mathlib.Omega.{arith}
+use mathlib.Core.Path.{_≡_, refl, sym, ap, _∙_}
+use mathlib.Core.List.{List, [], _∷_}
+use mathlib.Core.Bool.{Bool, true, false, not, cond as pick}
+use borrow.Author.Tests.{eq-eqb, ne-eqb}
+use Rattle.bitio.specs.Parse.{Answer, refused, accepted, answer, andNext}
+use Rattle.obu.specs.Obu.{Obu, obus}
+use Rattle.obu.specs.Unit.{count, firstPayload, ofUnit}
+use Rattle.header.specs.Sequence.{Sequence}
+use Rattle.frame.specs.Frame.{parseFrame}
+use Rattle.frame.specs.declared.frame_header.FrameInfo.{FrameInfo}
+use Rattle.frame.specs.declared.frame_header.FrameHeaderInfo.{FrameHeaderInfo}
+use Rattle.frame.specs.declared.frame_header.FrameHeaderInfo.the-variants.{Frame}
+use Rattle.pictures.specs.Prepare.{isFrame, firstOf, firstFrame, keyOk, goldenFlags, slotOf}
+use Rattle.pictures.specs.Code.{readable, judged}
+use Rattle.pictures.proofs.RangeLaws.{denied, granted}
+
+-- ---- the first that passes, where those that pass are counted
+
+module _ (n : ℕ) (pass : Obu → Bool) where
+  pub first-none : (os : List Obu) → count pass os ≡ 0 → firstOf n pass os ≡ refused n
+  unfolding count firstOf
+  first-none [] e = refl
+  first-none (o ∷ os) e = go (pass o) e (first-none os)
+    where
+      go : (t : Bool) → pick t (suc (count pass os)) (count pass os) ≡ 0 → (count pass os ≡ 0 → firstOf n pass os ≡ refused n)
+          → pick t (accepted o) (firstOf n pass os) ≡ refused n
+      go true e more = absurd (omega arith)
+      go false e more = more e
+
+  pub first-some : {A : Type 0} (f : List ℕ → Answer A) (os : List Obu) → (count pass os ≡ 0 → ⊥) → f (firstPayload pass os) ≡ andNext (firstOf n pass os) (λ o. f (o .payload))
+  unfolding count firstOf firstPayload andNext
+  first-some f [] h = absurd (h refl)
+  first-some {A} f (o ∷ os) h = go (pass o) h (first-some f os)
+    where
+      go : (t : Bool) → (pick t (suc (count pass os)) (count pass os) ≡ 0 → ⊥) → ((count pass os ≡ 0 → ⊥) → f (firstPayload pass os) ≡ andNext (firstOf n pass os) (λ o. f (o .payload)))
+          → f (pick t (o .payload) (firstPayload pass os)) ≡ andNext (pick t (accepted o) (firstOf n pass os)) (λ o. f (o .payload))
+      go true h more = refl
+      go false h more = more h
+
+-- ---- the first frame header
+
+module _ (q : Sequence) (u : List ℕ) where
+  abbrev counted : Answer (List Obu) → Answer ℕ
+  counted x = answer (count isFrame) x
+
+  abbrev framed : Answer (List Obu) → Answer FrameHeaderInfo
+  framed x = andNext x (λ os. andNext (firstOf 28 isFrame os) (λ o. parseFrame q (o .payload)))
+
+  pub frame-refused : (k : ℕ) → refused k ≡ counted (obus u) → refused k ≡ firstFrame q u
+  unfolding firstFrame andNext
+  frame-refused k e = go (obus u) e
+    where
+      go : (x : Answer (List Obu)) → refused k ≡ counted x → refused k ≡ framed x
+      go (refused j) e = let i : k ≡ j = cc in ap (λ y. refused y) i
+      go (accepted os) e = let z : _≡_ {A = ℕ} 0 1 = cc in absurd (omega arith)
+
+  module _ (n : ℕ) (e : accepted n ≡ counted (obus u)) where
+    pub frame-none : n ≡ 0 → refused 28 ≡ firstFrame q u
+    unfolding firstFrame andNext
+    frame-none h = go (obus u) e
+      where
+        go : (x : Answer (List Obu)) → accepted n ≡ counted x → refused 28 ≡ framed x
+        go (refused j) e = let z : _≡_ {A = ℕ} 0 1 = cc in absurd (omega arith)
+        go (accepted os) e = let i : count isFrame os ≡ n = cc in rw (first-none 28 isFrame os (i ∙ h))
+
+    pub frame-some : (p : List ℕ) → (n ≡ 0 → ⊥) → p ≡ ofUnit [] (firstPayload isFrame) (obus u) → parseFrame q p ≡ firstFrame q u
+    unfolding firstFrame andNext
+    frame-some p h g = go (obus u) e g
+      where
+        go : (x : Answer (List Obu)) → accepted n ≡ counted x → p ≡ ofUnit [] (firstPayload isFrame) x → parseFrame q p ≡ framed x
+        go (refused j) e g = let z : _≡_ {A = ℕ} 0 1 = cc in absurd (omega arith)
+        go (accepted os) e g = let i : count isFrame os ≡ n = cc in ap (parseFrame q) g ∙ first-some 28 isFrame (parseFrame q) os (λ z. h (sym i ∙ z))
+
+-- ---- the slot of a golden's header
+
+abbrev slotIn : FrameHeaderInfo → Answer ℕ
+slotIn info = andNext (goldenFlags info) (λ flags. accepted (slotOf flags))
+
+module _ {info : FrameHeaderInfo} {f : FrameInfo} (e : info ≡ Frame f) where
+  pub golden-hidden : not (f .«show_frame») ≡ true → refused 31 ≡ slotIn info
+  unfolding andNext
+  golden-hidden h = rw (e, denied (f .«show_frame») h)
+
+  module _ (h : not (f .«show_frame») ≡ false) where
+    pub golden-key : f .«frame_type» ≡ 0 → refused 32 ≡ slotIn info
+    unfolding andNext
+    golden-key k = rw (e, granted (f .«show_frame») h, eq-eqb (f .«frame_type») 0 k)
+
+    module _ (k : f .«frame_type» ≡ 0 → ⊥) where
+      pub golden-idle : f .«refresh_frame_flags» ≡ 0 → refused 33 ≡ slotIn info
+      unfolding andNext
+      golden-idle i = rw (e, granted (f .«show_frame») h, ne-eqb (f .«frame_type») 0 k, eq-eqb (f .«refresh_frame_flags») 0 i)
+
+      pub golden-slot : (f .«refresh_frame_flags» ≡ 0 → ⊥) → (r : ℕ) → r ≡ slotOf (f .«refresh_frame_flags») → accepted r ≡ slotIn info
+      unfolding andNext
+      golden-slot i r g = ap (λ (n : ℕ). accepted n) g ∙ rw (e, granted (f .«show_frame») h, ne-eqb (f .«frame_type») 0 k, ne-eqb (f .«refresh_frame_flags») 0 i)
+
+-- ---- units that are read to be rewritten
+
+abbrev pub legible : {A : Type 0} → Answer A → Answer Unit
+legible a = answer (λ _. tt) a
+
+pub legible-read : (rewriting : Bool) (u : List ℕ) (f : List Obu → ℕ) (y : Answer ℕ) → rewriting ≡ true → y ≡ answer f (obus u) → legible y ≡ readable rewriting u
+legible-read rewriting u f y e g = ap legible g ∙ go (obus u) ∙ rw e
+  where
+    go : (x : Answer (List Obu)) → legible (answer f x) ≡ legible x
+    go (refused k) = refl
+    go (accepted os) = refl
+
+-- ---- a segment judged
+
+module _ (q : Sequence) (k g : List ℕ) where
+  pub key-refused : (n : ℕ) → firstFrame q k ≡ refused n → refused n ≡ judged q false k g
+  unfolding judged andNext
+  key-refused n e = rw e
+
+  module _ (y : FrameHeaderInfo) (e : firstFrame q k ≡ accepted y) (b : Bool) (o : keyOk y ≡ pick b (accepted tt) (refused 29)) where
+    pub key-hidden : not b ≡ true → refused 29 ≡ judged q false k g
+    unfolding judged andNext
+    key-hidden h = rw (e, o, denied b h)
+
+    module _ (h : not b ≡ false) where
+      pub golden-refused : (n : ℕ) → firstFrame q g ≡ refused n → refused n ≡ judged q false k g
+      unfolding judged andNext
+      golden-refused n i = rw (e, o, granted b h, i)
+
+      pub golden-judged : (z : FrameHeaderInfo) → firstFrame q g ≡ accepted z → slotIn z ≡ judged q false k g
+      unfolding judged andNext
+      golden-judged z i = rw (e, o, granted b h, i)
+
+  module _ (rewriting : Bool) where
+    pub key-illegible : (n : ℕ) → readable rewriting k ≡ refused n → refused n ≡ judged q rewriting k g
+    unfolding judged andNext
+    key-illegible n e = rw e
+
+    pub golden-illegible : (n : ℕ) → readable rewriting k ≡ accepted tt → readable rewriting g ≡ refused n → refused n ≡ judged q rewriting k g
+    unfolding judged andNext
+    golden-illegible n e i = rw (e, i)
+
+    pub both-legible : readable rewriting k ≡ accepted tt → readable rewriting g ≡ accepted tt → judged q false k g ≡ judged q rewriting k g
+    unfolding judged andNext
+    both-legible e i = rw (e, i)

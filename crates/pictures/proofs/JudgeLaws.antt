@@ -1,0 +1,71 @@
+-- Laws of a segment judged: what is asked of its units, and its units as they go out. Assumes nothing.
+use Prim.Native.Nat.{ℕ}
+use mathlib.Core.Path.{_≡_, refl, sym, _∙_}
+use mathlib.Core.List.{List, [], map}
+use mathlib.Core.Bool.{Bool, true, false, cond as pick}
+use Rattle.bitio.specs.Parse.{Answer, refused, accepted, answer, andNext}
+use Rattle.obu.specs.Obu.{Obu, obus, unitBytes}
+use Rattle.obu.specs.Unit.{has}
+use Rattle.header.specs.Sequence.{Sequence}
+use Rattle.pictures.specs.Segments.{Segment}
+use Rattle.pictures.specs.Prepare.{isSequence, renewed, sent, firstFrame, keyOk, goldenFlags, slotOf, Prepared, prepare}
+use Rattle.pictures.specs.Code.{judged, renewing, orElse, sentBytes}
+
+-- ---- chains of answers
+
+pub next-chain : {A B C : Type 0} (x : Answer A) (f : A → Answer B) (g : B → Answer C) → andNext (andNext x f) g ≡ andNext x (λ a. andNext (f a) g)
+unfolding andNext
+next-chain (refused k) f g = refl
+next-chain (accepted a) f g = refl
+
+pub next-same : {A B : Type 0} (x : Answer A) (f g : A → Answer B) → ((a : A) → f a ≡ g a) → andNext x f ≡ andNext x g
+unfolding andNext
+next-same (refused k) f g e = refl
+next-same (accepted a) f g e = e a
+
+-- ---- what is asked of the frames, and then the slot
+
+module _ (q : Sequence) (k g : List ℕ) where
+  abbrev asked : {A : Type 0} → (ℕ → Answer A) → Answer A
+  asked f =
+      andNext (firstFrame q k) (λ y.
+      andNext (keyOk y) (λ _.
+      andNext (firstFrame q g) (λ z.
+      andNext (goldenFlags z) (λ flags.
+      f (slotOf flags)))))
+
+  asked-out : {A : Type 0} (f : ℕ → Answer A) → andNext (asked (λ n. accepted n)) f ≡ asked f
+  unfolding andNext
+  asked-out f =
+      next-chain (firstFrame q k) _ f
+      ∙ next-same (firstFrame q k) _ _ (λ y. next-chain (keyOk y) _ f
+      ∙ next-same (keyOk y) _ _ (λ _. next-chain (firstFrame q g) _ f
+      ∙ next-same (firstFrame q g) _ _ (λ z. next-chain (goldenFlags z) _ f)))
+
+-- ---- a segment is prepared if it is judged, and then its units are those that go out
+
+module _ (q : Sequence) (new : List ℕ) (x : Segment) where
+  -- a unit whose OBUs are a, rewritten
+  abbrev rewritten : List ℕ → Answer (List Obu) → Answer (List ℕ)
+  rewritten u a = andNext a (λ os. accepted (pick (has isSequence os) (unitBytes (map (renewed new) os)) u))
+
+  abbrev legible : Answer (List Obu) → Answer Unit
+  legible a = answer (λ _. tt) a
+
+  abbrev out : List ℕ → List ℕ → ℕ → Answer Prepared
+  out k g n = accepted (record { key = k; golden = g; slot = n })
+
+  by-obus : (a b : Answer (List Obu))
+      → andNext (rewritten (x .key) a) (λ k. andNext (rewritten (x .golden) b) (λ g. asked q (x .key) (x .golden) (out k g)))
+      ≡ andNext (andNext (legible a) (λ _. andNext (legible b) (λ _. asked q (x .key) (x .golden) (λ n. accepted n)))) (out (orElse [] (rewritten (x .key) a)) (orElse [] (rewritten (x .golden) b)))
+  unfolding andNext
+  by-obus (refused k) b = refl
+  by-obus (accepted os) (refused k) = refl
+  by-obus (accepted os) (accepted ps) = sym (asked-out q (x .key) (x .golden) _)
+
+pub prepare-judged : (q : Sequence) (rewriting : Bool) (new : List ℕ) (x : Segment)
+    → prepare q (renewing rewriting new) x
+    ≡ andNext (judged q rewriting (x .key) (x .golden)) (λ slot. accepted (record { key = sentBytes rewriting new (x .key); golden = sentBytes rewriting new (x .golden); slot = slot }))
+unfolding prepare judged sent andNext
+prepare-judged q true new x = by-obus q new x (obus (x .key)) (obus (x .golden))
+prepare-judged q false new x = sym (asked-out q (x .key) (x .golden) _)

@@ -1,0 +1,14 @@
+pub mod UnitLaws
+pub mod SizeLaws
+pub mod RangeLaws
+pub mod JudgeLaws
+pub mod FrameLaws
+pub mod HeaderLaws
+pub mod SameLaws
+pub mod RewriteLaws
+pub mod SentLaws
+pub mod SegmentLaws
+pub mod PrepareLaws
+pub mod MeasureLaws
+pub mod PutLaws
+pub mod ShowLaws

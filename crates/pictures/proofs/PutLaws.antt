@@ -1,0 +1,107 @@
+-- Laws of the picture bytes and their ends written one segment after the other. Assumes nothing.
+use Prim.Native.Nat.{ℕ, suc, _+_, _*_, _/_, _≤_, _<_}
+use native.Mathlib.Omega.{arith}
+use mathlib.Core.Path.{_≡_, refl, sym, ap, ap₂, _∙_}
+use mathlib.Core.List.{List, [], _∷_, _++_, flatMap}
+use mathlib.Core.Bool.{Bool}
+use lib.ListN.{length, set, length-append}
+use Rattle.bitio.specs.Lent.{pasted}
+use Rattle.bitio.proofs.LentLaws.{pasted-nil, pasted-sets, pasted-more, pasted-length}
+use Rattle.pictures.specs.Segments.{Segment}
+use Rattle.pictures.specs.Assemble.{pictureOf, endsFrom}
+use Rattle.pictures.specs.Code.{allSegments, sentBytes, allSent}
+use Rattle.pictures.proofs.PrepareLaws.{length-all}
+use Rattle.pictures.proofs.SegmentLaws.{unitAt, behind, behind-start, behind-end, behind-is}
+
+-- ---- one segment
+
+-- two units, one behind the other
+pub two-units : (d d₁ d₂ k g : List ℕ) (at m : ℕ) → at + length (k ++ g) ≤ length d → m ≡ at + length k → d₁ ≡ pasted d at k → d₂ ≡ pasted d₁ m g → d₂ ≡ pasted d at (k ++ g)
+two-units d d₁ d₂ k g at m h n e f = f ∙ ap₂ (λ (l : List ℕ) (j : ℕ). pasted l j g) e n ∙ pasted-more d at k (omega arith) g
+
+-- their ends
+pub two-ends : (e : List ℕ) (w x y z : ℕ) → w + 2 ≤ length e → x ≡ z → set (set e w x) (w + 1) y ≡ pasted e w (z ∷ y ∷ [])
+two-ends e w x y z h n =
+    let a : w + 1 ≡ suc w = omega arith in
+    rw a (pasted-sets e w (x ∷ y ∷ []) (omega arith) ∙ ap (λ (j : ℕ). pasted e w (j ∷ y ∷ [])) n)
+
+-- ---- all segments
+
+-- the units of i segments stand there, and their ends
+pub record Putting (rewriting : Bool) (new s rs d₀ e₀ d e : List ℕ) (i at : ℕ) : Type 0 where
+  pub within : i ≤ length rs / 5
+  pub pictures : pasted d at (pictureOf (allSent rewriting new (behind s rs i))) ≡ pasted d₀ 0 (pictureOf (allSent rewriting new (allSegments s rs)))
+  pub ends : pasted e (2 * i) (endsFrom at (allSent rewriting new (behind s rs i))) ≡ pasted e₀ 0 (endsFrom 0 (allSent rewriting new (allSegments s rs)))
+  pub place : at + length (pictureOf (allSent rewriting new (behind s rs i))) ≡ length (pictureOf (allSent rewriting new (allSegments s rs)))
+  pub pictures-len : length d ≡ length d₀
+  pub ends-len : length e ≡ length e₀
+
+pub put-start : (rewriting : Bool) (new s rs d e : List ℕ) → Putting rewriting new s rs d e d e 0 0
+put-start rewriting new s rs d e =
+    let b = behind-start s rs in
+    record {
+      within = omega arith;
+      pictures = ap (λ (xs : List Segment). pasted d 0 (pictureOf (allSent rewriting new xs))) b;
+      ends = ap (λ (xs : List Segment). pasted e 0 (endsFrom 0 (allSent rewriting new xs))) b;
+      place = omega (arith, ap (λ (xs : List Segment). length (pictureOf (allSent rewriting new xs))) b);
+      pictures-len = refl;
+      ends-len = refl;
+    }
+
+module _ {rewriting : Bool} {new s rs d₀ e₀ d e : List ℕ} {i at : ℕ} (r : Putting rewriting new s rs d₀ e₀ d e i at) where
+  pub put-end : length rs / 5 ≤ i → (d ≡ pasted d₀ 0 (pictureOf (allSent rewriting new (allSegments s rs)))) × (e ≡ pasted e₀ 0 (endsFrom 0 (allSent rewriting new (allSegments s rs))))
+  unfolding flatMap endsFrom
+  put-end h =
+      let b = sym (behind-end s rs i h) in (
+        sym (pasted-nil d at) ∙ ap (λ (xs : List Segment). pasted d at (pictureOf (allSent rewriting new xs))) b ∙ r .pictures,
+        sym (pasted-nil e (2 * i)) ∙ ap (λ (xs : List Segment). pasted e (2 * i) (endsFrom at (allSent rewriting new xs))) b ∙ r .ends,
+      )
+
+  module _ (h : i < length rs / 5) (key golden : List ℕ) (is-key : key ≡ unitAt s rs (5 * i)) (is-golden : golden ≡ unitAt s rs (5 * i + 2)) where
+    abbrev k : List ℕ
+    k = sentBytes rewriting new key
+
+    abbrev g : List ℕ
+    g = sentBytes rewriting new golden
+
+    abbrev front : List ℕ
+    front = k ++ g
+
+    abbrev rest : List ℕ
+    rest = pictureOf (allSent rewriting new (behind s rs (i + 1)))
+
+    picture-split : pictureOf (allSent rewriting new (behind s rs i)) ≡ front ++ rest
+    unfolding flatMap
+    picture-split = ap (λ (xs : List Segment). pictureOf (allSent rewriting new xs)) (behind-is s rs i h key golden is-key is-golden)
+
+    ends-split : endsFrom at (allSent rewriting new (behind s rs i)) ≡ (at + length k) ∷ (at + length k + length g) ∷ endsFrom (at + length k + length g) (allSent rewriting new (behind s rs (i + 1)))
+    unfolding endsFrom
+    ends-split = ap (λ (xs : List Segment). endsFrom at (allSent rewriting new xs)) (behind-is s rs i h key golden is-key is-golden)
+
+    -- the units of this segment are a part of the whole
+    pub put-front : at + length front ≤ length (pictureOf (allSent rewriting new (allSegments s rs)))
+    put-front = omega (arith, r .place, ap length picture-split, length-append front rest)
+
+    pub put-ends : 2 * length (allSegments s rs) ≤ length e₀ → 2 * i + 2 ≤ length e
+    put-ends w = omega (arith, r .ends-len, length-all s rs)
+
+    pub put-turn : length (pictureOf (allSent rewriting new (allSegments s rs))) ≤ length d₀ → 2 * length (allSegments s rs) ≤ length e₀ → (d′ e′ : List ℕ) (at′ : ℕ)
+        → at′ ≡ at + length k + length g → d′ ≡ pasted d at front → e′ ≡ pasted e (2 * i) ((at + length k) ∷ at′ ∷ []) → Putting rewriting new s rs d₀ e₀ d′ e′ (i + 1) at′
+    put-turn room ends-room d′ e′ at′ next put ended =
+        let n : at′ ≡ at + length front = omega (arith, next, length-append k g) in
+        let m : 2 * (i + 1) ≡ 2 * i + 2 = omega arith in
+        let w : at + length front ≤ length d = omega (arith, put-front, r .pictures-len) in
+        let v : 2 * i + 2 ≤ length e = put-ends ends-room in
+        let more = endsFrom at′ (allSent rewriting new (behind s rs (i + 1))) in
+        record {
+          within = omega arith;
+          pictures =
+              ap₂ (λ (l : List ℕ) (j : ℕ). pasted l j rest) put n ∙ pasted-more d at front (omega arith) rest ∙ ap (pasted d at) (sym picture-split) ∙ r .pictures;
+          ends =
+              ap₂ (λ (l : List ℕ) (j : ℕ). pasted l j more) ended m ∙ pasted-more e (2 * i) ((at + length k) ∷ at′ ∷ []) (omega arith) more
+              ∙ ap (λ (j : ℕ). pasted e (2 * i) ((at + length k) ∷ j ∷ endsFrom j (allSent rewriting new (behind s rs (i + 1))))) next
+              ∙ ap (pasted e (2 * i)) (sym ends-split) ∙ r .ends;
+          place = omega (arith, n, r .place, ap length picture-split, length-append front rest);
+          pictures-len = ap length put ∙ pasted-length d at front w ∙ r .pictures-len;
+          ends-len = ap length ended ∙ pasted-length e (2 * i) ((at + length k) ∷ at′ ∷ []) v ∙ r .ends-len;
+        }

@@ -1,0 +1,81 @@
+-- `assemble::rewrite::put_rewritten` meets its contract. Assumes nothing.
+use borrow.Author.Needs.{needs}
+use native.Mathlib.Omega.{arith}
+use mathlib.Core.Path.{sym, ap, _∙_}
+use Prim.Native.Nat.{_-_}
+use lib.ListN.{length}
+use denote.Ref.{now}
+use Rattle.obu.specs.Place.{obuSays, extensionSays}
+use Rattle.obu.proofs.PlaceLaws.{IsPlaced, is-placed, at-end, not-found}
+use Rattle.pictures.proofs.RewriteLaws.{Putting, put-start, put-long, put-stop, put-end, put-passes, put-room, put-next}
+use Rattle.pictures.proofs.rewrite.put_rewritten.Statement.{statement}
+use Rattle.pictures.proofs.rewrite.put_rewritten.Tie as tie
+
+abbrev Inv-loop : tie.InvT-loop
+Inv-loop out₀ at unit new from₀ to₀ out from to = Putting unit new out₀ at from to out
+
+abbrev μ-loop : tie.MeasureT-loop
+μ-loop out₀ at unit new from₀ to₀ out from to = length unit - from
+
+-- the OBU that obu_at gave
+got : (c : tie.After-o Inv-loop μ-loop)
+    → (let o = c .o .given .0 .0 in
+    let l = c .before .before .before .before in
+    IsPlaced (now (l .before .before .before .before .args .unit)) (l .loop .from) (o .«obu_type») (extensionSays (o .extension)) (o .start) (o .end))
+got c = is-placed _ _ (sym (c .before .before .obu-at .ensures) ∙ ap obuSays (c .o .given .1))
+
+loop-holds : tie.Need-loop-holds Inv-loop μ-loop
+loop-holds c = let a = c .before .before .before in put-start _ _ _ _ (a .pre .0) (a .pre .1)
+
+obu-at-requires : tie.Need-obu-at-requires Inv-loop μ-loop
+obu-at-requires c κs = search needs
+
+enum-known-o : tie.Need-enum-known-o Inv-loop μ-loop
+enum-known-o c = search needs
+
+same-length : tie.Need-same-length Inv-loop μ-loop
+same-length c = put-long (c .before .before .before .loop .inv)
+
+returns : tie.Need-returns Inv-loop μ-loop
+returns c =
+    let k = c .before in
+    let l = k .before .before .loop in
+    absurd (put-stop (l .inv) _ (not-found _ _ (k .obu-at .result) (c .match .keys2) (k .before .loop-test .taken) (k .obu-at .ensures)))
+
+put-renewed-requires : tie.Need-put-renewed-requires Inv-loop μ-loop
+put-renewed-requires c κs =
+    let b = c .before .before in
+    let l = b .before .before .before .before .loop in
+    (put-passes (l .inv) (got b), put-room (l .inv) (got b))
+
+loop-less : tie.Need-loop-less Inv-loop μ-loop
+loop-less c = let g = got (c .before .before .before .before .before) .placed in omega (arith, g .after, g .ends, g .within)
+
+loop-again : tie.Need-loop-again Inv-loop μ-loop
+loop-again c =
+    let b = c .before .before .before .before .before in
+    let l = b .before .before .before .before .loop in
+    put-next (l .inv) (got b) (c .before .before .put-renewed .ensures)
+
+same-length-2 : tie.Need-same-length-2 Inv-loop μ-loop
+same-length-2 c = put-long (c .before .loop .inv)
+
+returns-2 : tie.Need-returns-2 Inv-loop μ-loop
+returns-2 c = let l = c .before .loop in put-end (l .inv) (sym (at-end _ (l .from) (c .loop-test .left)))
+
+pub put-rewritten-spec : {M : Type 1} → statement M
+put-rewritten-spec =
+    tie.close
+    (tie.spec
+    Inv-loop
+    μ-loop
+    loop-holds
+    obu-at-requires
+    enum-known-o
+    same-length
+    returns
+    put-renewed-requires
+    loop-less
+    loop-again
+    same-length-2
+    returns-2)

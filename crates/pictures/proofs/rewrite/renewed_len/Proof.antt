@@ -1,0 +1,61 @@
+-- `assemble::rewrite::renewed_len` meets its contract. Assumes nothing.
+use borrow.Author.Needs.{needs}
+use native.Mathlib.Omega.{arith}
+use mathlib.Core.Path.{_≡_, sym, ap, _∙_}
+use mathlib.Core.Bool.{true, false}
+use lib.ListN.{length}
+use denote.Ref.{now}
+use Rattle.obu.specs.Obu.{Obu, obuBytes}
+use Rattle.obu.specs.Write.{obu}
+use Rattle.obu.proofs.LengthLaws.{obu-length}
+use Rattle.pictures.specs.Prepare.{isSequence}
+use Rattle.pictures.specs.Rewrite.{obuIn}
+use Rattle.pictures.proofs.RewriteLaws.{renewed-some, renewed-none}
+use Rattle.pictures.proofs.rewrite.renewed_len.Statement.{statement}
+use Rattle.pictures.proofs.rewrite.renewed_len.Tie as tie
+
+-- the OBU
+abbrev there : tie.Start → Obu
+there a = obuIn (now (a .args .unit)) (a .args .o)
+
+is-type-requires : tie.Need-is-type-requires
+is-type-requires c κs = search needs
+
+obu-len-requires : tie.Need-obu-len-requires
+obu-len-requires c κs = search needs
+
+returns : tie.Need-returns
+returns c =
+    let k = c .before .before in
+    let a = k .before .before .before in
+    let new = now (a .args .new) in
+    let t : isSequence (there a) ≡ true = sym (k .is-type .ensures) ∙ c .before .if1 .taken in
+    let n = ap (λ x. length (obuBytes x)) (renewed-some new (there a) t) in
+    omega (arith, c .obu-len .ensures, n, obu-length (obu (there a .type) (there a .ext) new))
+
+payload-requires : tie.Need-payload-requires
+payload-requires c κs = search needs
+
+obu-len-requires-2 : tie.Need-obu-len-requires-2
+obu-len-requires-2 c κs = search needs
+
+returns-2 : tie.Need-returns-2
+returns-2 c =
+    let p = c .before in
+    let k = p .before .before in
+    let a = k .before .before .before in
+    let t : isSequence (there a) ≡ false = sym (k .is-type .ensures) ∙ p .before .if1 .left in
+    let n = ap (λ x. length (obuBytes x)) (renewed-none (now (a .args .new)) (there a) t) in
+    let e = rw (p .payload .ensures) at (c .obu-len2 .ensures) in
+    omega (arith, e, n, obu-length (there a))
+
+pub renewed-len-spec : {M : Type 1} → statement M
+renewed-len-spec =
+    tie.close
+    (tie.spec
+    is-type-requires
+    obu-len-requires
+    returns
+    payload-requires
+    obu-len-requires-2
+    returns-2)

@@ -1,0 +1,105 @@
+-- The parts of assembly on the flat numbers of the segments, once their ranges are known to lie within the picture bytes. Assumes nothing.
+use Prim.Native.Nat.{ℕ, zero, suc, _+_, _-_, _^_, _/_, min}
+use mathlib.Core.List.{List, [], _∷_, map}
+use mathlib.Core.Bool.{Bool, cond as pick}
+use mathlib.Core.Option.{Option, none, some}
+use lib.ListN.{length, getD, drop}
+use Rattle.bitio.specs.Parse.{Answer, refused, accepted, answer, andNext}
+use Rattle.obu.specs.Obu.{Obu, obus}
+use Rattle.obu.specs.Place.{part}
+use Rattle.header.specs.Sequence.{Sequence}
+use Rattle.pictures.specs.Segments.{Segment}
+use Rattle.pictures.specs.Prepare.{isSequence, firstOf, sent, firstFrame, keyOk, goldenFlags, slotOf, Prepared}
+use Rattle.pictures.specs.Assemble.{Outcome, stopped, made, andAlso, readHeader, prepareAll, pictureOf}
+
+-- ---- segments
+
+-- the segment whose five numbers stand at the head of rs
+abbrev pub segmentIn : List ℕ → List ℕ → Segment
+segmentIn s rs = record { key = part s (getD rs 0 0) (getD rs 1 0); golden = part s (getD rs 2 0) (getD rs 3 0); frames = getD rs 4 0 }
+
+-- k segments, whose numbers follow each other
+unfoldable pub segmentsIn : List ℕ → ℕ → List ℕ → List Segment
+segmentsIn s zero rs = []
+segmentsIn s (suc k) rs = segmentIn s rs ∷ segmentsIn s k (drop 5 rs)
+
+-- all segments
+abbrev pub allSegments : List ℕ → List ℕ → List Segment
+allSegments s rs = segmentsIn s (length rs / 5) rs
+
+-- all but the first
+abbrev pub laterSegments : List ℕ → List ℕ → List Segment
+laterSegments s rs = segmentsIn s (length rs / 5 - 1) (drop 5 rs)
+
+-- ---- the list's sequence header
+
+-- the first sequence header OBU of a key: 1 to 5, 26
+abbrev pub firstSequence : List ℕ → Answer Obu
+firstSequence u = andNext (obus u) (λ os. firstOf 26 isSequence os)
+
+-- ---- what is asked of a segment
+
+-- 1 to 5, where units are read to be rewritten
+abbrev pub readable : Bool → List ℕ → Answer Unit
+readable rewriting u = pick rewriting (answer (λ _. tt) (obus u)) (accepted tt)
+
+-- the slot that the show units of a segment name, or its first refusal
+unfoldable pub judged : Sequence → Bool → List ℕ → List ℕ → Answer ℕ
+judged q rewriting k g =
+    andNext (readable rewriting k) (λ _.
+    andNext (readable rewriting g) (λ _.
+    andNext (firstFrame q k) (λ y.
+    andNext (keyOk y) (λ _.
+    andNext (firstFrame q g) (λ z.
+    andNext (goldenFlags z) (λ flags.
+    accepted (slotOf flags)))))))
+
+-- ---- units as they go out
+
+-- the new payload of sequence headers, where they are replaced
+abbrev pub renewing : Bool → List ℕ → Option (List ℕ)
+renewing rewriting new = pick rewriting (some new) none
+
+-- what is in an answer, or d
+abbrev pub orElse : {A : Type 0} → A → Answer A → A
+orElse d (refused k) = d
+orElse d (accepted a) = a
+
+-- a unit's bytes as they go out; one that is refused has none
+abbrev pub sentBytes : Bool → List ℕ → List ℕ → List ℕ
+sentBytes rewriting new u = orElse [] (sent (renewing rewriting new) u)
+
+-- a segment's units as they go out, and its slot; what is refused has none
+abbrev pub preparedOf : Sequence → Bool → List ℕ → Segment → Prepared
+preparedOf q rewriting new x =
+    record {
+      key = sentBytes rewriting new (x .key);
+      golden = sentBytes rewriting new (x .golden);
+      slot = orElse 0 (judged q rewriting (x .key) (x .golden));
+    }
+
+abbrev pub allPrepared : Sequence → Bool → List ℕ → List Segment → List Prepared
+allPrepared q rewriting new xs = map (preparedOf q rewriting new) xs
+
+-- a segment's units as they go out; the slot plays no part
+abbrev pub sentOf : Bool → List ℕ → Segment → Prepared
+sentOf rewriting new x = record { key = sentBytes rewriting new (x .key); golden = sentBytes rewriting new (x .golden); slot = 0 }
+
+abbrev pub allSent : Bool → List ℕ → List Segment → List Prepared
+allSent rewriting new xs = map (sentOf rewriting new) xs
+
+-- the slots that the show units of the segments name; 0 for a segment that is refused
+abbrev pub slotsOf : Sequence → Bool → List Segment → List ℕ
+slotsOf q rewriting xs = map (λ x. orElse 0 (judged q rewriting (x .key) (x .golden))) xs
+
+-- a count as far as a usize counts
+abbrev pub capped : ℕ → ℕ
+capped n = min n (2 ^ 64 - 1)
+
+-- how many picture bytes there are, or the first refusal
+abbrev pub measured : Sequence → Bool → List ℕ → List Segment → Outcome ℕ
+measured q rewriting new xs = andAlso (prepareAll q (renewing rewriting new) 0 xs) (λ bs. made (capped (length (pictureOf bs))))
+
+-- how many picture bytes the units of one segment have as they go out, or its first refusal
+abbrev pub measuredUnits : Sequence → Bool → List ℕ → List ℕ → List ℕ → Answer ℕ
+measuredUnits q rewriting new k g = answer (λ _. capped (length (sentBytes rewriting new k) + length (sentBytes rewriting new g))) (judged q rewriting k g)

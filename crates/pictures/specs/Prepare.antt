@@ -1,0 +1,114 @@
+-- One segment's units as they go out, and what is asked of them (01, 'Unit list and cue list'). Assumes nothing.
+use Prim.Native.Nat.{ℕ, zero, suc, _+_, _*_, _/_, _%_}
+use mathlib.Core.List.{List, [], _∷_, map}
+use mathlib.Core.Bool.{Bool, cond as pick, _&&_}
+use mathlib.Core.Option.{Option, none, some}
+use lib.Dec.{eqb}
+use Rattle.bitio.specs.Parse.{Answer, refused, accepted, andNext}
+use Rattle.obu.specs.Obu.{Obu, obus, unitBytes}
+use Rattle.obu.specs.Unit.{isKind, has}
+use Rattle.obu.specs.declared.unit.Kind.the-variants.{SequenceHeader, Frame as FrameObu}
+use Rattle.header.specs.Sequence.{Sequence}
+use Rattle.header.specs.Timed.{isTimed, withTiming}
+use Rattle.emit.specs.Emit.{sequenceBytes}
+use Rattle.frame.specs.Frame.{keyFrame, parseFrame}
+use Rattle.frame.specs.declared.frame_header.FrameHeaderInfo.{FrameHeaderInfo}
+use Rattle.frame.specs.declared.frame_header.FrameHeaderInfo.the-variants.{Existing, Frame}
+use Rattle.pictures.specs.Segments.{Segment}
+
+abbrev pub isSequence : Obu → Bool
+isSequence o = isKind SequenceHeader o
+
+abbrev pub isFrame : Obu → Bool
+isFrame o = isKind FrameObu o
+
+-- the first OBU that passes; n: there is none
+unfoldable pub firstOf : ℕ → (Obu → Bool) → List Obu → Answer Obu
+firstOf n pass [] = refused n
+firstOf n pass (o ∷ os) = pick (pass o) (accepted o) (firstOf n pass os)
+
+-- ---- timing
+
+-- gop_size, fps and fps_den
+pub record Settings : Type 0 where
+  pub gop : ℕ
+  pub fps : ℕ
+  pub den : ℕ
+
+-- q timed at fps over fps_den
+abbrev pub timedSequence : Settings → Sequence → Sequence
+timedSequence set q = record { header = withTiming (set .fps) (set .den) (q .header); points = q .points }
+
+-- the header that goes out: timed if it was not
+abbrev pub effective : Settings → Sequence → Sequence
+effective set q = pick (isTimed (q .header)) q (timedSequence set q)
+
+-- 01, timing absent: sequence headers are replaced, by this payload
+abbrev pub renewal : Settings → Sequence → Option (List ℕ)
+renewal set q = pick (isTimed (q .header)) none (some (sequenceBytes (timedSequence set q)))
+
+-- o with a new payload if it is a sequence header; its extension is kept
+abbrev pub renewed : List ℕ → Obu → Obu
+renewed new o = record { type = o .type; ext = o .ext; payload = pick (isSequence o) new (o .payload) }
+
+-- a unit's bytes as they go out. 01, timing absent: units holding a sequence header are rewritten; else units are copied
+unfoldable pub sent : Option (List ℕ) → List ℕ → Answer (List ℕ)
+sent none u = accepted u
+sent (some new) u = andNext (obus u) (λ os. accepted (pick (has isSequence os) (unitBytes (map (renewed new) os)) u))
+
+-- ---- frames
+
+-- a unit's first frame header: 1 to 5, 28 no frame, 14
+unfoldable pub firstFrame : Sequence → List ℕ → Answer FrameHeaderInfo
+firstFrame q u = andNext (obus u) (λ os. andNext (firstOf 28 isFrame os) (λ o. parseFrame q (o .payload)))
+
+-- 29 not a shown key
+abbrev pub keyOk : FrameHeaderInfo → Answer Unit
+keyOk (Existing slot) = refused 29
+keyOk (Frame f) = pick (eqb (f .«frame_type») keyFrame && f .«show_frame») (accepted tt) (refused 29)
+
+-- the refresh flags of a golden: 30 show-existing, 31 not shown, 32 key, 33 refreshes nothing
+abbrev pub goldenFlags : FrameHeaderInfo → Answer ℕ
+goldenFlags (Existing slot) = refused 30
+goldenFlags (Frame f) =
+    pick (f .«show_frame») (
+    pick (eqb (f .«frame_type») keyFrame) (refused 32) (
+    pick (eqb (f .«refresh_frame_flags») 0) (refused 33) (accepted (f .«refresh_frame_flags»)))) (refused 31)
+
+-- the lowest of n slots whose bit is set
+unfoldable pub lowest : ℕ → ℕ → ℕ
+lowest zero flags = 0
+lowest (suc n) flags = pick (eqb (flags % 2) 1) 0 (suc (lowest n (flags / 2)))
+
+-- 01: the show index is the lowest slot refreshed
+abbrev pub slotOf : ℕ → ℕ
+slotOf flags = lowest 8 flags
+
+-- ---- a segment
+
+-- both units as they go out, and the slot that the show units name
+pub record Prepared : Type 0 where
+  pub key : List ℕ
+  pub golden : List ℕ
+  pub slot : ℕ
+
+-- golden 1 to 5 if rewriting; key 28, 14, 29; golden 1 to 5, 28, 14, 30 to 33
+unfoldable pub prepare : Sequence → Option (List ℕ) → Segment → Answer Prepared
+prepare q new x =
+    andNext (sent new (x .key)) (λ k.
+    andNext (sent new (x .golden)) (λ g.
+    andNext (firstFrame q (x .key)) (λ y.
+    andNext (keyOk y) (λ _.
+    andNext (firstFrame q (x .golden)) (λ z.
+    andNext (goldenFlags z) (λ flags.
+    accepted (record { key = k; golden = g; slot = slotOf flags })))))))
+
+-- ---- show units
+
+-- AV1 5.9.2 show_existing_frame 1, frame_to_show_map_idx in three bits; AV1 5.3.4 trailing_bits
+abbrev pub showByte : ℕ → ℕ
+showByte slot = 128 + 16 * slot + 8
+
+-- a delimiter, and a frame header OBU of one byte
+abbrev pub showUnit : ℕ → List ℕ
+showUnit slot = 0x12 ∷ 0x00 ∷ 0x1A ∷ 0x01 ∷ showByte slot ∷ []

@@ -1,0 +1,30 @@
+-- What the checks of sizes and ranges answer, by 01's numbers. Assumes nothing.
+use Prim.Native.Nat.{ℕ}
+use mathlib.Core.List.{List, [], _∷_}
+use mathlib.Core.Option.{none, some}
+use mathlib.Core.Bool.{Bool, _&&_}
+use lib.ListN.{getD}
+use Rattle.bitio.specs.Parse.{answer}
+use Rattle.pictures.specs.Assemble.{Outcome, stopped, made, overall, sizes}
+use Rattle.pictures.specs.Segments.{inside, segmentsOf}
+use Rattle.pictures.specs.declared.sizes.Checked.{Checked}
+use Rattle.pictures.specs.declared.sizes.Checked.the-variants.{Fit, Refused, RefusedIn}
+
+-- 01's number for each case of Checked, with its segment where 01 adds it
+abbrev pub checkedSays : Checked → Outcome Unit
+checkedSays Fit = made tt
+checkedSays (Refused k) = stopped k none
+checkedSays (RefusedIn k i) = stopped k (some i)
+
+-- 21 no segments, then 22 to 25
+abbrev pub sized : ℕ → List ℕ → Outcome Unit
+sized gop [] = stopped 21 none
+sized gop (n ∷ ns) = sizes gop (n ∷ ns)
+
+-- the ranges at the head of rs lie within s
+unfoldable pub rangesFit : List ℕ → List ℕ → Bool
+rangesFit s rs = inside s (getD rs 0 0) (getD rs 1 0) && inside s (getD rs 2 0) (getD rs 3 0)
+
+-- 36, or all ranges lie within s
+abbrev pub ranged : List ℕ → List ℕ → Outcome Unit
+ranged s rs = overall (answer (λ _. tt) (segmentsOf s rs))

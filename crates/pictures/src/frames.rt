@@ -1,0 +1,125 @@
+// What is asked of the units of a segment: a shown key, and a golden that is shown, is no key and refreshes a slot.
+ghost use mathlib.Core.Path.{_≡_};
+ghost use mathlib.Core.Bool.{false, cond as pick};
+ghost use Rattle.bitio.specs.Parse.{refused, accepted, answer, andNext};
+ghost use Rattle.obu.specs.Unit.{countedSays};
+ghost use Rattle.header.specs.Sequence.{sequenceOf};
+ghost use Rattle.frame.specs.Frame.{frameSays};
+ghost use Rattle.pictures.specs.Prepare.{firstFrame, keyOk, goldenFlags, slotOf};
+ghost use Rattle.pictures.specs.Code.{readable, judged};
+ghost use Rattle.pictures.specs.Says.{slotSays};
+use crate::slot::lowest_refreshed_slot;
+use frame::frame_header::FrameAnswer;
+use frame::frame_header::FrameHeaderInfo;
+use frame::frame_header::KEY_FRAME;
+use frame::frame_header::read::frame_header_info;
+use header::seq_header::OperatingPoint;
+use header::seq_header::SequenceHeader;
+use obu::unit::Counted;
+use obu::unit::Kind;
+use obu::unit::count_obus;
+use obu::unit::first_payload;
+
+pub enum GoldenSlot {
+    Lowest(u64),
+    // document 01's number
+    Refused(u64),
+}
+
+// The first frame header of a unit: 1 to 5, 28 no frame, 14.
+pub fn first_frame(unit: &[u8], header: SequenceHeader, points: [OperatingPoint; 32]) -> FrameAnswer
+    ensures { λ r. ⌜ frameSays r ≡ firstFrame (sequenceOf header points) (now (unit .entry)) ⌝ }
+{
+    match count_obus(unit, Kind::Frame) {
+        Counted::Refused(k) => FrameAnswer::Refused(k as u64),
+        Counted::Count(n) => {
+            if n == 0 {
+                return FrameAnswer::Refused(28);
+            }
+            frame_header_info(header, points, first_payload(unit, Kind::Frame))
+        }
+    }
+}
+
+// Whether a key's header is that of a shown key; otherwise it is refused with 29.
+fn is_shown_key(info: FrameHeaderInfo) -> bool
+    ensures { λ r. ⌜ keyOk info ≡ pick r (accepted tt) (refused 29) ⌝ }
+{
+    match info {
+        FrameHeaderInfo::Existing(_) => false,
+        FrameHeaderInfo::Frame(f) => (f.frame_type == KEY_FRAME) & f.show_frame,
+    }
+}
+
+// The slot that a golden's header refreshes: 30 show-existing, 31 not shown, 32 key, 33 refreshes nothing.
+fn refreshed_slot(info: FrameHeaderInfo) -> GoldenSlot
+    ensures { λ r. ⌜ slotSays r ≡ andNext (goldenFlags info) (λ flags. accepted (slotOf flags)) ⌝ }
+{
+    match info {
+        FrameHeaderInfo::Existing(_) => GoldenSlot::Refused(30),
+        FrameHeaderInfo::Frame(f) => {
+            if !f.show_frame {
+                return GoldenSlot::Refused(31);
+            }
+            if f.frame_type == KEY_FRAME {
+                return GoldenSlot::Refused(32);
+            }
+            if f.refresh_frame_flags == 0 {
+                return GoldenSlot::Refused(33);
+            }
+            GoldenSlot::Lowest(lowest_refreshed_slot(f.refresh_frame_flags))
+        }
+    }
+}
+
+// What is asked of both first frames.
+fn frame_slot(
+    key: &[u8],
+    golden: &[u8],
+    header: SequenceHeader,
+    points: [OperatingPoint; 32],
+) -> GoldenSlot
+    ensures { λ r. ⌜ slotSays r ≡ judged (sequenceOf header points) false (now (key .entry)) (now (golden .entry)) ⌝ }
+{
+    match first_frame(key, header, points) {
+        FrameAnswer::Refused(k) => GoldenSlot::Refused(k),
+        FrameAnswer::Header(shown) => {
+            if !is_shown_key(shown) {
+                return GoldenSlot::Refused(29);
+            }
+            match first_frame(golden, header, points) {
+                FrameAnswer::Refused(k) => GoldenSlot::Refused(k),
+                FrameAnswer::Header(info) => refreshed_slot(info),
+            }
+        }
+    }
+}
+
+// The OBUs of a unit that is read to be rewritten: 1 to 5; any other is not looked at.
+fn count_readable(unit: &[u8], rewriting: bool) -> Counted
+    ensures { λ r. ⌜ answer (λ _. tt) (countedSays r) ≡ readable rewriting (now (unit .entry)) ⌝ }
+{
+    if rewriting {
+        return count_obus(unit, Kind::Any);
+    }
+    Counted::Count(0)
+}
+
+// The slot that the show units of a segment name: the lowest that the first frame header of its golden refreshes.
+pub fn golden_slot(
+    key: &[u8],
+    golden: &[u8],
+    header: SequenceHeader,
+    points: [OperatingPoint; 32],
+    rewriting: bool,
+) -> GoldenSlot
+    ensures { λ r. ⌜ slotSays r ≡ judged (sequenceOf header points) rewriting (now (key .entry)) (now (golden .entry)) ⌝ }
+{
+    match count_readable(key, rewriting) {
+        Counted::Refused(k) => GoldenSlot::Refused(k as u64),
+        Counted::Count(_) => match count_readable(golden, rewriting) {
+            Counted::Refused(k) => GoldenSlot::Refused(k as u64),
+            Counted::Count(_) => frame_slot(key, golden, header, points),
+        },
+    }
+}

@@ -1,0 +1,131 @@
+// The list's sequence header: the first sequence payload of the first key, and the last one of every later key.
+ghost use mathlib.Core.Path.{_≡_};
+ghost use Rattle.bitio.specs.Parse.{answer, andNext};
+ghost use Rattle.obu.specs.Obu.{obus};
+ghost use Rattle.obu.specs.Unit.{countedSays};
+ghost use Rattle.pictures.specs.Assemble.{readHeader, sameBytes, sameHeader, sameHeaders};
+ghost use Rattle.pictures.specs.Sizes.{checkedSays};
+ghost use Rattle.pictures.specs.Code.{firstSequence, laterSegments};
+ghost use Rattle.pictures.specs.Says.{foundSays, readSays};
+use crate::sizes::Checked;
+use header::seq_header::SequenceAnswer;
+use header::seq_header::SequenceRead;
+use header::seq_header::Support;
+use header::seq_header::check::check_supported;
+use header::seq_header::read::parse_sequence_header;
+use obu::reader::Obu;
+use obu::reader::ObuAt;
+use obu::reader::obu_at;
+use obu::reader::payload;
+use obu::reader::refusal;
+use obu::unit::Counted;
+use obu::unit::Kind;
+use obu::unit::count_obus;
+use obu::unit::is_type;
+use obu::unit::last_payload;
+
+pub enum FoundObu {
+    Found(Obu),
+    // document 01's number
+    Refused(u32),
+}
+
+// Where the first sequence header OBU of a key stands: 1 to 5, 26.
+pub fn first_sequence(unit: &[u8]) -> FoundObu
+    ensures { λ r. ⌜ foundSays (now (unit .entry)) r ≡ firstSequence (now (unit .entry)) ⌝ }
+{
+    let mut at: usize = 0;
+    let mut seen = false;
+    let mut first = FoundObu::Refused(26);
+    while at < unit.len() {
+        let found = obu_at(unit, at);
+        let ObuAt::Found(o) = found else {
+            return FoundObu::Refused(refusal(found));
+        };
+        let is = is_type(Kind::SequenceHeader, o.obu_type);
+        if !seen & is {
+            first = FoundObu::Found(o);
+        }
+        seen = seen | is;
+        at = o.end;
+    }
+    first
+}
+
+// A sequence payload read: 14 to 16, 17 to 20.
+pub fn read_supported(payload: &[u8]) -> SequenceRead
+    ensures { λ r. ⌜ readSays r ≡ readHeader (now (payload .entry)) ⌝ }
+{
+    let read = parse_sequence_header(payload);
+    let answer = read.answer;
+    let points = read.operating_points;
+    match answer {
+        SequenceAnswer::Refused(_) => read,
+        SequenceAnswer::Header(header) => match check_supported(header) {
+            Support::Refused(k) => SequenceRead {
+                answer: SequenceAnswer::Refused(k),
+                operating_points: points,
+            },
+            Support::Supported => read,
+        },
+    }
+}
+
+// Whether two strings of bytes are the same.
+fn same_bytes(a: &[u8], b: &[u8]) -> bool
+    ensures { λ r. ⌜ r ≡ sameBytes (now (a .entry)) (now (b .entry)) ⌝ }
+{
+    if a.len() != b.len() {
+        return false;
+    }
+    let mut i: usize = 0;
+    while i < a.len() {
+        if a[i] != b[i] {
+            return false;
+        }
+        i = i + 1;
+    }
+    true
+}
+
+// The sequence headers of a key, the last with the payload `first`: 1 to 5, 27.
+fn count_same(unit: &[u8], first: &[u8]) -> Counted
+    ensures { λ r. ⌜ answer (λ _. tt) (countedSays r) ≡ andNext (obus (now (unit .entry))) (λ os. sameHeader (now (first .entry)) os) ⌝ }
+{
+    match count_obus(unit, Kind::SequenceHeader) {
+        Counted::Refused(k) => Counted::Refused(k),
+        Counted::Count(n) => {
+            if n == 0 {
+                return Counted::Refused(27);
+            }
+            if !same_bytes(last_payload(unit, Kind::SequenceHeader), first) {
+                return Counted::Refused(27);
+            }
+            Counted::Count(n)
+        }
+    }
+}
+
+// 1 to 5 and 27, of all keys but the first.
+pub fn same_headers(picture: &[u8], segments: &[u64], first: &[u8]) -> Checked
+    ensures { λ r. ⌜ checkedSays r ≡ sameHeaders (now (first .entry)) 1 (laterSegments (now (picture .entry)) (now (segments .entry))) ⌝ }
+{
+    let count = segments.len() / 5;
+    let mut i: usize = 1;
+    while i < count {
+        let key = payload(
+            picture,
+            segments[5 * i] as usize,
+            segments[5 * i + 1] as usize,
+        );
+        match count_same(key, first) {
+            Counted::Refused(k) => {
+                return Checked::RefusedIn(k, i);
+            }
+            Counted::Count(_) => {
+                i = i + 1;
+            }
+        }
+    }
+    Checked::Fit
+}

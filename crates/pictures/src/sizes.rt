@@ -1,0 +1,120 @@
+// The frames ordered and the ranges of the segments, judged over their flat numbers: five for each segment, where its key
+// starts and ends in the picture bytes, where its golden does, and its frames.
+ghost use mathlib.Core.Path.{_≡_};
+ghost use mathlib.Core.Bool.{cond as pick};
+ghost use mathlib.Core.Option.{some};
+ghost use Prim.Native.Nat.{_+_, _≤_, min};
+ghost use lib.ListN.{length, drop};
+ghost use lib.Dec.{ltb};
+ghost use Rattle.blocks.specs.Blocks.{total};
+ghost use Rattle.blocks.specs.Lay.{framesIn};
+ghost use Rattle.pictures.specs.Assemble.{stopped, made, noneEmpty};
+ghost use Rattle.pictures.specs.Segments.{inside};
+ghost use Rattle.pictures.specs.Sizes.{checkedSays, sized, rangesFit, ranged};
+
+pub enum Checked {
+    Fit,
+    // document 01's number
+    Refused(u32),
+    // document 01's number, and the segment from 0
+    RefusedIn(u32, usize),
+}
+
+// The sum, or the greatest number where it is more.
+pub fn plus(a: u64, b: u64) -> u64
+    ensures { λ r. ⌜ r ≡ min (a + b) 18446744073709551615 ⌝ }
+{
+    if a > 18446744073709551615 - b {
+        return 18446744073709551615;
+    }
+    a + b
+}
+
+// The frames ordered, saturating.
+pub fn total_frames(segments: &[u64]) -> u64
+    ensures { λ r. ⌜ r ≡ min (total (framesIn (now (segments .entry)))) 18446744073709551615 ⌝ }
+{
+    let count = segments.len() / 5;
+    let mut i: usize = 0;
+    let mut sum: u64 = 0;
+    while i < count {
+        sum = plus(sum, segments[5 * i + 4]);
+        i = i + 1;
+    }
+    sum
+}
+
+// The first segment without frames; past all where there is none.
+fn first_empty(segments: &[u64]) -> usize
+    ensures { λ r. ⌜ noneEmpty 0 (framesIn (now (segments .entry))) ≡ pick (ltb r (length (framesIn (now (segments .entry))))) (stopped 24 (some r)) (made tt) ⌝ }
+{
+    let count = segments.len() / 5;
+    let mut i: usize = 0;
+    while i < count {
+        if segments[5 * i + 4] == 0 {
+            return i;
+        }
+        i = i + 1;
+    }
+    i
+}
+
+// 21 no segments; 22 gop_size under 2; 23 total under 2; 24 a segment without frames; 25 total over 5,000,000.
+pub fn check_sizes(gop: u64, segments: &[u64]) -> Checked
+    ensures { λ r. ⌜ checkedSays r ≡ sized gop (framesIn (now (segments .entry))) ⌝ }
+{
+    let count = segments.len() / 5;
+    if count == 0 {
+        return Checked::Refused(21);
+    }
+    if gop < 2 {
+        return Checked::Refused(22);
+    }
+    let total = total_frames(segments);
+    if total < 2 {
+        return Checked::Refused(23);
+    }
+    let empty = first_empty(segments);
+    if empty < count {
+        return Checked::RefusedIn(24, empty);
+    }
+    if total > 5000000 {
+        return Checked::Refused(25);
+    }
+    Checked::Fit
+}
+
+// Whether the bytes from a to e lie within the picture bytes.
+fn is_inside(picture: &[u8], a: u64, e: u64) -> bool
+    ensures { λ r. ⌜ r ≡ inside (now (picture .entry)) a e ⌝ }
+{
+    (a <= e) & (e <= picture.len() as u64)
+}
+
+// Whether both ranges of the segment whose numbers start at `at` lie within the picture bytes.
+fn ranges_fit(picture: &[u8], segments: &[u64], at: usize) -> bool
+    requires { ⌜ at + 5 ≤ length (now segments) ⌝ }
+    ensures { λ r. ⌜ r ≡ rangesFit (now (picture .entry)) (drop at (now (segments .entry))) ⌝ }
+{
+    let key = is_inside(picture, segments[at], segments[at + 1]);
+    let golden = is_inside(picture, segments[at + 2], segments[at + 3]);
+    key & golden
+}
+
+// 36: numbers that are no whole record, or a range not within the picture bytes.
+pub fn check_ranges(picture: &[u8], segments: &[u64]) -> Checked
+    ensures { λ r. ⌜ checkedSays r ≡ ranged (now (picture .entry)) (now (segments .entry)) ⌝ }
+{
+    if segments.len() % 5 != 0 {
+        return Checked::Refused(36);
+    }
+    let count = segments.len() / 5;
+    let mut i: usize = 0;
+    while i < count {
+        if !ranges_fit(picture, segments, 5 * i) {
+            return Checked::Refused(36);
+        }
+        i = i + 1;
+    }
+    Checked::Fit
+}

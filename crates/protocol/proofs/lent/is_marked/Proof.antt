@@ -1,0 +1,57 @@
+-- `replay::lent::is_marked` meets its contract. The loop's invariant: what is left decides. The measure is what is left of the memory. Assumes nothing.
+use mathlib.Core.Path.{_≡_, sym, _∙_}
+use Prim.Native.Nat.{_-_}
+use native.Mathlib.Omega.{arith}
+use lib.ListN.{length, drop}
+use borrow.Author.Needs.{needs}
+use Rattle.protocol.specs.Marked.{isMarked}
+use Rattle.protocol.proofs.MarkedLaws.{marked-end, marked-more, marked-not}
+use Rattle.protocol.proofs.lent.is_marked.Statement.{statement}
+use Rattle.protocol.proofs.lent.is_marked.Tie as tie
+
+abbrev Inv-loop : tie.InvT-loop
+Inv-loop memory from i₀ i = isMarked (drop from memory) ≡ isMarked (drop i memory)
+
+abbrev μ-loop : tie.MeasureT-loop
+μ-loop memory from i₀ i = length memory - i
+
+loop-holds : tie.Need-loop-holds Inv-loop μ-loop
+loop-holds c = search needs
+
+shared-slice-read-if1 : tie.Need-shared-slice-read-if1 Inv-loop μ-loop
+shared-slice-read-if1 c = search needs
+
+returns : tie.Need-returns Inv-loop μ-loop
+returns c =
+    let l = c .before .before .before .loop in
+    sym (l .inv ∙ marked-not _ (l .i) (omega arith) (c .if1 .taken))
+
+add-i : tie.Need-add-i Inv-loop μ-loop
+add-i c = search needs
+
+loop-less : tie.Need-loop-less Inv-loop μ-loop
+loop-less c = search needs
+
+loop-again : tie.Need-loop-again Inv-loop μ-loop
+loop-again c =
+    let l = c .before .before .before .loop in
+    l .inv ∙ marked-more _ (l .i) (omega arith) (c .if1 .left)
+
+returns-2 : tie.Need-returns-2 Inv-loop μ-loop
+returns-2 c =
+    let l = c .before .loop in
+    sym (l .inv ∙ marked-end _ (l .i) (omega arith))
+
+pub is-marked-spec : {M : Type 1} → statement M
+is-marked-spec =
+    tie.close
+    (tie.spec
+    Inv-loop
+    μ-loop
+    loop-holds
+    shared-slice-read-if1
+    returns
+    add-i
+    loop-less
+    loop-again
+    returns-2)

@@ -1,0 +1,85 @@
+// Answers as text, in a buffer that is written out whenever it is full. Each function takes the
+// place where its text goes and returns the place behind it.
+ghost use mathlib.Core.Path.{_≡_};
+ghost use Prim.Native.Nat.{_≤_, min};
+ghost use lib.ListN.{length};
+use crate::text::encode_hex;
+
+const SIZE: usize = 65536;
+
+pub type Buffer = [u8; SIZE];
+
+// Writes out the bytes that wait. (Of a part `0..at` the check asks no proof of its length, as it
+// does of `..at`.)
+pub fn flush(out: &[u8], at: usize) {
+    if at <= out.len() {
+        io::write_all(1, &out[0..at]);
+    }
+}
+
+pub fn put_text(out: &mut Buffer, at: usize, text: &[u8]) -> usize {
+    let mut to = at;
+    let mut i: usize = 0;
+    while i < text.len() {
+        if to >= SIZE {
+            flush(out, to);
+            to = 0;
+        }
+        out[to] = text[i];
+        to += 1;
+        i += 1;
+    }
+    to
+}
+
+pub fn put_number(out: &mut Buffer, at: usize, v: u64) -> usize {
+    let mut digits = [0u8; 20];
+    let n = io::decimal(v, &mut digits);
+    put_text(out, at, &digits[..n])
+}
+
+// Numbers, each behind a separator.
+pub fn put_numbers(out: &mut Buffer, at: usize, separator: &[u8], list: &[u64]) -> usize {
+    let mut to = at;
+    let mut i: usize = 0;
+    while i < list.len() {
+        let v = list[i];
+        to = put_text(out, to, separator);
+        to = put_number(out, to, v);
+        i += 1;
+    }
+    to
+}
+
+fn put_hex_part(out: &mut Buffer, at: usize, s: &[u8]) -> usize
+    requires { ⌜ length (now s) ≤ 64 ⌝ }
+{
+    let mut digits = [0u8; 128];
+    let n = encode_hex(s, &mut digits);
+    put_text(out, at, &digits[0..n])
+}
+
+pub fn least(a: usize, b: usize) -> usize
+    ensures { λ r. ⌜ r ≡ min a b ⌝ }
+{
+    if a < b { a } else { b }
+}
+
+// Bytes in hexadecimal, `-` for none.
+pub fn put_hex(out: &mut Buffer, at: usize, s: &[u8]) -> usize {
+    if s.len() == 0 {
+        return put_text(out, at, b"-");
+    }
+    let mut to = at;
+    let mut i: usize = 0;
+    while i < s.len() {
+        let n = least(64, s.len() - i);
+        to = put_hex_part(out, to, &s[i..i + n]);
+        i += n;
+    }
+    to
+}
+
+pub fn bad_line(out: &mut Buffer, at: usize) -> usize {
+    put_text(out, at, b"bad line\n")
+}
