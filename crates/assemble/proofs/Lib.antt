@@ -1,4 +1,5 @@
 pub mod UnitLaws
+pub mod AnswerLaws
 pub mod BlockLaws
 pub mod LayLaws
 pub mod ListLaws

@@ -8,8 +8,7 @@ ghost use Rattle.assemble.specs.Blocks.{total};
 ghost use Rattle.assemble.specs.Lay.{framesIn};
 ghost use Rattle.assemble.specs.Code.{judged, orElse, capped};
 ghost use Rattle.assemble.specs.Stages.{firstKey, firstGolden, ownIn, headerIn, needed, fitsIn, roomOf};
-ghost use Rattle.assemble.specs.Assemble.{lentAfter};
-ghost use Rattle.assemble.specs.Says.{assembledSays, countsOf, outcome};
+ghost use Rattle.assemble.specs.Says.{outcome, slices, Handed};
 use crate::blocks::count_cues;
 use crate::blocks::put_list;
 use crate::pictures::put_pictures;
@@ -18,6 +17,7 @@ use crate::pictures::slot_or_zero;
 use crate::pictures::unit_at;
 use crate::plan::Basis;
 use crate::plan::Planned;
+use crate::plan::Settings;
 use crate::plan::plan_multi;
 use crate::sizes::total_frames;
 use header::seq_header::OperatingPoint;
@@ -150,9 +150,7 @@ fn fits_room(
 pub fn assemble_multi(
     picture: &[u8],
     segments: &[u64],
-    gop_size: u64,
-    fps: u32,
-    fps_den: u32,
+    settings: Settings,
     list: &mut [u32],
     cues: &mut [u32],
     pictures: &mut [u8],
@@ -160,15 +158,9 @@ pub fn assemble_multi(
     shows: &mut [u8],
     header: &mut [u8],
 ) -> Assembled
-    ensures answer { λ r. ⌜ assembledSays r ≡ countsOf (outcome (now (picture .entry)) (now (segments .entry)) «gop_size» fps «fps_den» (now (list .entry)) (now (cues .entry)) (now (pictures .entry)) (now (ends .entry)) (now (shows .entry)) (now (header .entry))) ⌝ }
-    ensures list { λ _. ⌜ now (list .exit) ≡ lentAfter (outcome (now (picture .entry)) (now (segments .entry)) «gop_size» fps «fps_den» (now (list .entry)) (now (cues .entry)) (now (pictures .entry)) (now (ends .entry)) (now (shows .entry)) (now (header .entry))) (λ o. o .list) (now (list .entry)) ⌝ }
-    ensures cues { λ _. ⌜ now (cues .exit) ≡ lentAfter (outcome (now (picture .entry)) (now (segments .entry)) «gop_size» fps «fps_den» (now (list .entry)) (now (cues .entry)) (now (pictures .entry)) (now (ends .entry)) (now (shows .entry)) (now (header .entry))) (λ o. o .cues) (now (cues .entry)) ⌝ }
-    ensures pictures { λ _. ⌜ now (pictures .exit) ≡ lentAfter (outcome (now (picture .entry)) (now (segments .entry)) «gop_size» fps «fps_den» (now (list .entry)) (now (cues .entry)) (now (pictures .entry)) (now (ends .entry)) (now (shows .entry)) (now (header .entry))) (λ o. o .picture) (now (pictures .entry)) ⌝ }
-    ensures ends { λ _. ⌜ now (ends .exit) ≡ lentAfter (outcome (now (picture .entry)) (now (segments .entry)) «gop_size» fps «fps_den» (now (list .entry)) (now (cues .entry)) (now (pictures .entry)) (now (ends .entry)) (now (shows .entry)) (now (header .entry))) (λ o. o .ends) (now (ends .entry)) ⌝ }
-    ensures shows { λ _. ⌜ now (shows .exit) ≡ lentAfter (outcome (now (picture .entry)) (now (segments .entry)) «gop_size» fps «fps_den» (now (list .entry)) (now (cues .entry)) (now (pictures .entry)) (now (ends .entry)) (now (shows .entry)) (now (header .entry))) (λ o. o .shows) (now (shows .entry)) ⌝ }
-    ensures header { λ _. ⌜ now (header .exit) ≡ lentAfter (outcome (now (picture .entry)) (now (segments .entry)) «gop_size» fps «fps_den» (now (list .entry)) (now (cues .entry)) (now (pictures .entry)) (now (ends .entry)) (now (shows .entry)) (now (header .entry))) (λ o. o .header) (now (header .entry)) ⌝ }
+    ensures { λ r. ⌜ Handed (outcome (now (picture .entry)) (now (segments .entry)) settings) r (slices list cues pictures ends shows header) ⌝ }
 {
-    let plan = plan_multi(picture, segments, gop_size, fps, fps_den);
+    let plan = plan_multi(picture, segments, settings);
     let points = plan.points;
     let array = plan.new;
     let answer = plan.answer;
@@ -176,13 +168,14 @@ pub fn assemble_multi(
         Planned::Refused(k) => Assembled::Refused(k),
         Planned::RefusedIn(k, i) => Assembled::RefusedIn(k, i),
         Planned::Ready(basis, bytes) => {
+            let gop = settings.gop;
             let new = payload(&array, 0, basis.new_len);
             let going = basis.header;
-            let need = count_all(picture, segments, gop_size, basis, points, new, bytes);
+            let need = count_all(picture, segments, gop, basis, points, new, bytes);
             if !fits_room(need, list, cues, pictures, ends, shows, header) {
                 return Assembled::Refused(35);
             }
-            put_list(list, cues, gop_size, segments);
+            put_list(list, cues, gop, segments);
             put_pictures(pictures, ends, picture, segments, new, basis.rewriting);
             put_shows(shows, picture, segments, going, points, basis.rewriting);
             put_header(header, picture, segments, new, basis);

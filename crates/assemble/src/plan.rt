@@ -35,6 +35,13 @@ use obu::reader::Extension;
 use obu::reader::Obu;
 use obu::reader::payload;
 
+// Document 01's gop_size, fps and fps_den.
+pub struct Settings {
+    pub gop: u64,
+    pub fps: u32,
+    pub den: u32,
+}
+
 pub struct Basis {
     // the sequence header that goes out, but its operating points
     pub header: SequenceHeader,
@@ -204,15 +211,15 @@ fn plan_header(picture: &[u8], segments: &[u64], obu: Obu, fps: u32, fps_den: u3
 }
 
 // All that comes before 35.
-pub(crate) fn plan_multi(picture: &[u8], segments: &[u64], gop: u64, fps: u32, fps_den: u32) -> Plan
-    ensures { λ r. ⌜ planSays (now (picture .entry)) (now (segments .entry)) r ≡ planned (now (picture .entry)) (now (segments .entry)) (record { gop = gop; fps = fps; den = «fps_den» }) ⌝ }
+pub(crate) fn plan_multi(picture: &[u8], segments: &[u64], settings: Settings) -> Plan
+    ensures { λ r. ⌜ planSays (now (picture .entry)) (now (segments .entry)) r ≡ planned (now (picture .entry)) (now (segments .entry)) settings ⌝ }
 {
-    match check_input(picture, segments, gop) {
+    match check_input(picture, segments, settings.gop) {
         Checked::Refused(k) => no_plan(Planned::Refused(k as u64)),
         Checked::RefusedIn(k, i) => no_plan(Planned::RefusedIn(k as u64, i)),
         Checked::Fit => match first_sequence(unit_at(picture, segments, 0)) {
             FoundObu::Refused(k) => no_plan(Planned::RefusedIn(k as u64, 0)),
-            FoundObu::Found(obu) => plan_header(picture, segments, obu, fps, fps_den),
+            FoundObu::Found(obu) => plan_header(picture, segments, obu, settings.fps, settings.den),
         },
     }
 }

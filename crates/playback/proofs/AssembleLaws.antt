@@ -25,7 +25,8 @@ use Rattle.header.specs.declared.frame_header.FrameHeaderInfo.{FrameHeaderInfo}
 use Rattle.header.specs.declared.frame_header.FrameHeaderInfo.the-variants.{Existing, Frame}
 use Rattle.assemble.specs.Blocks.{total}
 use Rattle.assemble.specs.Segments.{Segment, framesOf, inside, segmentAt, segmentsFrom, segmentsOf}
-use Rattle.assemble.specs.Prepare.{isSequence, isFrame, Settings, timedSequence, effective, renewal, sent, firstFrame, keyOk, goldenFlags, slotOf, Prepared, prepare}
+use Rattle.assemble.specs.Prepare.{isSequence, isFrame, timedSequence, effective, renewal, sent, firstFrame, keyOk, goldenFlags, slotOf, Prepared, prepare}
+use Rattle.assemble.specs.declared.plan.Settings.{Settings}
 use Rattle.assemble.specs.Assemble.{Outcome, stopped, made, andAlso, inSegment, overall, noneEmpty, sizes, readHeader, sameBytes, sameHeader, sameHeaders, headerObu, prepareAll, Output, outputOf, Room, fits, assembled, assemble}
 use Rattle.player.proofs.StepLaws.{link}
 use Rattle.player.specs.Player.{unitFrame}

@@ -11,7 +11,7 @@ use Rattle.bitio.specs.Every.Every.{none as nothing, also}
 use Rattle.container.proofs.RoundTrip.{Whole}
 use Rattle.container.proofs.Carry.{carried}
 use Rattle.assemble.specs.Segments.{Segment, segmentsOf}
-use Rattle.assemble.specs.Prepare.{Settings}
+use Rattle.assemble.specs.declared.plan.Settings.{Settings}
 use Rattle.assemble.specs.Assemble.{made, pictureOf, Output, Room, assemble, unitsOf}
 use Rattle.player.specs.Player.{start}
 use Rattle.playback.specs.Premises.{Premise, Premises, InFields}

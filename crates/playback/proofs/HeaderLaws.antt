@@ -18,7 +18,8 @@ use Rattle.header.proofs.EmitLaws.{parse-emittable, payload-length}
 use Rattle.header.proofs.TimedEmitLaws.{timed-emittable, timed-back as timed-read}
 use Rattle.header.proofs.FrameLaws.{flags-lt, shown-showable as showable}
 use Rattle.header.proofs.FrameShowLaws.{supported-show}
-use Rattle.assemble.specs.Prepare.{Settings, timedSequence, showByte}
+use Rattle.assemble.specs.Prepare.{timedSequence, showByte}
+use Rattle.assemble.specs.declared.plan.Settings.{Settings}
 use Rattle.playback.specs.Premises.{InFields}
 
 -- ---- frames

@@ -20,7 +20,8 @@ use Rattle.header.specs.declared.frame_header.FrameHeaderInfo.{FrameHeaderInfo}
 use Rattle.header.specs.declared.frame_header.FrameHeaderInfo.the-variants.{Existing}
 use Rattle.assemble.specs.Blocks.{Kind, Key, Golden, Show, Entry, number, layout, listOf, positions, cuesOf, isKeyEntry, total}
 use Rattle.assemble.specs.Segments.{Segment, framesOf}
-use Rattle.assemble.specs.Prepare.{isSequence, Settings, effective, renewal, Prepared, showUnit}
+use Rattle.assemble.specs.Prepare.{isSequence, effective, renewal, Prepared, showUnit}
+use Rattle.assemble.specs.declared.plan.Settings.{Settings}
 use Rattle.assemble.specs.Assemble.{pictureOf, endsFrom, showsOf, named, unitsOf}
 use Rattle.player.specs.Player.{empty, filled, refresh, State, start, play, leaves, unitFrame}
 use Rattle.player.specs.declared.slots.Slot.{Slot}

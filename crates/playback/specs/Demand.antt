@@ -17,7 +17,8 @@ use Rattle.container.specs.Units.{endsOf}
 use Rattle.container.specs.Container.{Container, read, write, writeAt}
 use Rattle.assemble.specs.Blocks.{Kind, Key, Golden, Show, number, listOf, positions, total}
 use Rattle.assemble.specs.Segments.{Segment, framesOf}
-use Rattle.assemble.specs.Prepare.{Settings, effective, renewal, sent, slotOf, showUnit}
+use Rattle.assemble.specs.Prepare.{effective, renewal, sent, slotOf, showUnit}
+use Rattle.assemble.specs.declared.plan.Settings.{Settings}
 use Rattle.assemble.specs.Assemble.{Output, unitsOf}
 use Rattle.player.specs.Player.{empty, filled, State, start, play, unitFrame}
 use Rattle.playback.specs.Kinds.{unitKind, isKeyUnit, unitAt, segmentOf}

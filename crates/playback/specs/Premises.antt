@@ -10,7 +10,8 @@ use Rattle.obu.specs.Unit.{count, firstPayload, ofUnit}
 use Rattle.header.specs.Sequence.{Sequence, parseSequence}
 use Rattle.container.specs.Stream.{isDelimiter}
 use Rattle.assemble.specs.Segments.{Segment}
-use Rattle.assemble.specs.Prepare.{isSequence, isFrame, Settings}
+use Rattle.assemble.specs.Prepare.{isSequence, isFrame}
+use Rattle.assemble.specs.declared.plan.Settings.{Settings}
 
 -- the first sequence payload of a unit
 abbrev pub firstSequence : List ℕ → List ℕ
