@@ -1,4 +1,5 @@
 -- Laws of the whole of assembly: what is asked before it is written, and that the lent memory holds what is handed out. Assumes nothing.
+use Rattle.assemble.specs.Numbers.{width}
 use Prim.Native.Nat.{ℕ, zero, suc, _*_, _/_, _≤_}
 use native.Mathlib.Omega.{arith}
 use mathlib.Core.Path.{_≡_, refl, sym, ap, _∙_}
@@ -96,13 +97,13 @@ module _ (s rs : List ℕ) (set : Settings) (d : Lent) where
     weighed : n ≡ capped (length (pictureOf units))
     weighed = planned-weighed s rs set (basisSays s rs points new b n) ready
 
-    length-units : length units ≡ length rs / 5
+    length-units : length units ≡ length rs / width
     length-units = length-prepared (sequenceOf (b .header) points) (b .rewriting) new (allSegments s rs) ∙ length-all s rs
 
-    ends-are : 2 * (length rs / 5) ≡ length (endsFrom 0 units)
+    ends-are : 2 * (length rs / width) ≡ length (endsFrom 0 units)
     ends-are = omega (arith, length-ends 0 units, length-units)
 
-    shows-are : 5 * (length rs / 5) ≡ length (showsOf units)
+    shows-are : 5 * (length rs / width) ≡ length (showsOf units)
     shows-are = omega (arith, length-shows units, length-units)
 
     whole-is : whole ≡ fitted room out
@@ -126,7 +127,7 @@ module _ (s rs : List ℕ) (set : Settings) (d : Lent) where
       counts-are : need ≡ counts out
       counts-are =
           same-counts refl refl (omega (arith, weighed, roomy .bytes)) ends-are shows-are (omega (arith, roomy .bytes))
-          (slot-first s rs (sequenceOf (b .header) points) (b .rewriting) new (length rs / 5) (sound .some-there))
+          (slot-first s rs (sequenceOf (b .header) points) (b .rewriting) new (length rs / width) (sound .some-there))
 
       pub can-lay : CanLayAll (d .list) (d .cues) (set .gop) rs
       can-lay =
@@ -145,7 +146,7 @@ module _ (s rs : List ℕ) (set : Settings) (d : Lent) where
       pub can-shows : 5 * length (allSegments s rs) ≤ length (d .shows)
       can-shows = omega (arith, length-all s rs, shows-are, roomy .shows)
 
-      pub can-header : (5 ≤ length rs) × (length (headerIn s rs new b) ≤ length (d .header))
+      pub can-header : (width ≤ length rs) × (length (headerIn s rs new b) ≤ length (d .header))
       can-header = (omega (arith, sound .some-there), roomy .header)
 
       pub all-made : (r : Counts) (d′ : Lent) → r ≡ need → d′ .list ≡ pasted (d .list) 0 (listOf (set .gop) (framesIn rs)) → d′ .cues ≡ pasted (d .cues) 0 (cuesOf (listOf (set .gop) (framesIn rs)))

@@ -1,3 +1,4 @@
+pub mod Numbers
 pub mod Blocks
 pub mod Lay
 pub mod Segments

@@ -3,6 +3,7 @@ pub mod blocks;
 pub mod frames;
 pub mod headers;
 pub mod multi;
+mod numbers;
 pub mod pictures;
 pub mod plan;
 pub mod rewrite;

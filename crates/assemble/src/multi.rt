@@ -1,4 +1,5 @@
 // Assembly (assemble_multi, decoder_model false): segments in, the unit list and the cue list out.
+ghost use Rattle.assemble.specs.Numbers.{width};
 ghost use mathlib.Core.Path.{_≡_};
 ghost use Prim.Native.Nat.{_+_, _≤_};
 ghost use lib.ListN.{length};
@@ -11,6 +12,7 @@ ghost use Rattle.assemble.specs.Stages.{firstKey, firstGolden, ownIn, he
 ghost use Rattle.assemble.specs.Says.{outcome, slices, Handed};
 use crate::blocks::count_cues;
 use crate::blocks::put_list;
+use crate::numbers::WIDTH;
 use crate::pictures::put_pictures;
 use crate::pictures::put_shows;
 use crate::pictures::slot_or_zero;
@@ -46,7 +48,7 @@ pub enum Assembled {
 
 // The slot that the show units of the first segment name.
 fn first_slot(picture: &[u8], segments: &[u64], basis: Basis, points: [OperatingPoint; 32]) -> u64
-    requires { ⌜ 5 ≤ length (now segments) ⌝ }
+    requires { ⌜ width ≤ length (now segments) ⌝ }
     ensures { λ r. ⌜ r ≡ orElse 0 (judged (sequenceOf (basis .header) points) (basis .rewriting) (firstKey (now (picture .entry)) (now (segments .entry))) (firstGolden (now (picture .entry)) (now (segments .entry)))) ⌝ }
 {
     let key = unit_at(picture, segments, 0);
@@ -57,7 +59,7 @@ fn first_slot(picture: &[u8], segments: &[u64], basis: Basis, points: [Operating
 
 // The payload of the first key's own sequence header.
 fn own_payload<'a, 'b>(picture: &'a [u8], segments: &'b [u64], basis: Basis) -> &'a [u8]
-    requires { ⌜ 5 ≤ length (now segments) ⌝ }
+    requires { ⌜ width ≤ length (now segments) ⌝ }
     ensures { λ r. ⌜ now r ≡ ownIn (now (picture .entry)) (now (segments .entry)) basis ⌝ }
 {
     payload(unit_at(picture, segments, 0), basis.start, basis.end)
@@ -65,7 +67,7 @@ fn own_payload<'a, 'b>(picture: &'a [u8], segments: &'b [u64], basis: Basis) -> 
 
 // How many bytes the sequence header OBU handed out has, as far as a usize counts them.
 fn header_len(picture: &[u8], segments: &[u64], new: &[u8], basis: Basis) -> usize
-    requires { ⌜ 5 ≤ length (now segments) ⌝ }
+    requires { ⌜ width ≤ length (now segments) ⌝ }
     ensures { λ r. ⌜ r ≡ capped (length (headerIn (now (picture .entry)) (now (segments .entry)) (now (new .entry)) basis)) ⌝ }
 {
     let extension = basis.extension;
@@ -77,7 +79,7 @@ fn header_len(picture: &[u8], segments: &[u64], new: &[u8], basis: Basis) -> usi
 
 // Writes that OBU, where its room is known.
 fn put_header(out: &mut [u8], picture: &[u8], segments: &[u64], new: &[u8], basis: Basis)
-    requires some { ⌜ 5 ≤ length (now segments) ⌝ }
+    requires some { ⌜ width ≤ length (now segments) ⌝ }
     requires room { ⌜ length (headerIn (now picture) (now segments) (now new) basis) ≤ length (now out) ⌝ }
     ensures { λ _. ⌜ now (out .exit) ≡ pasted (now (out .entry)) 0 (headerIn (now (picture .entry)) (now (segments .entry)) (now (new .entry)) basis) ⌝ }
 {
@@ -100,11 +102,11 @@ fn count_all(
     bytes: usize,
 ) -> Counts
     requires gop { ⌜ 1 ≤ gop ⌝ }
-    requires some { ⌜ 5 ≤ length (now segments) ⌝ }
+    requires some { ⌜ width ≤ length (now segments) ⌝ }
     requires small { ⌜ total (framesIn (now segments)) ≤ 5000000 ⌝ }
     ensures { λ r. ⌜ r ≡ needed gop (now (picture .entry)) (now (segments .entry)) points (now (new .entry)) basis bytes ⌝ }
 {
-    let count = segments.len() / 5;
+    let count = segments.len() / WIDTH;
     Counts {
         units: total_frames(segments) as usize,
         cues: count_cues(gop, segments),

@@ -1,4 +1,5 @@
 // What is decided before anything is written: the refusals in 01's order, and what the units are written from.
+ghost use Rattle.assemble.specs.Numbers.{width};
 ghost use mathlib.Core.Path.{_≡_};
 ghost use mathlib.Core.Bool.{true};
 ghost use mathlib.Core.Option.{none};
@@ -191,7 +192,7 @@ fn plan_timing(
 
 // The first key's header, 14 to 20, and the same in later keys: 1 to 5, 27.
 fn plan_header(picture: &[u8], segments: &[u64], obu: Obu, fps: u32, fps_den: u32) -> Plan
-    requires some { ⌜ 5 ≤ length (now segments) ⌝ }
+    requires some { ⌜ width ≤ length (now segments) ⌝ }
     requires sequence { ⌜ obu .«obu_type» ≡ 1 ⌝ }
     ensures { λ r. ⌜ planSays (now (picture .entry)) (now (segments .entry)) r ≡ fromHeader (now (picture .entry)) (now (segments .entry)) (rateOf fps «fps_den») (obuIn (firstKey (now (picture .entry)) (now (segments .entry))) obu) ⌝ }
 {
