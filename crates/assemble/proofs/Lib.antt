@@ -1,3 +1,4 @@
+pub mod AnswerLaws
 pub mod RenewLaws
 pub mod StageLaws
 pub mod PlanLaws

@@ -15,7 +15,8 @@ use Rattle.bitio.specs.Lent.{pasted}
 use Rattle.bitio.proofs.ParseLaws.{pick-cases}
 use Rattle.bitio.proofs.LentLaws.{pasted-nil, pasted-sets, pasted-more, pasted-length, pasted-take-end}
 use Rattle.pictures.specs.Assemble.{Outcome, stopped, Output}
-use Rattle.assemble.specs.Whole.{outcome}
+use Rattle.pictures.specs.Prepare.{Settings}
+use Rattle.assemble.specs.Whole.{Lent, outcome}
 use Rattle.assemble.specs.Records.{fiveOf, numbersOf, copyCount, numbersAfter, noRoom, copiedOutcome, recordsOutcome}
 use Rattle.assemble.specs.declared.segments.Segment.{Segment}
 
@@ -121,28 +122,28 @@ module _ {xs : List Segment} {d₀ d : List ℕ} {at i : ℕ} (r : Copying xs d�
 pub head-part : (n : ℕ) (d : List ℕ) → take (n - 0) (drop 0 d) ≡ take n d
 head-part n d = let e : n - 0 ≡ n = omega arith in ap (λ (m : ℕ). take m d) e
 
-module _ (s : List ℕ) (count : ℕ) (d : List ℕ) (gop fps den : ℕ) (list cues pictures ends shows header : List ℕ) where
+module _ (s : List ℕ) (count : ℕ) (d : List ℕ) (set : Settings) (l : Lent) where
   module _ (h : length d / 5 < count) where
-    pub copied-long : limit < length s → stopped 34 none ≡ copiedOutcome s count d gop fps den list cues pictures ends shows header
+    pub copied-long : limit < length s → stopped 34 none ≡ copiedOutcome s count d set l
     unfolding copiedOutcome noRoom
-    copied-long l = simp (lt-leb (5 * count) (length d) (omega arith), lt-ltb limit (length s) l)
+    copied-long m = simp (lt-leb (5 * count) (length d) (omega arith), lt-ltb limit (length s) m)
 
-    pub copied-refused : length s ≤ limit → stopped 35 none ≡ copiedOutcome s count d gop fps den list cues pictures ends shows header
+    pub copied-refused : length s ≤ limit → stopped 35 none ≡ copiedOutcome s count d set l
     unfolding copiedOutcome noRoom
-    copied-refused l = simp (lt-leb (5 * count) (length d) (omega arith), le-ltb limit (length s) l)
+    copied-refused m = simp (lt-leb (5 * count) (length d) (omega arith), le-ltb limit (length s) m)
 
-  pub copied-made : (rs : List ℕ) → count ≤ length d / 5 → rs ≡ take (5 * count) d → outcome s rs gop fps den list cues pictures ends shows header ≡ copiedOutcome s count d gop fps den list cues pictures ends shows header
+  pub copied-made : (rs : List ℕ) → count ≤ length d / 5 → rs ≡ take (5 * count) d → outcome s rs set l ≡ copiedOutcome s count d set l
   unfolding copiedOutcome
-  copied-made rs h e = ap (λ (l : List ℕ). outcome s l gop fps den list cues pictures ends shows header) e ∙ simp (le-leb (5 * count) (length d) (omega arith))
+  copied-made rs h e = ap (λ (ns : List ℕ). outcome s ns set l) e ∙ simp (le-leb (5 * count) (length d) (omega arith))
 
-module _ (s : List ℕ) (xs : List Segment) (d : List ℕ) (gop fps den : ℕ) (list cues pictures ends shows header : List ℕ) where
+module _ (s : List ℕ) (xs : List Segment) (d : List ℕ) (set : Settings) (l : Lent) where
   -- from the numbers as they stand once the segments are copied
-  pub copied-is : copiedOutcome s (length xs) (numbersAfter xs d) gop fps den list cues pictures ends shows header ≡ recordsOutcome s xs d gop fps den list cues pictures ends shows header
+  pub copied-is : copiedOutcome s (length xs) (numbersAfter xs d) set l ≡ recordsOutcome s xs d set l
   unfolding copiedOutcome recordsOutcome numbersAfter
   copied-is = go (leb (5 * length xs) (length d)) refl
     where
       from : List ℕ → Outcome Output
-      from rs = outcome s rs gop fps den list cues pictures ends shows header
+      from rs = outcome s rs set l
 
       go : (b : Bool) → leb (5 * length xs) (length d) ≡ b
           → pick (leb (5 * length xs) (length (pick b (pasted d 0 (numbersOf xs)) d))) (from (take (5 * length xs) (pick b (pasted d 0 (numbersOf xs)) d))) (noRoom s) ≡ pick b (from (numbersOf xs)) (noRoom s)

@@ -1,4 +1,5 @@
 -- Laws of assembly's stages: together they are the whole, and what they tell of the sizes. Assumes nothing.
+use Rattle.blocks.specs.Numbers.{width}
 use Prim.Native.Nat.{ℕ, zero, suc, _+_, _-_, _/_, _%_, _≤_}
 use native.Mathlib.Omega.{arith}
 use mathlib.Core.Path.{_≡_, refl, sym, ap, subst, _∙_}
@@ -32,25 +33,25 @@ segments-from : (s : List ℕ) (k : ℕ) (rs : List ℕ) (xs : List Segment) →
 unfolding segmentsFrom segmentAt andNext segmentsIn
 segments-from s zero rs xs e = let w : [] ≡ xs = cc in sym w
 segments-from s (suc k) rs xs e =
-    go (λ ys w. segments-from s k (drop 5 rs) ys w) (inside s (getD rs 0 0) (getD rs 1 0) && inside s (getD rs 2 0) (getD rs 3 0)) e
+    go (λ ys w. segments-from s k (drop width rs) ys w) (inside s (getD rs 0 0) (getD rs 1 0) && inside s (getD rs 2 0) (getD rs 3 0)) e
   where
-    go : ((ys : List Segment) → segmentsFrom s k (drop 5 rs) ≡ accepted ys → ys ≡ segmentsIn s k (drop 5 rs)) → (t : Bool)
-        → andNext (pick t (accepted (segmentIn s rs)) (refused 36)) (λ y. onto y (segmentsFrom s k (drop 5 rs))) ≡ accepted xs → xs ≡ segmentIn s rs ∷ segmentsIn s k (drop 5 rs)
-    go more true e = onto-are (segmentIn s rs) (segmentsFrom s k (drop 5 rs)) (segmentsIn s k (drop 5 rs)) more xs e
+    go : ((ys : List Segment) → segmentsFrom s k (drop width rs) ≡ accepted ys → ys ≡ segmentsIn s k (drop width rs)) → (t : Bool)
+        → andNext (pick t (accepted (segmentIn s rs)) (refused 36)) (λ y. onto y (segmentsFrom s k (drop width rs))) ≡ accepted xs → xs ≡ segmentIn s rs ∷ segmentsIn s k (drop width rs)
+    go more true e = onto-are (segmentIn s rs) (segmentsFrom s k (drop width rs)) (segmentsIn s k (drop width rs)) more xs e
     go more false e = let z : _≡_ {A = ℕ} 0 1 = cc in absurd (omega arith)
 
 pub segments-are : (s rs : List ℕ) (xs : List Segment) → segmentsOf s rs ≡ accepted xs → xs ≡ allSegments s rs
 unfolding segmentsOf
-segments-are s rs xs e = go (eqb (length rs % 5) 0) e
+segments-are s rs xs e = go (eqb (length rs % width) 0) e
   where
-    go : (t : Bool) → pick t (segmentsFrom s (length rs / 5) rs) (refused 36) ≡ accepted xs → xs ≡ allSegments s rs
-    go true e = segments-from s (length rs / 5) rs xs e
+    go : (t : Bool) → pick t (segmentsFrom s (length rs / width) rs) (refused 36) ≡ accepted xs → xs ≡ allSegments s rs
+    go true e = segments-from s (length rs / width) rs xs e
     go false e = let z : _≡_ {A = ℕ} 0 1 = cc in absurd (omega arith)
 
 frames-in : (s : List ℕ) (k : ℕ) (rs : List ℕ) → framesFrom k rs ≡ framesOf (segmentsIn s k rs)
 unfolding framesFrom segmentsIn
 frames-in s zero rs = refl
-frames-in s (suc k) rs = ap (λ (l : List ℕ). getD rs 4 0 ∷ l) (frames-in s k (drop 5 rs))
+frames-in s (suc k) rs = ap (λ (l : List ℕ). getD rs 4 0 ∷ l) (frames-in s k (drop width rs))
 
 -- ---- outcomes one after the other
 
@@ -103,15 +104,15 @@ module _ (room : Room) (set : Settings) where
       also-both (prepareAll (effective set q) (renewal set q) 0 (x ∷ xs)) _ _ _ _ (λ bs. refl))))))
 
   module _ (s rs : List ℕ) where
-    counted : (n : ℕ) → length rs / 5 ≡ n
+    counted : (n : ℕ) → length rs / width ≡ n
         → andAlso (assembled set (segmentsIn s n rs)) (fitted room) ≡ andAlso (andAlso (sized (set .gop) (framesIn rs)) (λ _. fromKey s rs set)) (handed (framesIn rs))
     unfolding assembled andAlso segmentsIn framesFrom fromKey fromHeader fromTiming
     counted zero e = let f : framesIn rs ≡ [] = ap (λ (k : ℕ). framesFrom k rs) e in rw f
     counted (suc m) e =
-        staged (segmentIn s rs) (segmentsIn s m (drop 5 rs)) (allSegments s rs) (laterSegments s rs) (framesIn rs)
-        (ap (λ (k : ℕ). segmentsIn s k rs) e) (ap (λ (k : ℕ). segmentsIn s k (drop 5 rs)) less) (ap (λ (k : ℕ). framesFrom k rs) e ∙ frames-in s (suc m) rs)
+        staged (segmentIn s rs) (segmentsIn s m (drop width rs)) (allSegments s rs) (laterSegments s rs) (framesIn rs)
+        (ap (λ (k : ℕ). segmentsIn s k rs) e) (ap (λ (k : ℕ). segmentsIn s k (drop width rs)) less) (ap (λ (k : ℕ). framesFrom k rs) e ∙ frames-in s (suc m) rs)
       where
-        less : length rs / 5 - 1 ≡ m
+        less : length rs / width - 1 ≡ m
         less = omega (arith, e)
 
     -- the whole is what goes out, handed out if it fits
@@ -124,7 +125,7 @@ module _ (room : Room) (set : Settings) where
             ≡ andAlso (andAlso (pick t (stopped 34 none) (andAlso (overall (judged a)) (λ _. sized (set .gop) (framesIn rs)))) (λ _. fromKey s rs set)) (handed (framesIn rs))
         go true a e = refl
         go false (refused k) e = refl
-        go false (accepted xs) e = ap (λ (l : List Segment). andAlso (assembled set l) (fitted room)) (segments-are s rs xs e) ∙ counted (length rs / 5) refl
+        go false (accepted xs) e = ap (λ (l : List Segment). andAlso (assembled set l) (fitted room)) (segments-are s rs xs e) ∙ counted (length rs / width) refl
 
 -- ---- what the checks tell
 
@@ -145,8 +146,8 @@ filled i (n ∷ ns) e = go (filled (suc i) ns) (eqb n 0) refl e
 pub record Sound (gop : ℕ) (rs : List ℕ) : Type 0 where
   pub gop-size : 2 ≤ gop
   pub small : total (framesIn rs) ≤ 5000000
-  pub some-there : 1 ≤ length rs / 5
-  pub count : length rs / 5 ≤ 5000000
+  pub some-there : 1 ≤ length rs / width
+  pub count : length rs / width ≤ 5000000
 
 sized-sound : (gop : ℕ) (rs ns : List ℕ) → framesIn rs ≡ ns → sized gop ns ≡ fine → Sound gop rs
 unfolding sizes andAlso
@@ -164,7 +165,7 @@ sized-sound gop rs (n ∷ ns) f e = go (ltb gop 2) (ltb (total (n ∷ ns)) 2) (n
         let t = ltb-false 5000000 (total (n ∷ ns)) k in
         let l = filled 0 (n ∷ ns) j in
         let w = ap total f in
-        let m = sym (frames-length (length rs / 5) rs) ∙ ap length f in
+        let m = sym (frames-length (length rs / width) rs) ∙ ap length f in
         record { gop-size = g; small = omega arith; some-there = omega arith; count = omega arith }
 
 pub checked-sound : (s rs : List ℕ) (gop : ℕ) → checked s rs gop ≡ fine → Sound gop rs

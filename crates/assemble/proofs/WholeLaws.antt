@@ -1,4 +1,5 @@
 -- Laws of the whole of assembly: what is asked before it is written, and that the lent memory holds what is handed out. Assumes nothing.
+use Rattle.blocks.specs.Numbers.{width}
 use Prim.Native.Nat.{ℕ, zero, suc, _*_, _/_, _≤_}
 use native.Mathlib.Omega.{arith}
 use mathlib.Core.Path.{_≡_, refl, sym, ap, _∙_}
@@ -13,14 +14,17 @@ use Rattle.header.specs.declared.seq_header.OperatingPoint.{OperatingPoint}
 use Rattle.blocks.specs.Blocks.{listOf, cuesOf}
 use Rattle.blocks.specs.Lay.{framesIn, CanLayAll}
 use Rattle.pictures.specs.Prepare.{Settings, Prepared, showUnit}
-use Rattle.pictures.specs.Assemble.{Outcome, stopped, made, andAlso, pictureOf, endsFrom, showsOf, firstSlot, Output, outputOf, Room, fits, fitted, lentAfter}
+use Rattle.pictures.specs.Assemble.{Outcome, stopped, made, andAlso, pictureOf, endsFrom, showsOf, firstSlot, Output, outputOf, Room, fits, fitted}
 use Rattle.pictures.specs.Code.{segmentsIn, allSegments, judged, orElse, allPrepared, allSent, slotsOf, capped}
-use Rattle.assemble.specs.Whole.{counts, countsOf, outcome}
+use Rattle.assemble.specs.Whole.{counts, countsOf, assembledSays, Lent, outcome, lentAfter, Handed}
 use Rattle.assemble.specs.Stages.{Going, planned, firstKey, firstGolden, headerIn, newIn, basisSays, answerSays, planSays, needed, fitsIn, roomOf}
 use Rattle.assemble.specs.declared.multi.Counts.{Counts}
+use Rattle.assemble.specs.declared.multi.Assembled.{Assembled}
+use Rattle.assemble.specs.declared.multi.Assembled.the-variants.{Made, Refused as AllRefused, RefusedIn as SegmentRefused}
 use Rattle.assemble.specs.declared.plan.Basis.{Basis}
 use Rattle.assemble.specs.declared.plan.Planned.the-variants.{Ready, Refused, RefusedIn}
 use Rattle.assemble.specs.declared.plan.Plan.{Plan}
+use Rattle.assemble.proofs.AnswerLaws.{kept}
 use Rattle.pictures.proofs.PrepareLaws.{picture-sent, ends-sent, shows-slots, length-prepared, length-ends, length-shows, length-all}
 use Rattle.assemble.proofs.StageLaws.{Sound, handed, assemble-staged, planned-sound, planned-weighed}
 use Rattle.assemble.proofs.PlanLaws.{says-refused, says-refused-in}
@@ -39,67 +43,38 @@ unfolding segmentsIn
 slot-first s rs q rewriting new zero h = absurd (omega arith)
 slot-first s rs q rewriting new (suc n) h = refl
 
-module _ (s rs : List ℕ) (gop fps den : ℕ) (list cues pictures ends shows header : List ℕ) where
-  abbrev set : Settings
-  set = record { gop = gop; fps = fps; den = den }
+-- lent slices that agree in each
+same-lent : {l l′ c c′ p p′ e e′ w w′ h h′ : List ℕ} → l ≡ l′ → c ≡ c′ → p ≡ p′ → e ≡ e′ → w ≡ w′ → h ≡ h′
+    → _≡_ {A = Lent} (record { list = l; cues = c; pictures = p; ends = e; shows = w; header = h }) (record { list = l′; cues = c′; pictures = p′; ends = e′; shows = w′; header = h′ })
+same-lent a b d i j k = rw (a, b, d, i, j, k)
 
+module _ (s rs : List ℕ) (set : Settings) (d : Lent) where
   abbrev room : Room
-  room = roomOf (length list) (length cues) (length pictures) (length ends) (length shows) (length header)
+  room = roomOf (length (d .list)) (length (d .cues)) (length (d .pictures)) (length (d .ends)) (length (d .shows)) (length (d .header))
 
   abbrev whole : Outcome Output
-  whole = outcome s rs gop fps den list cues pictures ends shows header
+  whole = outcome s rs set d
 
   staged : whole ≡ andAlso (planned s rs set) (handed room set (framesIn rs))
   unfolding outcome
   staged = assemble-staged room set s rs
 
-  -- the lent memory afterwards
-  abbrev Holds : (l c p e w h : List ℕ) → Type 0
-  Holds l c p e w h =
-      (l ≡ lentAfter whole (λ o. o .list) list)
-      × ((c ≡ lentAfter whole (λ o. o .cues) cues)
-      × ((p ≡ lentAfter whole (λ o. o .picture) pictures)
-      × ((e ≡ lentAfter whole (λ o. o .ends) ends)
-      × ((w ≡ lentAfter whole (λ o. o .shows) shows)
-      × (h ≡ lentAfter whole (λ o. o .header) header)))))
+  -- the answer r, the lent slices being d′ at exit
+  abbrev Gives : Assembled → Lent → Type 0
+  Gives r d′ = Handed (outcome s rs set) r (record { entry = d; exit = d′ })
 
   -- ---- refusals
 
-  abbrev Refuses : ℕ → Option ℕ → Type 0
-  Refuses k i = (stopped k i ≡ countsOf whole) × Holds list cues pictures ends shows header
-
-  all-stopped : (k : ℕ) (i : Option ℕ) → whole ≡ stopped k i → Refuses k i
+  planned-stopped : (r : Assembled) (k : ℕ) (i : Option ℕ) → assembledSays r ≡ stopped k i → planned s rs set ≡ stopped k i → Gives r d
   unfolding andAlso
-  all-stopped k i e = (
-    sym (ap countsOf e),
-    (
-      sym (ap (λ (x : Outcome Output). lentAfter x (λ o. o .list) list) e),
-      (
-        sym (ap (λ (x : Outcome Output). lentAfter x (λ o. o .cues) cues) e),
-        (
-          sym (ap (λ (x : Outcome Output). lentAfter x (λ o. o .picture) pictures) e),
-          (
-            sym (ap (λ (x : Outcome Output). lentAfter x (λ o. o .ends) ends) e),
-            (
-              sym (ap (λ (x : Outcome Output). lentAfter x (λ o. o .shows) shows) e),
-              sym (ap (λ (x : Outcome Output). lentAfter x (λ o. o .header) header) e),
-            ),
-          ),
-        ),
-      ),
-    ),
-  )
-
-  planned-stopped : (k : ℕ) (i : Option ℕ) → planned s rs set ≡ stopped k i → Refuses k i
-  unfolding andAlso
-  planned-stopped k i e = all-stopped k i (staged ∙ ap (λ (x : Outcome Going). andAlso x (handed room set (framesIn rs))) e)
+  planned-stopped r k i e w = kept (outcome s rs set) d r e (staged ∙ ap (λ (x : Outcome Going). andAlso x (handed room set (framesIn rs))) w)
 
   module _ (p : Plan) (f : planSays s rs p ≡ planned s rs set) where
-    pub plan-refused : (k : ℕ) → p .answer ≡ Refused k → Refuses k none
-    plan-refused k e = planned-stopped k none (sym f ∙ says-refused s rs p k e)
+    pub plan-refused : (k : ℕ) → p .answer ≡ Refused k → Gives (AllRefused k) d
+    plan-refused k e = planned-stopped _ k none refl (sym f ∙ says-refused s rs p k e)
 
-    pub plan-refused-in : (k i : ℕ) → p .answer ≡ RefusedIn k i → Refuses k (some i)
-    plan-refused-in k i e = planned-stopped k (some i) (sym f ∙ says-refused-in s rs p k i e)
+    pub plan-refused-in : (k i : ℕ) → p .answer ≡ RefusedIn k i → Gives (SegmentRefused k i) d
+    plan-refused-in k i e = planned-stopped _ k (some i) refl (sym f ∙ says-refused-in s rs p k i e)
 
   -- ---- what goes out
 
@@ -111,24 +86,24 @@ module _ (s rs : List ℕ) (gop fps den : ℕ) (list cues pictures ends shows he
     sents = allSent (b .rewriting) new (allSegments s rs)
 
     abbrev out : Output
-    out = outputOf gop (framesIn rs) (headerIn s rs new b) units
+    out = outputOf (set .gop) (framesIn rs) (headerIn s rs new b) units
 
     abbrev need : Counts
-    need = needed gop s rs points new b n
+    need = needed (set .gop) s rs points new b n
 
-    pub sound : Sound gop rs
+    pub sound : Sound (set .gop) rs
     sound = planned-sound s rs set (basisSays s rs points new b n) ready
 
     weighed : n ≡ capped (length (pictureOf units))
     weighed = planned-weighed s rs set (basisSays s rs points new b n) ready
 
-    length-units : length units ≡ length rs / 5
+    length-units : length units ≡ length rs / width
     length-units = length-prepared (sequenceOf (b .header) points) (b .rewriting) new (allSegments s rs) ∙ length-all s rs
 
-    ends-are : 2 * (length rs / 5) ≡ length (endsFrom 0 units)
+    ends-are : 2 * (length rs / width) ≡ length (endsFrom 0 units)
     ends-are = omega (arith, length-ends 0 units, length-units)
 
-    shows-are : 5 * (length rs / 5) ≡ length (showsOf units)
+    shows-are : 5 * (length rs / width) ≡ length (showsOf units)
     shows-are = omega (arith, length-shows units, length-units)
 
     whole-is : whole ≡ fitted room out
@@ -139,8 +114,8 @@ module _ (s rs : List ℕ) (gop fps den : ℕ) (list cues pictures ends shows he
     fit-is = fits-same room need out refl refl weighed ends-are shows-are refl
 
     -- 35
-    pub full : false ≡ fitsIn room need → Refuses 35 none
-    full e = all-stopped 35 none (whole-is ∙ ap (λ (t : Bool). pick t (made out) (stopped 35 none)) (sym (e ∙ fit-is)))
+    pub full : false ≡ fitsIn room need → Gives (AllRefused 35) d
+    full e = kept (outcome s rs set) d _ refl (whole-is ∙ ap (λ (t : Bool). pick t (made out) (stopped 35 none)) (sym (e ∙ fit-is)))
 
     module _ (fit : true ≡ fitsIn room need) where
       roomy : Roomy room out
@@ -152,50 +127,42 @@ module _ (s rs : List ℕ) (gop fps den : ℕ) (list cues pictures ends shows he
       counts-are : need ≡ counts out
       counts-are =
           same-counts refl refl (omega (arith, weighed, roomy .bytes)) ends-are shows-are (omega (arith, roomy .bytes))
-          (slot-first s rs (sequenceOf (b .header) points) (b .rewriting) new (length rs / 5) (sound .some-there))
+          (slot-first s rs (sequenceOf (b .header) points) (b .rewriting) new (length rs / width) (sound .some-there))
 
-      pub can-lay : CanLayAll list cues gop rs
+      pub can-lay : CanLayAll (d .list) (d .cues) (set .gop) rs
       can-lay =
-          let l = length-list gop (framesIn rs) (omega (arith, sound .gop-size)) in
+          let l = length-list (set .gop) (framesIn rs) (omega (arith, sound .gop-size)) in
           record {
             segments = omega (arith, sound .count);
             gop-size = omega (arith, sound .gop-size);
             room = record { list = omega (arith, roomy .list); cues = omega (arith, roomy .cues); small = omega (arith, l, sound .small) };
           }
 
-      pub can-pictures : (length (pictureOf sents) ≤ limit) × ((length (pictureOf sents) ≤ length pictures) × (2 * length (allSegments s rs) ≤ length ends))
+      pub can-pictures : (length (pictureOf sents) ≤ limit) × ((length (pictureOf sents) ≤ length (d .pictures)) × (2 * length (allSegments s rs) ≤ length (d .ends)))
       can-pictures =
           let l = ap length (picture-sent (sequenceOf (b .header) points) (b .rewriting) new (allSegments s rs)) in
           (omega (arith, l, roomy .bytes), (omega (arith, l, roomy .picture), omega (arith, length-all s rs, ends-are, roomy .ends)))
 
-      pub can-shows : 5 * length (allSegments s rs) ≤ length shows
+      pub can-shows : 5 * length (allSegments s rs) ≤ length (d .shows)
       can-shows = omega (arith, length-all s rs, shows-are, roomy .shows)
 
-      pub can-header : (5 ≤ length rs) × (length (headerIn s rs new b) ≤ length header)
+      pub can-header : (width ≤ length rs) × (length (headerIn s rs new b) ≤ length (d .header))
       can-header = (omega (arith, sound .some-there), roomy .header)
 
-      pub all-made : (r : Counts) (l c p e w h : List ℕ) → r ≡ need → l ≡ pasted list 0 (listOf gop (framesIn rs)) → c ≡ pasted cues 0 (cuesOf (listOf gop (framesIn rs)))
-          → p ≡ pasted pictures 0 (pictureOf sents) → e ≡ pasted ends 0 (endsFrom 0 sents)
-          → w ≡ pasted shows 0 (flatMap showUnit (slotsOf (sequenceOf (b .header) points) (b .rewriting) (allSegments s rs))) → h ≡ pasted header 0 (headerIn s rs new b)
-          → (made r ≡ countsOf whole) × Holds l c p e w h
+      pub all-made : (r : Counts) (d′ : Lent) → r ≡ need → d′ .list ≡ pasted (d .list) 0 (listOf (set .gop) (framesIn rs)) → d′ .cues ≡ pasted (d .cues) 0 (cuesOf (listOf (set .gop) (framesIn rs)))
+          → d′ .pictures ≡ pasted (d .pictures) 0 (pictureOf sents) → d′ .ends ≡ pasted (d .ends) 0 (endsFrom 0 sents)
+          → d′ .shows ≡ pasted (d .shows) 0 (flatMap showUnit (slotsOf (sequenceOf (b .header) points) (b .rewriting) (allSegments s rs))) → d′ .header ≡ pasted (d .header) 0 (headerIn s rs new b)
+          → Gives (Made r) d′
       unfolding andAlso
-      all-made r l c p e w h i il ic ip ie iw ih =
-          let q = sequenceOf (b .header) points in (
-            ap (λ (x : Counts). made x) (i ∙ counts-are) ∙ sym (ap countsOf made-is),
-            (
-              il ∙ sym (ap (λ (x : Outcome Output). lentAfter x (λ o. o .list) list) made-is),
-              (
-                ic ∙ sym (ap (λ (x : Outcome Output). lentAfter x (λ o. o .cues) cues) made-is),
-                (
-                  ip ∙ sym (ap (pasted pictures 0) (picture-sent q (b .rewriting) new (allSegments s rs))) ∙ sym (ap (λ (x : Outcome Output). lentAfter x (λ o. o .picture) pictures) made-is),
-                  (
-                    ie ∙ sym (ap (pasted ends 0) (ends-sent q (b .rewriting) new 0 (allSegments s rs))) ∙ sym (ap (λ (x : Outcome Output). lentAfter x (λ o. o .ends) ends) made-is),
-                    (
-                      iw ∙ sym (ap (pasted shows 0) (shows-slots q (b .rewriting) new (allSegments s rs))) ∙ sym (ap (λ (x : Outcome Output). lentAfter x (λ o. o .shows) shows) made-is),
-                      ih ∙ sym (ap (λ (x : Outcome Output). lentAfter x (λ o. o .header) header) made-is),
-                    ),
-                  ),
-                ),
-              ),
-            ),
-          )
+      all-made r d′ i il ic ip ie iw ih =
+          let q = sequenceOf (b .header) points in
+          record {
+            answer = ap (λ (x : Counts). made x) (i ∙ counts-are) ∙ sym (ap countsOf made-is);
+            lent =
+                same-lent il ic
+                (ip ∙ sym (ap (pasted (d .pictures) 0) (picture-sent q (b .rewriting) new (allSegments s rs))))
+                (ie ∙ sym (ap (pasted (d .ends) 0) (ends-sent q (b .rewriting) new 0 (allSegments s rs))))
+                (iw ∙ sym (ap (pasted (d .shows) 0) (shows-slots q (b .rewriting) new (allSegments s rs))))
+                ih
+                ∙ sym (ap (λ (x : Outcome Output). lentAfter x d) made-is);
+          }

@@ -8,7 +8,8 @@ use lib.Dec.{leb, ltb}
 use Rattle.bitio.specs.Limits.{limit}
 use Rattle.bitio.specs.Lent.{pasted}
 use Rattle.pictures.specs.Assemble.{Outcome, stopped, Output}
-use Rattle.assemble.specs.Whole.{outcome}
+use Rattle.pictures.specs.Prepare.{Settings}
+use Rattle.assemble.specs.Whole.{Lent, outcome}
 use Rattle.assemble.specs.declared.segments.Segment.{Segment}
 
 -- the five numbers of a segment, as assembly reads them
@@ -33,9 +34,9 @@ unfoldable pub noRoom : List ℕ → Outcome Output
 noRoom s = pick (ltb limit (length s)) (stopped 34 none) (stopped 35 none)
 
 -- assembly from structs
-unfoldable pub recordsOutcome : (s : List ℕ) (xs : List Segment) (d : List ℕ) (gop fps den : ℕ) (list cues pictures ends shows header : List ℕ) → Outcome Output
-recordsOutcome s xs d gop fps den list cues pictures ends shows header =
-    pick (held (length xs) d) (outcome s (numbersOf xs) gop fps den list cues pictures ends shows header) (noRoom s)
+unfoldable pub recordsOutcome : (s : List ℕ) (xs : List Segment) (d : List ℕ) → Settings → Lent → Outcome Output
+recordsOutcome s xs d set l =
+    pick (held (length xs) d) (outcome s (numbersOf xs) set l) (noRoom s)
 
 -- ---- the parts of the code
 
@@ -44,6 +45,6 @@ abbrev pub copyCount : ℕ → ℕ → ℕ
 copyCount count room = pick (leb (5 * count) room) count 0
 
 -- assembly from the first count segments whose numbers stand in d, if it has room for so many
-unfoldable pub copiedOutcome : (s : List ℕ) (count : ℕ) (d : List ℕ) (gop fps den : ℕ) (list cues pictures ends shows header : List ℕ) → Outcome Output
-copiedOutcome s count d gop fps den list cues pictures ends shows header =
-    pick (held count d) (outcome s (take (5 * count) d) gop fps den list cues pictures ends shows header) (noRoom s)
+unfoldable pub copiedOutcome : (s : List ℕ) (count : ℕ) (d : List ℕ) → Settings → Lent → Outcome Output
+copiedOutcome s count d set l =
+    pick (held count d) (outcome s (take (5 * count) d) set l) (noRoom s)

@@ -1,4 +1,5 @@
 -- Assembly as the code decides it, stage by stage, before anything is written: each stage goes on to the end. Assumes nothing.
+use Rattle.blocks.specs.Numbers.{width}
 use Prim.Native.Nat.{ℕ, _+_, _*_, _/_}
 use mathlib.Core.Path.{_≡_}
 use mathlib.Core.List.{List}
@@ -119,8 +120,8 @@ needed gop s rs points new b n =
       units = length (listOf gop (framesIn rs));
       cues = length (cuesOf (listOf gop (framesIn rs)));
       picture = n;
-      ends = 2 * (length rs / 5);
-      shows = 5 * (length rs / 5);
+      ends = 2 * (length rs / width);
+      shows = 5 * (length rs / width);
       header = capped (length (headerIn s rs new b));
       «golden_slot» = orElse 0 (judged (sequenceOf (b .header) points) (b .rewriting) (firstKey s rs) (firstGolden s rs));
     }

@@ -1,8 +1,13 @@
 -- The whole of assembly, answered: its counts, and its outcome into lent slices. Assumes nothing.
 use Prim.Native.Nat.{ℕ}
+use mathlib.Core.Path.{_≡_}
 use mathlib.Core.List.{List}
 use mathlib.Core.Option.{none, some}
 use lib.ListN.{length}
+use denote.Ref.{RefT, now}
+use denote.Triple.Both.{Both}
+use Rattle.bitio.specs.Lent.{pasted}
+use Rattle.pictures.specs.declared.settings.Settings.{Settings}
 use Rattle.pictures.specs.Assemble.{Outcome, stopped, made, andAlso, Output, Room, assemble}
 use Rattle.assemble.specs.declared.multi.Counts.{Counts}
 use Rattle.assemble.specs.declared.multi.Assembled.{Assembled}
@@ -29,10 +34,51 @@ assembledSays (Made c) = made c
 assembledSays (AllRefused k) = stopped k none
 assembledSays (SegmentRefused k i) = stopped k (some i)
 
--- the outcome of assembly into these lent slices: the list, the cues, the picture bytes, their ends, the show bytes, the header OBU
-unfoldable pub outcome : (s rs : List ℕ) (gop fps den : ℕ) (list cues pictures ends shows header : List ℕ) → Outcome Output
-outcome s rs gop fps den list cues pictures ends shows header =
+-- the six lent slices, at one moment
+pub record Lent : Type 0 where
+  pub list : List ℕ
+  pub cues : List ℕ
+  pub pictures : List ℕ
+  pub ends : List ℕ
+  pub shows : List ℕ
+  pub header : List ℕ
+
+-- the outcome of assembly into these
+unfoldable pub outcome : List ℕ → List ℕ → Settings → Lent → Outcome Output
+outcome s rs set d =
     assemble
-    (record { list = length list; cues = length cues; picture = length pictures; ends = length ends; shows = length shows; header = length header })
-    (record { gop = gop; fps = fps; den = den })
-    s rs
+    (record { list = length (d .list); cues = length (d .cues); picture = length (d .pictures); ends = length (d .ends); shows = length (d .shows); header = length (d .header) })
+    set s rs
+
+-- what they hold afterwards: what was put at their heads, or what they held
+abbrev pub lentAfter : Outcome Output → Lent → Lent
+lentAfter (stopped n i) d = d
+lentAfter (made o) d =
+    record {
+      list = pasted (d .list) 0 (o .list);
+      cues = pasted (d .cues) 0 (o .cues);
+      pictures = pasted (d .pictures) 0 (o .picture);
+      ends = pasted (d .ends) 0 (o .ends);
+      shows = pasted (d .shows) 0 (o .shows);
+      header = pasted (d .header) 0 (o .header);
+    }
+
+-- a lent slice at a function's entry and exit, and the six
+abbrev pub Slice : Type 0
+Slice = Both (RefT (List ℕ)) (RefT (List ℕ))
+
+abbrev pub six : (list cues pictures ends shows header : RefT (List ℕ)) → Lent
+six list cues pictures ends shows header =
+    record { list = now list; cues = now cues; pictures = now pictures; ends = now ends; shows = now shows; header = now header }
+
+abbrev pub slices : (list cues pictures ends shows header : Slice) → Both Lent Lent
+slices list cues pictures ends shows header =
+    record {
+      entry = six (list .entry) (cues .entry) (pictures .entry) (ends .entry) (shows .entry) (header .entry);
+      exit = six (list .exit) (cues .exit) (pictures .exit) (ends .exit) (shows .exit) (header .exit);
+    }
+
+-- the answer, and the lent slices at exit, by the outcome into what they were at entry
+pub record Handed (x : Lent → Outcome Output) (r : Assembled) (d : Both Lent Lent) : Type 0 where
+  pub answer : assembledSays r ≡ countsOf (x (d .entry))
+  pub lent : d .exit ≡ lentAfter (x (d .entry)) (d .entry)

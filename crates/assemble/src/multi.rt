@@ -1,4 +1,5 @@
 // Assembly (assemble_multi, decoder_model false): segments in, the unit list and the cue list out.
+ghost use Rattle.blocks.specs.Numbers.{width};
 ghost use mathlib.Core.Path.{_≡_};
 ghost use Prim.Native.Nat.{_+_, _≤_};
 ghost use lib.ListN.{length};
@@ -8,13 +9,13 @@ ghost use Rattle.blocks.specs.Blocks.{total};
 ghost use Rattle.blocks.specs.Lay.{framesIn};
 ghost use Rattle.pictures.specs.Code.{judged, orElse, capped};
 ghost use Rattle.assemble.specs.Stages.{firstKey, firstGolden, ownIn, headerIn, needed, fitsIn, roomOf};
-ghost use Rattle.pictures.specs.Assemble.{lentAfter};
-ghost use Rattle.assemble.specs.Whole.{assembledSays, countsOf, outcome};
+ghost use Rattle.assemble.specs.Whole.{outcome, slices, Handed};
 use crate::plan::Basis;
 use crate::plan::Planned;
 use crate::plan::plan_multi;
 use blocks::blocks::count_cues;
 use blocks::blocks::put_list;
+use blocks::numbers::WIDTH;
 use header::seq_header::OperatingPoint;
 use obu::reader::payload;
 use obu::writer::obu_len;
@@ -23,6 +24,7 @@ use pictures::pictures::put_pictures;
 use pictures::pictures::put_shows;
 use pictures::pictures::slot_or_zero;
 use pictures::pictures::unit_at;
+use pictures::settings::Settings;
 use pictures::sizes::total_frames;
 
 // How much was written to each lent slice, and the first golden slot.
@@ -46,7 +48,7 @@ pub enum Assembled {
 
 // The slot that the show units of the first segment name.
 fn first_slot(picture: &[u8], segments: &[u64], basis: Basis, points: [OperatingPoint; 32]) -> u64
-    requires { ⌜ 5 ≤ length (now segments) ⌝ }
+    requires { ⌜ width ≤ length (now segments) ⌝ }
     ensures { λ r. ⌜ r ≡ orElse 0 (judged (sequenceOf (basis .header) points) (basis .rewriting) (firstKey (now (picture .entry)) (now (segments .entry))) (firstGolden (now (picture .entry)) (now (segments .entry)))) ⌝ }
 {
     let key = unit_at(picture, segments, 0);
@@ -57,7 +59,7 @@ fn first_slot(picture: &[u8], segments: &[u64], basis: Basis, points: [Operating
 
 // The payload of the first key's own sequence header.
 fn own_payload<'a, 'b>(picture: &'a [u8], segments: &'b [u64], basis: Basis) -> &'a [u8]
-    requires { ⌜ 5 ≤ length (now segments) ⌝ }
+    requires { ⌜ width ≤ length (now segments) ⌝ }
     ensures { λ r. ⌜ now r ≡ ownIn (now (picture .entry)) (now (segments .entry)) basis ⌝ }
 {
     payload(unit_at(picture, segments, 0), basis.start, basis.end)
@@ -65,7 +67,7 @@ fn own_payload<'a, 'b>(picture: &'a [u8], segments: &'b [u64], basis: Basis) -> 
 
 // How many bytes the sequence header OBU handed out has, as far as a usize counts them.
 fn header_len(picture: &[u8], segments: &[u64], new: &[u8], basis: Basis) -> usize
-    requires { ⌜ 5 ≤ length (now segments) ⌝ }
+    requires { ⌜ width ≤ length (now segments) ⌝ }
     ensures { λ r. ⌜ r ≡ capped (length (headerIn (now (picture .entry)) (now (segments .entry)) (now (new .entry)) basis)) ⌝ }
 {
     let extension = basis.extension;
@@ -77,7 +79,7 @@ fn header_len(picture: &[u8], segments: &[u64], new: &[u8], basis: Basis) -> usi
 
 // Writes that OBU, where its room is known.
 fn put_header(out: &mut [u8], picture: &[u8], segments: &[u64], new: &[u8], basis: Basis)
-    requires some { ⌜ 5 ≤ length (now segments) ⌝ }
+    requires some { ⌜ width ≤ length (now segments) ⌝ }
     requires room { ⌜ length (headerIn (now picture) (now segments) (now new) basis) ≤ length (now out) ⌝ }
     ensures { λ _. ⌜ now (out .exit) ≡ pasted (now (out .entry)) 0 (headerIn (now (picture .entry)) (now (segments .entry)) (now (new .entry)) basis) ⌝ }
 {
@@ -100,11 +102,11 @@ fn count_all(
     bytes: usize,
 ) -> Counts
     requires gop { ⌜ 1 ≤ gop ⌝ }
-    requires some { ⌜ 5 ≤ length (now segments) ⌝ }
+    requires some { ⌜ width ≤ length (now segments) ⌝ }
     requires small { ⌜ total (framesIn (now segments)) ≤ 5000000 ⌝ }
     ensures { λ r. ⌜ r ≡ needed gop (now (picture .entry)) (now (segments .entry)) points (now (new .entry)) basis bytes ⌝ }
 {
-    let count = segments.len() / 5;
+    let count = segments.len() / WIDTH;
     Counts {
         units: total_frames(segments) as usize,
         cues: count_cues(gop, segments),
@@ -150,9 +152,7 @@ fn fits_room(
 pub fn assemble_multi(
     picture: &[u8],
     segments: &[u64],
-    gop_size: u64,
-    fps: u32,
-    fps_den: u32,
+    settings: Settings,
     list: &mut [u32],
     cues: &mut [u32],
     pictures: &mut [u8],
@@ -160,15 +160,9 @@ pub fn assemble_multi(
     shows: &mut [u8],
     header: &mut [u8],
 ) -> Assembled
-    ensures answer { λ r. ⌜ assembledSays r ≡ countsOf (outcome (now (picture .entry)) (now (segments .entry)) «gop_size» fps «fps_den» (now (list .entry)) (now (cues .entry)) (now (pictures .entry)) (now (ends .entry)) (now (shows .entry)) (now (header .entry))) ⌝ }
-    ensures list { λ _. ⌜ now (list .exit) ≡ lentAfter (outcome (now (picture .entry)) (now (segments .entry)) «gop_size» fps «fps_den» (now (list .entry)) (now (cues .entry)) (now (pictures .entry)) (now (ends .entry)) (now (shows .entry)) (now (header .entry))) (λ o. o .list) (now (list .entry)) ⌝ }
-    ensures cues { λ _. ⌜ now (cues .exit) ≡ lentAfter (outcome (now (picture .entry)) (now (segments .entry)) «gop_size» fps «fps_den» (now (list .entry)) (now (cues .entry)) (now (pictures .entry)) (now (ends .entry)) (now (shows .entry)) (now (header .entry))) (λ o. o .cues) (now (cues .entry)) ⌝ }
-    ensures pictures { λ _. ⌜ now (pictures .exit) ≡ lentAfter (outcome (now (picture .entry)) (now (segments .entry)) «gop_size» fps «fps_den» (now (list .entry)) (now (cues .entry)) (now (pictures .entry)) (now (ends .entry)) (now (shows .entry)) (now (header .entry))) (λ o. o .picture) (now (pictures .entry)) ⌝ }
-    ensures ends { λ _. ⌜ now (ends .exit) ≡ lentAfter (outcome (now (picture .entry)) (now (segments .entry)) «gop_size» fps «fps_den» (now (list .entry)) (now (cues .entry)) (now (pictures .entry)) (now (ends .entry)) (now (shows .entry)) (now (header .entry))) (λ o. o .ends) (now (ends .entry)) ⌝ }
-    ensures shows { λ _. ⌜ now (shows .exit) ≡ lentAfter (outcome (now (picture .entry)) (now (segments .entry)) «gop_size» fps «fps_den» (now (list .entry)) (now (cues .entry)) (now (pictures .entry)) (now (ends .entry)) (now (shows .entry)) (now (header .entry))) (λ o. o .shows) (now (shows .entry)) ⌝ }
-    ensures header { λ _. ⌜ now (header .exit) ≡ lentAfter (outcome (now (picture .entry)) (now (segments .entry)) «gop_size» fps «fps_den» (now (list .entry)) (now (cues .entry)) (now (pictures .entry)) (now (ends .entry)) (now (shows .entry)) (now (header .entry))) (λ o. o .header) (now (header .entry)) ⌝ }
+    ensures { λ r. ⌜ Handed (outcome (now (picture .entry)) (now (segments .entry)) settings) r (slices list cues pictures ends shows header) ⌝ }
 {
-    let plan = plan_multi(picture, segments, gop_size, fps, fps_den);
+    let plan = plan_multi(picture, segments, settings);
     let points = plan.points;
     let array = plan.new;
     let answer = plan.answer;
@@ -176,13 +170,14 @@ pub fn assemble_multi(
         Planned::Refused(k) => Assembled::Refused(k),
         Planned::RefusedIn(k, i) => Assembled::RefusedIn(k, i),
         Planned::Ready(basis, bytes) => {
+            let gop = settings.gop;
             let new = payload(&array, 0, basis.new_len);
             let going = basis.header;
-            let need = count_all(picture, segments, gop_size, basis, points, new, bytes);
+            let need = count_all(picture, segments, gop, basis, points, new, bytes);
             if !fits_room(need, list, cues, pictures, ends, shows, header) {
                 return Assembled::Refused(35);
             }
-            put_list(list, cues, gop_size, segments);
+            put_list(list, cues, gop, segments);
             put_pictures(pictures, ends, picture, segments, new, basis.rewriting);
             put_shows(shows, picture, segments, going, points, basis.rewriting);
             put_header(header, picture, segments, new, basis);

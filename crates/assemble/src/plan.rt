@@ -1,4 +1,5 @@
 // What is decided before anything is written: the refusals in 01's order, and what the units are written from.
+ghost use Rattle.blocks.specs.Numbers.{width};
 ghost use mathlib.Core.Path.{_≡_};
 ghost use mathlib.Core.Bool.{true};
 ghost use mathlib.Core.Option.{none};
@@ -31,6 +32,7 @@ use pictures::headers::same_headers;
 use pictures::pictures::Measured;
 use pictures::pictures::measure_pictures;
 use pictures::pictures::unit_at;
+use pictures::settings::Settings;
 use pictures::sizes::Checked;
 use pictures::sizes::check_ranges;
 use pictures::sizes::check_sizes;
@@ -184,7 +186,7 @@ fn plan_timing(
 
 // The first key's header, 14 to 20, and the same in later keys: 1 to 5, 27.
 fn plan_header(picture: &[u8], segments: &[u64], obu: Obu, fps: u32, fps_den: u32) -> Plan
-    requires some { ⌜ 5 ≤ length (now segments) ⌝ }
+    requires some { ⌜ width ≤ length (now segments) ⌝ }
     requires sequence { ⌜ obu .«obu_type» ≡ 1 ⌝ }
     ensures { λ r. ⌜ planSays (now (picture .entry)) (now (segments .entry)) r ≡ fromHeader (now (picture .entry)) (now (segments .entry)) (rateOf fps «fps_den») (obuIn (firstKey (now (picture .entry)) (now (segments .entry))) obu) ⌝ }
 {
@@ -204,15 +206,15 @@ fn plan_header(picture: &[u8], segments: &[u64], obu: Obu, fps: u32, fps_den: u3
 }
 
 // All that comes before 35.
-pub(crate) fn plan_multi(picture: &[u8], segments: &[u64], gop: u64, fps: u32, fps_den: u32) -> Plan
-    ensures { λ r. ⌜ planSays (now (picture .entry)) (now (segments .entry)) r ≡ planned (now (picture .entry)) (now (segments .entry)) (record { gop = gop; fps = fps; den = «fps_den» }) ⌝ }
+pub(crate) fn plan_multi(picture: &[u8], segments: &[u64], settings: Settings) -> Plan
+    ensures { λ r. ⌜ planSays (now (picture .entry)) (now (segments .entry)) r ≡ planned (now (picture .entry)) (now (segments .entry)) settings ⌝ }
 {
-    match check_input(picture, segments, gop) {
+    match check_input(picture, segments, settings.gop) {
         Checked::Refused(k) => no_plan(Planned::Refused(k as u64)),
         Checked::RefusedIn(k, i) => no_plan(Planned::RefusedIn(k as u64, i)),
         Checked::Fit => match first_sequence(unit_at(picture, segments, 0)) {
             FoundObu::Refused(k) => no_plan(Planned::RefusedIn(k as u64, 0)),
-            FoundObu::Found(obu) => plan_header(picture, segments, obu, fps, fps_den),
+            FoundObu::Found(obu) => plan_header(picture, segments, obu, settings.fps, settings.den),
         },
     }
 }

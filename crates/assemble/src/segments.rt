@@ -4,11 +4,11 @@ ghost use mathlib.Core.Path.{_≡_};
 ghost use Prim.Native.Nat.{_+_, _≤_};
 ghost use lib.ListN.{length};
 ghost use Rattle.bitio.specs.Lent.{pasted};
-ghost use Rattle.pictures.specs.Assemble.{lentAfter};
-ghost use Rattle.assemble.specs.Whole.{assembledSays, countsOf};
+ghost use Rattle.assemble.specs.Whole.{slices, Handed};
 ghost use Rattle.assemble.specs.Records.{fiveOf, copyCount, numbersAfter, copiedOutcome, recordsOutcome};
 use crate::multi::Assembled;
 use crate::multi::assemble_multi;
+use pictures::settings::Settings;
 
 // Where its key and its golden lie in the picture bytes, and its frames.
 pub struct Segment {
@@ -71,14 +71,8 @@ fn assemble_copied(
     shows: &mut [u8],
     header: &mut [u8],
 ) -> Assembled
-    ensures answer { λ r. ⌜ assembledSays r ≡ countsOf (copiedOutcome (now (picture .entry)) count (now (numbers .entry)) «gop_size» fps «fps_den» (now (list .entry)) (now (cues .entry)) (now (pictures .entry)) (now (ends .entry)) (now (shows .entry)) (now (header .entry))) ⌝ }
+    ensures handed { λ r. ⌜ Handed (copiedOutcome (now (picture .entry)) count (now (numbers .entry)) (record { gop = «gop_size»; fps = fps; den = «fps_den» })) r (slices list cues pictures ends shows header) ⌝ }
     ensures numbers { λ _. ⌜ now (numbers .exit) ≡ now (numbers .entry) ⌝ }
-    ensures list { λ _. ⌜ now (list .exit) ≡ lentAfter (copiedOutcome (now (picture .entry)) count (now (numbers .entry)) «gop_size» fps «fps_den» (now (list .entry)) (now (cues .entry)) (now (pictures .entry)) (now (ends .entry)) (now (shows .entry)) (now (header .entry))) (λ o. o .list) (now (list .entry)) ⌝ }
-    ensures cues { λ _. ⌜ now (cues .exit) ≡ lentAfter (copiedOutcome (now (picture .entry)) count (now (numbers .entry)) «gop_size» fps «fps_den» (now (list .entry)) (now (cues .entry)) (now (pictures .entry)) (now (ends .entry)) (now (shows .entry)) (now (header .entry))) (λ o. o .cues) (now (cues .entry)) ⌝ }
-    ensures pictures { λ _. ⌜ now (pictures .exit) ≡ lentAfter (copiedOutcome (now (picture .entry)) count (now (numbers .entry)) «gop_size» fps «fps_den» (now (list .entry)) (now (cues .entry)) (now (pictures .entry)) (now (ends .entry)) (now (shows .entry)) (now (header .entry))) (λ o. o .picture) (now (pictures .entry)) ⌝ }
-    ensures ends { λ _. ⌜ now (ends .exit) ≡ lentAfter (copiedOutcome (now (picture .entry)) count (now (numbers .entry)) «gop_size» fps «fps_den» (now (list .entry)) (now (cues .entry)) (now (pictures .entry)) (now (ends .entry)) (now (shows .entry)) (now (header .entry))) (λ o. o .ends) (now (ends .entry)) ⌝ }
-    ensures shows { λ _. ⌜ now (shows .exit) ≡ lentAfter (copiedOutcome (now (picture .entry)) count (now (numbers .entry)) «gop_size» fps «fps_den» (now (list .entry)) (now (cues .entry)) (now (pictures .entry)) (now (ends .entry)) (now (shows .entry)) (now (header .entry))) (λ o. o .shows) (now (shows .entry)) ⌝ }
-    ensures header { λ _. ⌜ now (header .exit) ≡ lentAfter (copiedOutcome (now (picture .entry)) count (now (numbers .entry)) «gop_size» fps «fps_den» (now (list .entry)) (now (cues .entry)) (now (pictures .entry)) (now (ends .entry)) (now (shows .entry)) (now (header .entry))) (λ o. o .header) (now (header .entry)) ⌝ }
 {
     if count > numbers.len() / 5 {
         if picture.len() > 4_000_000_000 {
@@ -89,9 +83,11 @@ fn assemble_copied(
     assemble_multi(
         picture,
         &numbers[0..5 * count],
-        gop_size,
-        fps,
-        fps_den,
+        Settings {
+            gop: gop_size,
+            fps: fps,
+            den: fps_den,
+        },
         list,
         cues,
         pictures,
@@ -117,14 +113,8 @@ pub fn assemble_segments(
     shows: &mut [u8],
     header: &mut [u8],
 ) -> Assembled
-    ensures answer { λ r. ⌜ assembledSays r ≡ countsOf (recordsOutcome (now (picture .entry)) (now (segments .entry)) (now (numbers .entry)) «gop_size» fps «fps_den» (now (list .entry)) (now (cues .entry)) (now (pictures .entry)) (now (ends .entry)) (now (shows .entry)) (now (header .entry))) ⌝ }
+    ensures handed { λ r. ⌜ Handed (recordsOutcome (now (picture .entry)) (now (segments .entry)) (now (numbers .entry)) (record { gop = «gop_size»; fps = fps; den = «fps_den» })) r (slices list cues pictures ends shows header) ⌝ }
     ensures numbers { λ _. ⌜ now (numbers .exit) ≡ numbersAfter (now (segments .entry)) (now (numbers .entry)) ⌝ }
-    ensures list { λ _. ⌜ now (list .exit) ≡ lentAfter (recordsOutcome (now (picture .entry)) (now (segments .entry)) (now (numbers .entry)) «gop_size» fps «fps_den» (now (list .entry)) (now (cues .entry)) (now (pictures .entry)) (now (ends .entry)) (now (shows .entry)) (now (header .entry))) (λ o. o .list) (now (list .entry)) ⌝ }
-    ensures cues { λ _. ⌜ now (cues .exit) ≡ lentAfter (recordsOutcome (now (picture .entry)) (now (segments .entry)) (now (numbers .entry)) «gop_size» fps «fps_den» (now (list .entry)) (now (cues .entry)) (now (pictures .entry)) (now (ends .entry)) (now (shows .entry)) (now (header .entry))) (λ o. o .cues) (now (cues .entry)) ⌝ }
-    ensures pictures { λ _. ⌜ now (pictures .exit) ≡ lentAfter (recordsOutcome (now (picture .entry)) (now (segments .entry)) (now (numbers .entry)) «gop_size» fps «fps_den» (now (list .entry)) (now (cues .entry)) (now (pictures .entry)) (now (ends .entry)) (now (shows .entry)) (now (header .entry))) (λ o. o .picture) (now (pictures .entry)) ⌝ }
-    ensures ends { λ _. ⌜ now (ends .exit) ≡ lentAfter (recordsOutcome (now (picture .entry)) (now (segments .entry)) (now (numbers .entry)) «gop_size» fps «fps_den» (now (list .entry)) (now (cues .entry)) (now (pictures .entry)) (now (ends .entry)) (now (shows .entry)) (now (header .entry))) (λ o. o .ends) (now (ends .entry)) ⌝ }
-    ensures shows { λ _. ⌜ now (shows .exit) ≡ lentAfter (recordsOutcome (now (picture .entry)) (now (segments .entry)) (now (numbers .entry)) «gop_size» fps «fps_den» (now (list .entry)) (now (cues .entry)) (now (pictures .entry)) (now (ends .entry)) (now (shows .entry)) (now (header .entry))) (λ o. o .shows) (now (shows .entry)) ⌝ }
-    ensures header { λ _. ⌜ now (header .exit) ≡ lentAfter (recordsOutcome (now (picture .entry)) (now (segments .entry)) (now (numbers .entry)) «gop_size» fps «fps_den» (now (list .entry)) (now (cues .entry)) (now (pictures .entry)) (now (ends .entry)) (now (shows .entry)) (now (header .entry))) (λ o. o .header) (now (header .entry)) ⌝ }
 {
     let count = copy_segments(segments, &mut *numbers);
     assemble_copied(

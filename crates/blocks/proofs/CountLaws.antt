@@ -1,4 +1,5 @@
 -- Laws of cues counted: as many as key units, wherever they stand. Assumes nothing.
+use Rattle.blocks.specs.Numbers.{width}
 use Prim.Native.Nat.{ℕ, suc, _+_, _*_, _-_, _/_, _%_, _≤_, _<_, min}
 use native.Mathlib.Omega.{arith}
 use native.Mathlib.Numerals.{add-one}
@@ -117,12 +118,12 @@ module _ {gop frames left n : ℕ} {after : Bool} (s : Counting gop frames left 
 -- ---- all segments' cues
 
 pub record CountingAll (gop : ℕ) (rs : List ℕ) (i n : ℕ) : Type 0 where
-  pub within : i ≤ length rs / 5
+  pub within : i ≤ length rs / width
   pub sum : n + count (from gop rs i) ≡ count (listOf gop (framesIn rs))
 
 pub all-start : (gop : ℕ) (rs : List ℕ) → CountingAll gop rs 0 0
 all-start gop rs =
-    let z : length rs / 5 - 0 ≡ length rs / 5 = omega arith in
+    let z : length rs / width - 0 ≡ length rs / width = omega arith in
     record { within = omega arith; sum = omega (arith, ap (λ (m : ℕ). count (map number (layout gop 0 (framesFrom m rs)))) z) }
 
 pub all-most : (gop : ℕ) (rs : List ℕ) → 1 ≤ gop → count (listOf gop (framesIn rs)) ≤ total (framesIn rs)
@@ -130,21 +131,21 @@ all-most gop rs g =
     omega (arith, count-most isKeyEntry 1 (listOf gop (framesIn rs)), length-map (layout gop 0 (framesIn rs)) number, length-layout gop 0 (framesIn rs) g)
 
 module _ {gop : ℕ} {rs : List ℕ} {i n : ℕ} (s : CountingAll gop rs i n) where
-  pub all-end : length rs / 5 ≤ i → n ≡ count (listOf gop (framesIn rs))
+  pub all-end : length rs / width ≤ i → n ≡ count (listOf gop (framesIn rs))
   all-end h =
       let e : count (from gop rs i) ≡ 0 =
-      ap (λ (l : List ℕ). count (map number (layout gop i l))) (frames-none (length rs / 5) i (drop (5 * i) rs) h) ∙ ap count (list-none gop i) ∙ count-none in
+      ap (λ (l : List ℕ). count (map number (layout gop i l))) (frames-none (length rs / width) i (drop (width * i) rs) h) ∙ ap count (list-none gop i) ∙ count-none in
       omega (arith, s .sum, e)
 
-  module _ (h : i < length rs / 5) where
+  module _ (h : i < length rs / width) where
     abbrev mine : ℕ
-    mine = count (entriesOf 0 (kinds gop (getD rs (5 * i + 4) 0)))
+    mine = count (entriesOf 0 (kinds gop (getD rs (width * i + 4) 0)))
 
     parts : count (from gop rs i) ≡ mine + count (from gop rs (i + 1))
     parts =
-        let frames = getD rs (5 * i + 4) 0 in
-        let ns = framesFrom (length rs / 5 - (i + 1)) (drop (5 * (i + 1)) rs) in
-        let a = ap (λ (l : List ℕ). count (map number (layout gop i l))) (frames-more (length rs / 5) i rs h) in
+        let frames = getD rs (width * i + 4) 0 in
+        let ns = framesFrom (length rs / width - (i + 1)) (drop (width * (i + 1)) rs) in
+        let a = ap (λ (l : List ℕ). count (map number (layout gop i l))) (frames-more (length rs / width) i rs h) in
         let b = ap count (list-more gop i frames ns) in
         let k = count-append (entriesOf i (kinds gop frames)) (map number (layout gop (suc i) ns)) in
         let m = count-segment i (kinds gop frames) in

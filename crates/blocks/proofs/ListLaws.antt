@@ -1,4 +1,5 @@
 -- Laws of the list of all segments, laid out one segment after the other. Assumes nothing.
+use Rattle.blocks.specs.Numbers.{width}
 use Prim.Native.Nat.{ℕ, suc, _+_, _*_, _-_, _/_, _≤_, _<_}
 use native.Mathlib.Omega.{arith}
 use native.Mathlib.Numerals.{add-one}
@@ -25,13 +26,13 @@ unfolding layout
 list-none gop i = refl
 
 -- the frames of segment i and of those behind it
-pub frames-more : (k i : ℕ) (rs : List ℕ) → i < k → framesFrom (k - i) (drop (5 * i) rs) ≡ getD rs (5 * i + 4) 0 ∷ framesFrom (k - (i + 1)) (drop (5 * (i + 1)) rs)
+pub frames-more : (k i : ℕ) (rs : List ℕ) → i < k → framesFrom (k - i) (drop (width * i) rs) ≡ getD rs (width * i + 4) 0 ∷ framesFrom (k - (i + 1)) (drop (width * (i + 1)) rs)
 unfolding framesFrom
 frames-more k i rs h =
     let a : k - i ≡ suc (k - (i + 1)) = omega arith in
-    let b : 5 * i + 5 ≡ 5 * (i + 1) = omega arith in
-    ap (λ (m : ℕ). framesFrom m (drop (5 * i) rs)) a
-    ∙ ap₂ (λ (x : ℕ) (l : List ℕ). x ∷ framesFrom (k - (i + 1)) l) (getD-drop (5 * i) rs 4 0) (drop-drop 5 (5 * i) rs ∙ ap (λ (m : ℕ). drop m rs) b)
+    let b : width * i + width ≡ width * (i + 1) = omega arith in
+    ap (λ (m : ℕ). framesFrom m (drop (width * i) rs)) a
+    ∙ ap₂ (λ (x : ℕ) (l : List ℕ). x ∷ framesFrom (k - (i + 1)) l) (getD-drop (width * i) rs 4 0) (drop-drop width (width * i) rs ∙ ap (λ (m : ℕ). drop m rs) b)
 
 pub frames-none : (k i : ℕ) (l : List ℕ) → k ≤ i → framesFrom (k - i) l ≡ []
 unfolding framesFrom
@@ -39,16 +40,16 @@ frames-none k i l h = let a : k - i ≡ 0 = omega arith in ap (λ (m : ℕ). fra
 
 -- the entries of the segments from i on
 abbrev pub from : ℕ → List ℕ → ℕ → List ℕ
-from gop rs i = map number (layout gop i (framesFrom (length rs / 5 - i) (drop (5 * i) rs)))
+from gop rs i = map number (layout gop i (framesFrom (length rs / width - i) (drop (width * i) rs)))
 
 -- i segments are laid out
 pub record Listing (d₀ e₀ : List ℕ) (gop : ℕ) (rs d e : List ℕ) (i at c : ℕ) : Type 0 where
-  pub within : i ≤ length rs / 5
+  pub within : i ≤ length rs / width
   pub laying : Laying d₀ e₀ 0 0 (listOf gop (framesIn rs)) d e at c (from gop rs i)
 
 pub list-start : (d e : List ℕ) (gop : ℕ) (rs : List ℕ) → CanLayAll d e gop rs → Listing d e gop rs d e 0 0 0
 list-start d e gop rs h =
-    let z : length rs / 5 ≡ length rs / 5 - 0 = omega arith in
+    let z : length rs / width ≡ length rs / width - 0 = omega arith in
     let all = listOf gop (framesIn rs) in
     record {
       within = omega arith;
@@ -56,23 +57,23 @@ list-start d e gop rs h =
     }
 
 module _ {d₀ e₀ : List ℕ} {gop : ℕ} {rs d e : List ℕ} {i at c : ℕ} (s : Listing d₀ e₀ gop rs d e i at c) where
-  pub list-end : length rs / 5 ≤ i → Laid d₀ e₀ d e 0 0 c (listOf gop (framesIn rs))
+  pub list-end : length rs / width ≤ i → Laid d₀ e₀ d e 0 0 c (listOf gop (framesIn rs))
   list-end h =
       laying-end (from gop rs i) (s .laying)
-      (ap (λ (l : List ℕ). map number (layout gop i l)) (frames-none (length rs / 5) i (drop (5 * i) rs) h) ∙ list-none gop i)
+      (ap (λ (l : List ℕ). map number (layout gop i l)) (frames-none (length rs / width) i (drop (width * i) rs) h) ∙ list-none gop i)
 
-  module _ (h : i < length rs / 5) where
+  module _ (h : i < length rs / width) where
     abbrev frames : ℕ
-    frames = getD rs (5 * i + 4) 0
+    frames = getD rs (width * i + 4) 0
 
     abbrev front : List ℕ
     front = entriesOf i (kinds gop frames)
 
     split : from gop rs i ≡ front ++ from gop rs (i + 1)
     split =
-        ap (λ (l : List ℕ). map number (layout gop i l)) (frames-more (length rs / 5) i rs h)
-        ∙ list-more gop i frames (framesFrom (length rs / 5 - (i + 1)) (drop (5 * (i + 1)) rs))
-        ∙ ap (λ (k : ℕ). front ++ map number (layout gop k (framesFrom (length rs / 5 - (i + 1)) (drop (5 * (i + 1)) rs)))) (sym (add-one i))
+        ap (λ (l : List ℕ). map number (layout gop i l)) (frames-more (length rs / width) i rs h)
+        ∙ list-more gop i frames (framesFrom (length rs / width - (i + 1)) (drop (width * (i + 1)) rs))
+        ∙ ap (λ (k : ℕ). front ++ map number (layout gop k (framesFrom (length rs / width - (i + 1)) (drop (width * (i + 1)) rs)))) (sym (add-one i))
 
     here : Laying d₀ e₀ 0 0 (listOf gop (framesIn rs)) d e at c (front ++ from gop rs (i + 1))
     here = subst (λ (l : List ℕ). Laying d₀ e₀ 0 0 (listOf gop (framesIn rs)) d e at c l) split (s .laying)

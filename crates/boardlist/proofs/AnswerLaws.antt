@@ -8,14 +8,15 @@ use lib.ListN.{length, take}
 use Rattle.bitio.specs.Parse.{Answer, accepted}
 use Rattle.bitio.specs.Lent.{pasted, placed, lent}
 use Rattle.bitio.proofs.LentLaws.{pasted-take-end, pasted-length, placed-says-room}
-use Rattle.pictures.specs.Assemble.{Outcome, stopped, made, andAlso, Output, lentAfter}
-use Rattle.assemble.specs.Whole.{counts, countsOf, outcome}
+use Rattle.pictures.specs.Assemble.{Outcome, stopped, made, andAlso, Output}
+use Rattle.assemble.specs.Whole.{counts, countsOf, Lent, outcome, lentAfter, Handed}
 use Rattle.assemble.specs.declared.multi.Counts.{Counts}
+use Rattle.assemble.specs.declared.multi.Assembled.the-variants.{Made}
 use Rattle.listing.specs.File.{Reading, bad, full, read, pictureCount, numbersOf, readInto, numbersAfter}
 use Rattle.listing.specs.Text.{listing, refusedText, refusedInText, badFile}
 use Rattle.listing.specs.declared.file.Layout.{Layout}
 use Rattle.listing.proofs.FileLaws.{ReadIs, read-is}
-use Rattle.boardlist.specs.Printed.{textOf, between, madeText, CountsFit, LayoutFits, assembly, printedOf, printed}
+use Rattle.boardlist.specs.Printed.{textOf, between, madeText, CountsFit, LayoutFits, settingsOf, printedOf, printed}
 use Rattle.boardlist.proofs.MadeLaws.{Held}
 
 -- the same text by another name
@@ -34,35 +35,26 @@ head-room d xs n e h = omega (arith, pasted-length d 0 xs (omega arith))
 -- ---- assembly's answers
 
 -- lent memory after an accepted assembly holds what its counts say
-pub made-is : (x : Outcome Output) (c : Counts) (list pictures ends shows : List ℕ) {list′ pictures′ ends′ shows′ : List ℕ}
-    → ((o : Output) → x ≡ made o → Held o list pictures ends shows) → made c ≡ countsOf x
-    → list′ ≡ lentAfter x (λ o. o .list) list → pictures′ ≡ lentAfter x (λ o. o .picture) pictures → ends′ ≡ lentAfter x (λ o. o .ends) ends
-    → shows′ ≡ lentAfter x (λ o. o .shows) shows
-    → CountsFit c list′ pictures′ ends′ shows′ × (madeText c list′ pictures′ ends′ shows′ ≡ textOf x)
+pub made-is : (x : Lent → Outcome Output) (c : Counts) (d d′ : Lent) → ((o : Output) → x d ≡ made o → Held o d) → Handed x (Made c) (record { entry = d; exit = d′ })
+    → CountsFit c (d′ .list) (d′ .pictures) (d′ .ends) (d′ .shows) × (madeText c (d′ .list) (d′ .pictures) (d′ .ends) (d′ .shows) ≡ textOf (x d))
 unfolding andAlso
-made-is (stopped n i) c list pictures ends shows held e p q r s = let z : _≡_ {A = ℕ} 0 1 = cc in absurd (omega arith)
-made-is (made o) c list pictures ends shows {list′} {pictures′} {ends′} {shows′} held e p q r s =
-    let w : c ≡ counts o = cc in
-    let h = held o refl in
-    let a : c .units ≡ length (o .list) = ap (λ (k : Counts). k .units) w in
-    let b : c .picture ≡ length (o .picture) = ap (λ (k : Counts). k .picture) w in
-    let f : c .ends ≡ length (o .ends) = ap (λ (k : Counts). k .ends) w in
-    let g : c .shows ≡ length (o .shows) = ap (λ (k : Counts). k .shows) w in
-    let l : between 0 (c .units) list′ ≡ o .list = ap (between 0 (c .units)) p ∙ front-is list (o .list) (c .units) a (h .list-room) in
-    let m : between 0 (c .picture) pictures′ ≡ o .picture = ap (between 0 (c .picture)) q ∙ front-is pictures (o .picture) (c .picture) b (h .picture-room) in
-    let n : between 0 (c .ends) ends′ ≡ o .ends = ap (between 0 (c .ends)) r ∙ front-is ends (o .ends) (c .ends) f (h .ends-room) in
-    let t : between 0 (c .shows) shows′ ≡ o .shows = ap (between 0 (c .shows)) s ∙ front-is shows (o .shows) (c .shows) g (h .shows-room) in
-    let u : c .cues ≡ length (o .cues) = ap (λ (k : Counts). k .cues) w in (
-      record {
-        units = rw p (head-room list (o .list) (c .units) a (h .list-room));
-        picture = rw q (head-room pictures (o .picture) (c .picture) b (h .picture-room));
-        ends-there = rw r (head-room ends (o .ends) (c .ends) f (h .ends-room));
-        shows-there = rw s (head-room shows (o .shows) (c .shows) g (h .shows-room));
-      },
-      ap₂ (λ (x : List ℕ) (k : ℕ). listing x k (between 0 (c .picture) pictures′) (between 0 (c .ends) ends′) (between 0 (c .shows) shows′)) l u
-          ∙ ap₂ (λ (x y : List ℕ). listing (o .list) (length (o .cues)) x y (between 0 (c .shows) shows′)) m n
-          ∙ ap (λ (x : List ℕ). listing (o .list) (length (o .cues)) (o .picture) (o .ends) x) t,
-    )
+made-is x c d d′ held w = go (x d) held (w .answer) (w .lent)
+  where
+    go : (y : Outcome Output) → ((o : Output) → y ≡ made o → Held o d) → made c ≡ countsOf y → d′ ≡ lentAfter y d
+        → CountsFit c (d′ .list) (d′ .pictures) (d′ .ends) (d′ .shows) × (madeText c (d′ .list) (d′ .pictures) (d′ .ends) (d′ .shows) ≡ textOf y)
+    go (stopped n i) held e p = let z : _≡_ {A = ℕ} 0 1 = cc in absurd (omega arith)
+    go (made o) held e p =
+        let w : c ≡ counts o = cc in
+        let h = held o refl in
+        rw (p, w) (
+          record {
+            units = head-room (d .list) (o .list) _ refl (h .list-room);
+            picture = head-room (d .pictures) (o .picture) _ refl (h .picture-room);
+            ends-there = head-room (d .ends) (o .ends) _ refl (h .ends-room);
+            shows-there = head-room (d .shows) (o .shows) _ refl (h .shows-room);
+          },
+          rw (front-is (d .list) (o .list) _ refl (h .list-room), front-is (d .pictures) (o .picture) _ refl (h .picture-room), front-is (d .ends) (o .ends) _ refl (h .ends-room), front-is (d .shows) (o .shows) _ refl (h .shows-room)),
+        )
 
 stopped-is : (x : Outcome Output) (k : ℕ) (i : Option ℕ) → stopped k i ≡ countsOf x → x ≡ stopped k i
 unfolding andAlso
@@ -80,17 +72,17 @@ refused-in-is x k i e = ap textOf (sym (stopped-is x k (some i) e))
 
 -- ---- a file's answers
 
-module _ (s numbers list cues pictures ends shows header : List ℕ) where
+module _ (s numbers : List ℕ) (d : Lent) where
   abbrev text : List ℕ
-  text = printed s numbers list cues pictures ends shows header
+  text = printed s numbers d
 
   pub bad-is : bad ≡ readInto numbers s → badFile ≡ text
   unfolding printed
-  bad-is e = ap (λ (r : Reading). printedOf r s list cues pictures ends shows header) e
+  bad-is e = ap (λ (r : Reading). printedOf r s d) e
 
   pub full-is : full ≡ readInto numbers s → refusedText 35 ≡ text
   unfolding printed
-  full-is e = ap (λ (r : Reading). printedOf r s list cues pictures ends shows header) e
+  full-is e = ap (λ (r : Reading). printedOf r s d) e
 
   module _ (l : Layout) (numbers′ : List ℕ) (e : read l ≡ readInto numbers s) (w : numbers′ ≡ numbersAfter numbers s) where
     after : ReadIs numbers s l
@@ -104,14 +96,14 @@ module _ (s numbers list cues pictures ends shows header : List ℕ) where
         let n = ap length (w ∙ a .after) ∙ pasted-length numbers 0 (numbersOf s) (omega (arith, a .room)) in
         record { start-first = omega (arith, x, y); picture = omega (arith, y, a .whole .sized); numbers-there = omega (arith, n, a .room, a .count) }
 
-    pub read-text : textOf (outcome (between (l .start) (l .end) s) (between 0 (5 * l .segments) numbers′) (l .«gop_size») (l .fps) (l .«fps_den») list cues pictures ends shows header) ≡ text
+    pub read-text : textOf (outcome (between (l .start) (l .end) s) (between 0 (5 * l .segments) numbers′) (settingsOf l) d) ≡ text
     unfolding printed
     read-text =
         let a = after in
         let n : between 0 (5 * l .segments) numbers′ ≡ numbersOf s =
         ap (between 0 (5 * l .segments)) (w ∙ a .after) ∙ front-is numbers (numbersOf s) (5 * l .segments) (sym (a .count)) (a .room) in
-        ap (λ (rs : List ℕ). textOf (outcome (between (l .start) (l .end) s) rs (l .«gop_size») (l .fps) (l .«fps_den») list cues pictures ends shows header)) n
-        ∙ ap (λ (r : Reading). printedOf r s list cues pictures ends shows header) e
+        ap (λ (rs : List ℕ). textOf (outcome (between (l .start) (l .end) s) rs (settingsOf l) d)) n
+        ∙ ap (λ (r : Reading). printedOf r s d) e
 
 -- ---- the end of the text lies within the memory that it was put into
 

@@ -12,14 +12,15 @@ use Rattle.bitio.specs.Limits.{limit}
 use Rattle.bitio.proofs.ParseLaws.{pick-cases}
 use Rattle.pictures.specs.Segments.{segmentsOf}
 use Rattle.pictures.specs.Assemble.{Outcome, stopped, made, andAlso, overall, Output, Room, fits, assembled, fitted, assemble}
-use Rattle.assemble.specs.Whole.{outcome}
+use Rattle.pictures.specs.declared.settings.Settings.{Settings}
+use Rattle.assemble.specs.Whole.{Lent, outcome}
 
 -- o has room in these
-pub record Held (o : Output) (list pictures ends shows : List ℕ) : Type 0 where
-  pub list-room : length (o .list) ≤ length list
-  pub picture-room : length (o .picture) ≤ length pictures
-  pub ends-room : length (o .ends) ≤ length ends
-  pub shows-room : length (o .shows) ≤ length shows
+pub record Held (o : Output) (d : Lent) : Type 0 where
+  pub list-room : length (o .list) ≤ length (d .list)
+  pub picture-room : length (o .picture) ≤ length (d .pictures)
+  pub ends-room : length (o .ends) ≤ length (d .ends)
+  pub shows-room : length (o .shows) ≤ length (d .shows)
 
 both : (a b : Bool) → (a && b) ≡ true → (a ≡ true) × (b ≡ true)
 both true b e = (refl, e)
@@ -38,10 +39,10 @@ fitted-fits room r o e = go (fits room r) refl e
     go true w e = let k : r ≡ o = cc in rw (← k) w
     go false w e = let z : _≡_ {A = ℕ} 0 1 = cc in absurd (omega arith)
 
-fits-held : (room : Room) (o : Output) (list pictures ends shows : List ℕ) → room .list ≡ length list → room .picture ≡ length pictures → room .ends ≡ length ends
-    → room .shows ≡ length shows → fits room o ≡ true → Held o list pictures ends shows
+fits-held : (room : Room) (o : Output) (l : Lent) → room .list ≡ length (l .list) → room .picture ≡ length (l .pictures) → room .ends ≡ length (l .ends)
+    → room .shows ≡ length (l .shows) → fits room o ≡ true → Held o l
 unfolding fits
-fits-held room o list pictures ends shows p q r s w =
+fits-held room o l p q r s w =
     let a = leb (length (o .picture) + length (o .shows) + length (o .header)) limit in
     let b = leb (length (o .list)) (room .list) in
     let c = leb (length (o .cues)) (room .cues) in
@@ -60,12 +61,11 @@ fits-held room o list pictures ends shows p q r s w =
       shows-room = omega (arith, leb-true (length (o .shows)) (room .shows) (w₅ .1));
     }
 
-pub outcome-held : (s rs : List ℕ) (gop fps den : ℕ) (list cues pictures ends shows header : List ℕ) (o : Output)
-    → outcome s rs gop fps den list cues pictures ends shows header ≡ made o → Held o list pictures ends shows
+pub outcome-held : (s rs : List ℕ) (set : Settings) (d : Lent) (o : Output) → outcome s rs set d ≡ made o → Held o d
 unfolding outcome assemble
-outcome-held s rs gop fps den list cues pictures ends shows header o =
-    pick-cases (λ x. x ≡ made o → Held o list pictures ends shows) (ltb limit (length s)) (λ t e. let z : _≡_ {A = ℕ} 0 1 = cc in absurd (omega arith))
+outcome-held s rs set d o =
+    pick-cases (λ x. x ≡ made o → Held o d) (ltb limit (length s)) (λ t e. let z : _≡_ {A = ℕ} 0 1 = cc in absurd (omega arith))
     (λ t e.
     let (xs, f) = last (overall (segmentsOf s rs)) _ o e in
-    let (r, g) = last (assembled (record { gop = gop; fps = fps; den = den }) xs) _ o f in
-    fits-held _ o list pictures ends shows refl refl refl refl (fitted-fits _ r o g))
+    let (r, g) = last (assembled set xs) _ o f in
+    fits-held _ o d refl refl refl refl (fitted-fits _ r o g))

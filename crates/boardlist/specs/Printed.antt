@@ -4,7 +4,8 @@ use mathlib.Core.List.{List}
 use mathlib.Core.Option.{none, some}
 use lib.ListN.{length, take, drop}
 use Rattle.pictures.specs.Assemble.{Outcome, stopped, made, Output}
-use Rattle.assemble.specs.Whole.{outcome}
+use Rattle.pictures.specs.declared.settings.Settings.{Settings}
+use Rattle.assemble.specs.Whole.{Lent, outcome}
 use Rattle.assemble.specs.declared.multi.Counts.{Counts}
 use Rattle.listing.specs.File.{Reading, bad, full, read, numbersOf, readInto}
 use Rattle.listing.specs.Text.{listing, refusedText, refusedInText, badFile}
@@ -20,19 +21,17 @@ textOf (stopped k (some i)) = refusedInText k i
 abbrev pub between : ℕ → ℕ → List ℕ → List ℕ
 between a e l = take (e - a) (drop a l)
 
--- the assembly of a file whose layout was read, its picture bytes lying in s
-abbrev pub assembly : Layout → (s list cues pictures ends shows header : List ℕ) → Outcome Output
-assembly l s list cues pictures ends shows header =
-    outcome (between (l .start) (l .end) s) (numbersOf s) (l .«gop_size») (l .fps) (l .«fps_den») list cues pictures ends shows header
+abbrev pub settingsOf : Layout → Settings
+settingsOf l = record { gop = l .«gop_size»; fps = l .fps; den = l .«fps_den» }
 
-abbrev pub printedOf : Reading → (s list cues pictures ends shows header : List ℕ) → List ℕ
-printedOf bad s list cues pictures ends shows header = badFile
-printedOf full s list cues pictures ends shows header = refusedText 35
-printedOf (read l) s list cues pictures ends shows header = textOf (assembly l s list cues pictures ends shows header)
+abbrev pub printedOf : Reading → List ℕ → Lent → List ℕ
+printedOf bad s d = badFile
+printedOf full s d = refusedText 35
+printedOf (read l) s d = textOf (outcome (between (l .start) (l .end) s) (numbersOf s) (settingsOf l) d)
 
 -- the text for the bytes s, with these lent slices
-unfoldable pub printed : (s numbers list cues pictures ends shows header : List ℕ) → List ℕ
-printed s numbers list cues pictures ends shows header = printedOf (readInto numbers s) s list cues pictures ends shows header
+unfoldable pub printed : (s numbers : List ℕ) → Lent → List ℕ
+printed s numbers d = printedOf (readInto numbers s) s d
 
 -- ---- what the inner functions are told, and say
 

@@ -3,8 +3,8 @@ ghost use mathlib.Core.Path.{_≡_};
 ghost use Prim.Native.Nat.{_*_};
 ghost use Rattle.bitio.specs.Lent.{placed, lent};
 ghost use Rattle.bitio.specs.Leb.{putSays};
-ghost use Rattle.assemble.specs.Whole.{outcome};
-ghost use Rattle.boardlist.specs.Printed.{textOf, madeText, CountsFit, LayoutFits, between, printed};
+ghost use Rattle.assemble.specs.Whole.{outcome, slices};
+ghost use Rattle.boardlist.specs.Printed.{textOf, settingsOf, madeText, CountsFit, LayoutFits, between, printed};
 use assemble::multi::Assembled;
 use assemble::multi::Counts;
 use assemble::multi::assemble_multi;
@@ -16,6 +16,7 @@ use listing::text::put_bad_file;
 use listing::text::put_listing;
 use listing::text::put_refused;
 use listing::text::put_refused_in;
+use pictures::settings::Settings;
 
 // The listing of what was made.
 fn put_made<'a>(
@@ -58,8 +59,8 @@ fn put_assembly(
     out: &mut [u8],
 ) -> Put
     requires { ⌜ LayoutFits layout (now file) (now numbers) ⌝ }
-    ensures answer { λ r. ⌜ putSays r ≡ placed (now (out .entry)) 0 (textOf (outcome (between (layout .start) (layout .end) (now (file .entry))) (between 0 (5 * layout .segments) (now (numbers .entry))) (layout .«gop_size») (layout .fps) (layout .«fps_den») (now (list .entry)) (now (cues .entry)) (now (pictures .entry)) (now (ends .entry)) (now (shows .entry)) (now (header .entry)))) ⌝ }
-    ensures out { λ _. ⌜ now (out .exit) ≡ lent (now (out .entry)) 0 (textOf (outcome (between (layout .start) (layout .end) (now (file .entry))) (between 0 (5 * layout .segments) (now (numbers .entry))) (layout .«gop_size») (layout .fps) (layout .«fps_den») (now (list .entry)) (now (cues .entry)) (now (pictures .entry)) (now (ends .entry)) (now (shows .entry)) (now (header .entry)))) ⌝ }
+    ensures answer { λ r. ⌜ putSays r ≡ placed (now (out .entry)) 0 (textOf (outcome (between (layout .start) (layout .end) (now (file .entry))) (between 0 (5 * layout .segments) (now (numbers .entry))) (settingsOf layout) (slices list cues pictures ends shows header .entry))) ⌝ }
+    ensures out { λ _. ⌜ now (out .exit) ≡ lent (now (out .entry)) 0 (textOf (outcome (between (layout .start) (layout .end) (now (file .entry))) (between 0 (5 * layout .segments) (now (numbers .entry))) (settingsOf layout) (slices list cues pictures ends shows header .entry))) ⌝ }
 {
     let start = layout.start;
     let end = layout.end;
@@ -67,9 +68,11 @@ fn put_assembly(
     let made = assemble_multi(
         &file[start..end],
         &numbers[0..n],
-        layout.gop_size,
-        layout.fps,
-        layout.fps_den,
+        Settings {
+            gop: layout.gop_size,
+            fps: layout.fps,
+            den: layout.fps_den,
+        },
         list,
         cues,
         pictures,
@@ -96,8 +99,8 @@ pub(crate) fn answer(
     header: &mut [u8],
     out: &mut [u8],
 ) -> Put
-    ensures answer { λ r. ⌜ putSays r ≡ placed (now (out .entry)) 0 (printed (now (file .entry)) (now (numbers .entry)) (now (list .entry)) (now (cues .entry)) (now (pictures .entry)) (now (ends .entry)) (now (shows .entry)) (now (header .entry))) ⌝ }
-    ensures out { λ _. ⌜ now (out .exit) ≡ lent (now (out .entry)) 0 (printed (now (file .entry)) (now (numbers .entry)) (now (list .entry)) (now (cues .entry)) (now (pictures .entry)) (now (ends .entry)) (now (shows .entry)) (now (header .entry))) ⌝ }
+    ensures answer { λ r. ⌜ putSays r ≡ placed (now (out .entry)) 0 (printed (now (file .entry)) (now (numbers .entry)) (slices list cues pictures ends shows header .entry)) ⌝ }
+    ensures out { λ _. ⌜ now (out .exit) ≡ lent (now (out .entry)) 0 (printed (now (file .entry)) (now (numbers .entry)) (slices list cues pictures ends shows header .entry)) ⌝ }
 {
     match read_file(file, numbers) {
         FileAnswer::Read(layout) => put_assembly(

@@ -4,6 +4,7 @@ ghost use lib.ListN.{length};
 use crate::text::flush;
 use crate::text::put_walked;
 use listing::file::Layout;
+use pictures::settings::Settings;
 use playback::walk::Walked;
 use playback::walk::walk;
 use playback::way::Form;
@@ -74,9 +75,11 @@ fn play_cues(
             form_of(turn),
             picture,
             segments,
-            layout.gop_size,
-            layout.fps,
-            layout.fps_den,
+            Settings {
+                gop: layout.gop_size,
+                fps: layout.fps,
+                den: layout.fps_den,
+            },
             cue as usize,
             list,
             cues,

@@ -1,9 +1,13 @@
 -- An answer as numbers for C. Assumes nothing.
 use Prim.Native.Nat.{ℕ, _+_, _*_, _%_}
+use mathlib.Core.Path.{_≡_}
 use mathlib.Core.Option.{none, some}
+use denote.Ref.{RefT, now}
+use denote.Triple.Both.{Both}
 use Rattle.bitio.specs.Parse.{Answer, refused, accepted}
 use Rattle.container.specs.Units.{Sizes}
-use Rattle.pictures.specs.Assemble.{Outcome, stopped, made}
+use Rattle.pictures.specs.Assemble.{Outcome, stopped, made, Output}
+use Rattle.assemble.specs.Whole.{Lent, lentAfter, countsOf}
 use Rattle.assemble.specs.declared.multi.Counts.{Counts}
 
 -- 0, or 01's number
@@ -28,7 +32,31 @@ assembledCode (made c) = 0
 assembledCode (stopped k none) = k
 assembledCode (stopped k (some i)) = k % 4294967296 + (i % 4294967295 + 1) * 4294967296
 
--- what a lent number holds afterwards, d being what it held
-abbrev pub numberAfter : Outcome Counts → (Counts → ℕ) → ℕ → ℕ
-numberAfter (made c) f d = f c
-numberAfter (stopped k i) f d = d
+-- the numbers lent to C, at one moment
+pub record Numbers : Type 0 where
+  pub units : ℕ
+  pub cues : ℕ
+  pub picture : ℕ
+  pub header : ℕ
+  pub slot : ℕ
+
+-- what they hold afterwards
+abbrev pub numbersAfter : Outcome Counts → Numbers → Numbers
+numbersAfter (made c) n = record { units = c .units; cues = c .cues; picture = c .picture; header = c .header; slot = c .«golden_slot» }
+numbersAfter (stopped k i) n = n
+
+abbrev pub five : (units cues picture header slot : RefT ℕ) → Numbers
+five units cues picture header slot = record { units = now units; cues = now cues; picture = now picture; header = now header; slot = now slot }
+
+abbrev pub numbers : (units cues picture header slot : Both (RefT ℕ) (RefT ℕ)) → Both Numbers Numbers
+numbers units cues picture header slot =
+    record {
+      entry = five (units .entry) (cues .entry) (picture .entry) (header .entry) (slot .entry);
+      exit = five (units .exit) (cues .exit) (picture .exit) (header .exit) (slot .exit);
+    }
+
+-- the code, and the lent slices and numbers at exit
+pub record Called (x : Lent → Outcome Output) (r : ℕ) (d : Both Lent Lent) (n : Both Numbers Numbers) : Type 0 where
+  pub code : r ≡ assembledCode (countsOf (x (d .entry)))
+  pub lent : d .exit ≡ lentAfter (x (d .entry)) (d .entry)
+  pub numbers : n .exit ≡ numbersAfter (countsOf (x (d .entry))) (n .entry)

@@ -3,12 +3,12 @@ ghost use mathlib.Core.Path.{_≡_};
 ghost use lib.ListN.{length};
 ghost use Rattle.container.specs.Units.{sizesOf, bytesAfter, endsAfter};
 ghost use Rattle.container.specs.Container.{stream, read};
-ghost use Rattle.pictures.specs.Assemble.{lentAfter};
-ghost use Rattle.assemble.specs.Whole.{countsOf, outcome};
-ghost use Rattle.capi.specs.Door.{codeOf, bytesOf, unitsOf, assembledCode, numberAfter};
+ghost use Rattle.assemble.specs.Whole.{outcome, slices};
+ghost use Rattle.capi.specs.Door.{codeOf, bytesOf, unitsOf, numbers, Called};
 use assemble::multi::Assembled;
 use assemble::multi::assemble_multi;
 use container::units::Split;
+use pictures::settings::Settings;
 
 // The units of a stream: 0, with their bytes in `out`, the end of each in `ends`, and how many there are of both; or
 // document 01's number, and all is as it was.
@@ -57,25 +57,16 @@ pub extern "C" fn magbelo_assemble(
     header_len: &mut usize,
     golden_slot: &mut u64,
 ) -> u64
-    ensures { λ r. ⌜ r ≡ assembledCode (countsOf (outcome (now (picture .entry)) (now (segments .entry)) «gop_size» fps «fps_den» (now (list .entry)) (now (cues .entry)) (now (pictures .entry)) (now (ends .entry)) (now (shows .entry)) (now (header .entry)))) ⌝ }
-    ensures { λ _. ⌜ now (list .exit) ≡ lentAfter (outcome (now (picture .entry)) (now (segments .entry)) «gop_size» fps «fps_den» (now (list .entry)) (now (cues .entry)) (now (pictures .entry)) (now (ends .entry)) (now (shows .entry)) (now (header .entry))) (λ o. o .list) (now (list .entry)) ⌝ }
-    ensures { λ _. ⌜ now (cues .exit) ≡ lentAfter (outcome (now (picture .entry)) (now (segments .entry)) «gop_size» fps «fps_den» (now (list .entry)) (now (cues .entry)) (now (pictures .entry)) (now (ends .entry)) (now (shows .entry)) (now (header .entry))) (λ o. o .cues) (now (cues .entry)) ⌝ }
-    ensures { λ _. ⌜ now (pictures .exit) ≡ lentAfter (outcome (now (picture .entry)) (now (segments .entry)) «gop_size» fps «fps_den» (now (list .entry)) (now (cues .entry)) (now (pictures .entry)) (now (ends .entry)) (now (shows .entry)) (now (header .entry))) (λ o. o .picture) (now (pictures .entry)) ⌝ }
-    ensures { λ _. ⌜ now (ends .exit) ≡ lentAfter (outcome (now (picture .entry)) (now (segments .entry)) «gop_size» fps «fps_den» (now (list .entry)) (now (cues .entry)) (now (pictures .entry)) (now (ends .entry)) (now (shows .entry)) (now (header .entry))) (λ o. o .ends) (now (ends .entry)) ⌝ }
-    ensures { λ _. ⌜ now (shows .exit) ≡ lentAfter (outcome (now (picture .entry)) (now (segments .entry)) «gop_size» fps «fps_den» (now (list .entry)) (now (cues .entry)) (now (pictures .entry)) (now (ends .entry)) (now (shows .entry)) (now (header .entry))) (λ o. o .shows) (now (shows .entry)) ⌝ }
-    ensures { λ _. ⌜ now (header .exit) ≡ lentAfter (outcome (now (picture .entry)) (now (segments .entry)) «gop_size» fps «fps_den» (now (list .entry)) (now (cues .entry)) (now (pictures .entry)) (now (ends .entry)) (now (shows .entry)) (now (header .entry))) (λ o. o .header) (now (header .entry)) ⌝ }
-    ensures { λ _. ⌜ now (units .exit) ≡ numberAfter (countsOf (outcome (now (picture .entry)) (now (segments .entry)) «gop_size» fps «fps_den» (now (list .entry)) (now (cues .entry)) (now (pictures .entry)) (now (ends .entry)) (now (shows .entry)) (now (header .entry)))) (λ c. c .units) (now (units .entry)) ⌝ }
-    ensures { λ _. ⌜ now («cue_count» .exit) ≡ numberAfter (countsOf (outcome (now (picture .entry)) (now (segments .entry)) «gop_size» fps «fps_den» (now (list .entry)) (now (cues .entry)) (now (pictures .entry)) (now (ends .entry)) (now (shows .entry)) (now (header .entry)))) (λ c. c .cues) (now («cue_count» .entry)) ⌝ }
-    ensures { λ _. ⌜ now («picture_len» .exit) ≡ numberAfter (countsOf (outcome (now (picture .entry)) (now (segments .entry)) «gop_size» fps «fps_den» (now (list .entry)) (now (cues .entry)) (now (pictures .entry)) (now (ends .entry)) (now (shows .entry)) (now (header .entry)))) (λ c. c .picture) (now («picture_len» .entry)) ⌝ }
-    ensures { λ _. ⌜ now («header_len» .exit) ≡ numberAfter (countsOf (outcome (now (picture .entry)) (now (segments .entry)) «gop_size» fps «fps_den» (now (list .entry)) (now (cues .entry)) (now (pictures .entry)) (now (ends .entry)) (now (shows .entry)) (now (header .entry)))) (λ c. c .header) (now («header_len» .entry)) ⌝ }
-    ensures { λ _. ⌜ now («golden_slot» .exit) ≡ numberAfter (countsOf (outcome (now (picture .entry)) (now (segments .entry)) «gop_size» fps «fps_den» (now (list .entry)) (now (cues .entry)) (now (pictures .entry)) (now (ends .entry)) (now (shows .entry)) (now (header .entry)))) (λ c. c .«golden_slot») (now («golden_slot» .entry)) ⌝ }
+    ensures { λ r. ⌜ Called (outcome (now (picture .entry)) (now (segments .entry)) (record { gop = «gop_size»; fps = fps; den = «fps_den» })) r (slices list cues pictures ends shows header) (numbers units «cue_count» «picture_len» «header_len» «golden_slot») ⌝ }
 {
     match assemble_multi(
         picture,
         segments,
-        gop_size,
-        fps,
-        fps_den,
+        Settings {
+            gop: gop_size,
+            fps: fps,
+            den: fps_den,
+        },
         list,
         cues,
         pictures,

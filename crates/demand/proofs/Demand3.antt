@@ -11,7 +11,7 @@ use Rattle.bitio.specs.Every.Every.{none as nothing, also}
 use Rattle.container.proofs.RoundTrip.{Whole}
 use Rattle.container.proofs.Carry.{carried}
 use Rattle.pictures.specs.Segments.{Segment, segmentsOf}
-use Rattle.pictures.specs.Prepare.{Settings}
+use Rattle.pictures.specs.declared.settings.Settings.{Settings}
 use Rattle.pictures.specs.Assemble.{made, pictureOf, Output, Room, assemble, unitsOf}
 use Rattle.player.specs.Player.{start}
 use Rattle.demand.specs.Premises.{Premise, Premises, InFields}

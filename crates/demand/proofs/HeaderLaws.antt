@@ -18,7 +18,8 @@ use Rattle.emit.proofs.EmitLaws.{parse-emittable, payload-length}
 use Rattle.emit.proofs.TimedEmitLaws.{timed-emittable, timed-back as timed-read}
 use Rattle.frame.proofs.FrameLaws.{flags-lt, shown-showable as showable}
 use Rattle.frame.proofs.FrameShowLaws.{supported-show}
-use Rattle.pictures.specs.Prepare.{Settings, timedSequence, showByte}
+use Rattle.pictures.specs.Prepare.{timedSequence, showByte}
+use Rattle.pictures.specs.declared.settings.Settings.{Settings}
 use Rattle.demand.specs.Premises.{InFields}
 
 -- ---- frames

@@ -20,7 +20,8 @@ use Rattle.frame.specs.declared.frame_header.FrameHeaderInfo.{FrameHeaderInfo}
 use Rattle.frame.specs.declared.frame_header.FrameHeaderInfo.the-variants.{Existing}
 use Rattle.blocks.specs.Blocks.{Kind, Key, Golden, Show, Entry, number, layout, listOf, positions, cuesOf, isKeyEntry, total}
 use Rattle.pictures.specs.Segments.{Segment, framesOf}
-use Rattle.pictures.specs.Prepare.{isSequence, Settings, effective, renewal, Prepared, showUnit}
+use Rattle.pictures.specs.Prepare.{isSequence, effective, renewal, Prepared, showUnit}
+use Rattle.pictures.specs.declared.settings.Settings.{Settings}
 use Rattle.pictures.specs.Assemble.{pictureOf, endsFrom, showsOf, named, unitsOf}
 use Rattle.player.specs.Player.{empty, filled, refresh, State, start, play, leaves, unitFrame}
 use Rattle.player.specs.declared.slots.Slot.{Slot}

@@ -17,7 +17,8 @@ use Rattle.container.specs.Units.{endsOf}
 use Rattle.container.specs.Container.{Container, read, write, writeAt}
 use Rattle.blocks.specs.Blocks.{Kind, Key, Golden, Show, number, listOf, positions, total}
 use Rattle.pictures.specs.Segments.{Segment, framesOf}
-use Rattle.pictures.specs.Prepare.{Settings, effective, renewal, sent, slotOf, showUnit}
+use Rattle.pictures.specs.Prepare.{effective, renewal, sent, slotOf, showUnit}
+use Rattle.pictures.specs.declared.settings.Settings.{Settings}
 use Rattle.pictures.specs.Assemble.{Output, unitsOf}
 use Rattle.player.specs.Player.{empty, filled, State, start, play, unitFrame}
 use Rattle.demand.specs.Kinds.{unitKind, isKeyUnit, unitAt, segmentOf}

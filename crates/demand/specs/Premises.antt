@@ -10,7 +10,8 @@ use Rattle.obu.specs.Unit.{count, firstPayload, ofUnit}
 use Rattle.header.specs.Sequence.{Sequence, parseSequence}
 use Rattle.container.specs.Stream.{isDelimiter}
 use Rattle.pictures.specs.Segments.{Segment}
-use Rattle.pictures.specs.Prepare.{isSequence, isFrame, Settings}
+use Rattle.pictures.specs.Prepare.{isSequence, isFrame}
+use Rattle.pictures.specs.declared.settings.Settings.{Settings}
 
 -- the first sequence payload of a unit
 abbrev pub firstSequence : List ℕ → List ℕ

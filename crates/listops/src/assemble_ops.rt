@@ -85,9 +85,11 @@ fn answer_into(
     let answer = assemble_multi(
         s,
         segments,
-        settings.gop_size,
-        settings.fps,
-        settings.fps_den,
+        pictures::settings::Settings {
+            gop: settings.gop_size,
+            fps: settings.fps,
+            den: settings.fps_den,
+        },
         list,
         cues,
         memory,

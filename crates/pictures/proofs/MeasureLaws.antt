@@ -1,4 +1,5 @@
 -- Laws of the picture bytes measured one segment after the other. Assumes nothing.
+use Rattle.blocks.specs.Numbers.{width}
 use Prim.Native.Nat.{ℕ, suc, _+_, _*_, _/_, _≤_, _<_, min}
 use native.Mathlib.Omega.{arith}
 use native.Mathlib.Numerals.{add-one}
@@ -91,7 +92,7 @@ goes i size (accepted k) o m n w e =
 
 -- `sum` is the saturated sum of i segments
 pub record Measuring (q : Sequence) (rewriting : Bool) (new s rs : List ℕ) (i sum : ℕ) : Type 0 where
-  pub within : i ≤ length rs / 5
+  pub within : i ≤ length rs / width
   pub small : sum ≤ most
   pub whole : measured q rewriting new (allSegments s rs) ≡ countedFrom q rewriting new i (behind s rs i) sum
 
@@ -107,12 +108,12 @@ measure-start q rewriting new s rs =
     }
 
 module _ {q : Sequence} {rewriting : Bool} {new s rs : List ℕ} {i sum : ℕ} (r : Measuring q rewriting new s rs i sum) where
-  pub measure-end : length rs / 5 ≤ i → made sum ≡ measured q rewriting new (allSegments s rs)
+  pub measure-end : length rs / width ≤ i → made sum ≡ measured q rewriting new (allSegments s rs)
   measure-end h =
       let e : capped (sum + 0) ≡ sum = omega (arith, r .small) in
       sym (r .whole ∙ ap (λ (xs : List Segment). countedFrom q rewriting new i xs sum) (behind-end s rs i h) ∙ counted-none q rewriting new i sum ∙ ap made e)
 
-  module _ (h : i < length rs / 5) (m : Measured) (key golden : List ℕ) (is-key : key ≡ unitAt s rs (5 * i)) (is-golden : golden ≡ unitAt s rs (5 * i + 2))
+  module _ (h : i < length rs / width) (m : Measured) (key golden : List ℕ) (is-key : key ≡ unitAt s rs (width * i)) (is-golden : golden ≡ unitAt s rs (width * i + 2))
       (says : measuredSays m ≡ inSegment i (measuredUnits q rewriting new key golden)) where
     abbrev size : ℕ
     size = length (sentBytes rewriting new key) + length (sentBytes rewriting new golden)
@@ -120,7 +121,7 @@ module _ {q : Sequence} {rewriting : Bool} {new s rs : List ℕ} {i sum : ℕ} (
     here : measured q rewriting new (allSegments s rs) ≡ andAlso (inSegment i (judged q rewriting key golden)) (λ _. countedFrom q rewriting new (suc i) (behind s rs (i + 1)) (sum + size))
     here =
         r .whole ∙ ap (λ (xs : List Segment). countedFrom q rewriting new i xs sum) (behind-is s rs i h key golden is-key is-golden)
-        ∙ counted-more q rewriting new i (segmentOf key golden (getD rs (5 * i + 4) 0)) (behind s rs (i + 1)) sum
+        ∙ counted-more q rewriting new i (segmentOf key golden (getD rs (width * i + 4) 0)) (behind s rs (i + 1)) sum
 
     pub measure-stop : (k j : ℕ) → m ≡ RefusedIn k j → measuredSays m ≡ measured q rewriting new (allSegments s rs)
     measure-stop k j w = stays i (λ _. capped size) (judged q rewriting key golden) _ m k j w says ∙ sym here

@@ -1,4 +1,5 @@
 -- Laws of all segments prepared: what goes out is what is judged and sent one by one, and how much that is. Assumes nothing.
+use Rattle.blocks.specs.Numbers.{width}
 use Prim.Native.Nat.{ℕ, zero, suc, _+_, _*_, _/_}
 use native.Mathlib.Omega.{arith}
 use mathlib.Core.Path.{_≡_, refl, sym, ap, ap₂, _∙_}
@@ -81,7 +82,7 @@ length-shows (b ∷ bs) = let ih = length-shows bs in omega arith
 pub length-segments : (s : List ℕ) (k : ℕ) (rs : List ℕ) → length (segmentsIn s k rs) ≡ k
 unfolding segmentsIn
 length-segments s zero rs = refl
-length-segments s (suc k) rs = ap suc (length-segments s k (drop 5 rs))
+length-segments s (suc k) rs = ap suc (length-segments s k (drop width rs))
 
-pub length-all : (s rs : List ℕ) → length (allSegments s rs) ≡ length rs / 5
-length-all s rs = length-segments s (length rs / 5) rs
+pub length-all : (s rs : List ℕ) → length (allSegments s rs) ≡ length rs / width
+length-all s rs = length-segments s (length rs / width) rs

@@ -1,4 +1,5 @@
 -- Laws of payloads compared: bytes, the last sequence payload of a key, and later keys one after the other. Assumes nothing.
+use Rattle.blocks.specs.Numbers.{width}
 use Prim.Native.Nat.{ℕ, suc, _+_, _*_, _-_, _/_, _≤_, _<_}
 use native.Mathlib.Omega.{arith}
 use native.Mathlib.Numerals.{add-one}
@@ -112,30 +113,30 @@ all f s rs = sameHeaders f 1 (laterSegments s rs)
 
 -- the keys before i, but for the first, have the header f
 pub record Agree (f s rs : List ℕ) (i : ℕ) : Type 0 where
-  pub same : all f s rs ≡ sameHeaders f i (segmentsIn s (length rs / 5 - i) (drop (5 * i) rs))
+  pub same : all f s rs ≡ sameHeaders f i (segmentsIn s (length rs / width - i) (drop (width * i) rs))
 
 pub agree-start : (f s rs : List ℕ) → Agree f s rs 1
 agree-start f s rs = record { same = refl }
 
 module _ {f s rs : List ℕ} {i : ℕ} (a : Agree f s rs i) where
-  pub agree-end : length rs / 5 ≤ i → made tt ≡ all f s rs
+  pub agree-end : length rs / width ≤ i → made tt ≡ all f s rs
   unfolding segmentsIn sameHeaders
   agree-end h =
-      let z : length rs / 5 - i ≡ 0 = omega arith in
-      sym (a .same ∙ ap (λ (k : ℕ). sameHeaders f i (segmentsIn s k (drop (5 * i) rs))) z)
+      let z : length rs / width - i ≡ 0 = omega arith in
+      sym (a .same ∙ ap (λ (k : ℕ). sameHeaders f i (segmentsIn s k (drop (width * i) rs))) z)
 
-  module _ (h : i < length rs / 5) (u : List ℕ) (e : u ≡ part s (getD rs (5 * i) 0) (getD rs (5 * i + 1) 0)) where
-    key : part s (getD (drop (5 * i) rs) 0 0) (getD (drop (5 * i) rs) 1 0) ≡ u
+  module _ (h : i < length rs / width) (u : List ℕ) (e : u ≡ part s (getD rs (width * i) 0) (getD rs (width * i + 1) 0)) where
+    key : part s (getD (drop (width * i) rs) 0 0) (getD (drop (width * i) rs) 1 0) ≡ u
     key =
-        let z : 5 * i + 0 ≡ 5 * i = omega arith in
-        ap₂ (λ (x y : ℕ). part s x y) (getD-drop (5 * i) rs 0 0 ∙ ap (λ (k : ℕ). getD rs k 0) z) (getD-drop (5 * i) rs 1 0) ∙ sym e
+        let z : width * i + 0 ≡ width * i = omega arith in
+        ap₂ (λ (x y : ℕ). part s x y) (getD-drop (width * i) rs 0 0 ∙ ap (λ (k : ℕ). getD rs k 0) z) (getD-drop (width * i) rs 1 0) ∙ sym e
 
-    next-key : all f s rs ≡ andAlso (inSegment i (compared f (obus u))) (λ _. sameHeaders f (suc i) (segmentsIn s (length rs / 5 - (i + 1)) (drop 5 (drop (5 * i) rs))))
+    next-key : all f s rs ≡ andAlso (inSegment i (compared f (obus u))) (λ _. sameHeaders f (suc i) (segmentsIn s (length rs / width - (i + 1)) (drop width (drop (width * i) rs))))
     unfolding segmentsIn sameHeaders
     next-key =
-        let z : length rs / 5 - i ≡ suc (length rs / 5 - (i + 1)) = omega arith in
-        a .same ∙ ap (λ (k : ℕ). sameHeaders f i (segmentsIn s k (drop (5 * i) rs))) z
-        ∙ ap (λ (l : List ℕ). andAlso (inSegment i (compared f (obus l))) (λ _. sameHeaders f (suc i) (segmentsIn s (length rs / 5 - (i + 1)) (drop 5 (drop (5 * i) rs))))) key
+        let z : length rs / width - i ≡ suc (length rs / width - (i + 1)) = omega arith in
+        a .same ∙ ap (λ (k : ℕ). sameHeaders f i (segmentsIn s k (drop (width * i) rs))) z
+        ∙ ap (λ (l : List ℕ). andAlso (inSegment i (compared f (obus l))) (λ _. sameHeaders f (suc i) (segmentsIn s (length rs / width - (i + 1)) (drop width (drop (width * i) rs))))) key
 
     pub agree-refused : (k : ℕ) → compared f (obus u) ≡ refused k → stopped k (some i) ≡ all f s rs
     unfolding andAlso inSegment
@@ -144,9 +145,9 @@ module _ {f s rs : List ℕ} {i : ℕ} (a : Agree f s rs i) where
     pub agree-turn : compared f (obus u) ≡ accepted tt → Agree f s rs (i + 1)
     unfolding andAlso inSegment
     agree-turn g =
-        let z : 5 * i + 5 ≡ 5 * (i + 1) = omega arith in
+        let z : width * i + width ≡ width * (i + 1) = omega arith in
         record {
           same =
               next-key ∙ rw g
-              (ap₂ (λ (n : ℕ) (l : List ℕ). sameHeaders f n (segmentsIn s (length rs / 5 - (i + 1)) l)) (sym (add-one i)) (drop-drop 5 (5 * i) rs ∙ ap (λ (m : ℕ). drop m rs) z));
+              (ap₂ (λ (n : ℕ) (l : List ℕ). sameHeaders f n (segmentsIn s (length rs / width - (i + 1)) l)) (sym (add-one i)) (drop-drop width (width * i) rs ∙ ap (λ (m : ℕ). drop m rs) z));
         }

@@ -7,7 +7,6 @@ use lib.ListN.{length, getD}
 use lib.Dec.{eqb, ltb, leb}
 use Rattle.bitio.specs.Parse.{Answer, refused, accepted, andNext}
 use Rattle.bitio.specs.Limits.{limit}
-use Rattle.bitio.specs.Lent.{pasted}
 use Rattle.obu.specs.Obu.{Obu, obus, obuBytes}
 use Rattle.obu.specs.Unit.{has, lastPayload}
 use Rattle.obu.specs.Place.{part}
@@ -177,11 +176,6 @@ assemble room set s rs =
     pick (ltb limit (length s)) (stopped 34 none) (
     andAlso (overall (segmentsOf s rs)) (λ xs.
     andAlso (assembled set xs) (λ r. fitted room r)))
-
--- what lent memory holds afterwards: what was put at its head, or what it held
-abbrev pub lentAfter : Outcome Output → (Output → List ℕ) → List ℕ → List ℕ
-lentAfter (stopped n i) put d = d
-lentAfter (made r) put d = pasted d 0 (put r)
 
 -- ---- the unit that a list entry names
 

@@ -1,4 +1,5 @@
 -- The parts of assembly on the flat numbers of the segments, once their ranges are known to lie within the picture bytes. Assumes nothing.
+use Rattle.blocks.specs.Numbers.{width}
 use Prim.Native.Nat.{ℕ, zero, suc, _+_, _-_, _^_, _/_, min}
 use mathlib.Core.List.{List, [], _∷_, map}
 use mathlib.Core.Bool.{Bool, cond as pick}
@@ -21,15 +22,15 @@ segmentIn s rs = record { key = part s (getD rs 0 0) (getD rs 1 0); golden = par
 -- k segments, whose numbers follow each other
 unfoldable pub segmentsIn : List ℕ → ℕ → List ℕ → List Segment
 segmentsIn s zero rs = []
-segmentsIn s (suc k) rs = segmentIn s rs ∷ segmentsIn s k (drop 5 rs)
+segmentsIn s (suc k) rs = segmentIn s rs ∷ segmentsIn s k (drop width rs)
 
 -- all segments
 abbrev pub allSegments : List ℕ → List ℕ → List Segment
-allSegments s rs = segmentsIn s (length rs / 5) rs
+allSegments s rs = segmentsIn s (length rs / width) rs
 
 -- all but the first
 abbrev pub laterSegments : List ℕ → List ℕ → List Segment
-laterSegments s rs = segmentsIn s (length rs / 5 - 1) (drop 5 rs)
+laterSegments s rs = segmentsIn s (length rs / width - 1) (drop width rs)
 
 -- ---- the list's sequence header
 

@@ -15,6 +15,8 @@ use Rattle.frame.specs.Frame.{keyFrame, parseFrame}
 use Rattle.frame.specs.declared.frame_header.FrameHeaderInfo.{FrameHeaderInfo}
 use Rattle.frame.specs.declared.frame_header.FrameHeaderInfo.the-variants.{Existing, Frame}
 use Rattle.pictures.specs.Segments.{Segment}
+-- gop_size, fps and fps_den, as the code has them
+pub use Rattle.pictures.specs.declared.settings.Settings.{Settings}
 
 abbrev pub isSequence : Obu → Bool
 isSequence o = isKind SequenceHeader o
@@ -28,12 +30,6 @@ firstOf n pass [] = refused n
 firstOf n pass (o ∷ os) = pick (pass o) (accepted o) (firstOf n pass os)
 
 -- ---- timing
-
--- gop_size, fps and fps_den
-pub record Settings : Type 0 where
-  pub gop : ℕ
-  pub fps : ℕ
-  pub den : ℕ
 
 -- q timed at fps over fps_den
 abbrev pub timedSequence : Settings → Sequence → Sequence

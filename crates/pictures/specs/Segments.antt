@@ -1,4 +1,5 @@
 -- Segments as they are ordered: ranges of the picture bytes, and frames. Assumes nothing.
+use Rattle.blocks.specs.Numbers.{width}
 use Prim.Native.Nat.{ℕ, zero, suc, _/_, _%_}
 use mathlib.Core.List.{List, [], map}
 use mathlib.Core.Bool.{Bool, cond as pick, _&&_}
@@ -31,8 +32,8 @@ segmentAt s rs =
 -- k segments, whose numbers follow each other
 unfoldable pub segmentsFrom : List ℕ → ℕ → List ℕ → Answer (List Segment)
 segmentsFrom s zero rs = accepted []
-segmentsFrom s (suc k) rs = andNext (segmentAt s rs) (λ x. onto x (segmentsFrom s k (drop 5 rs)))
+segmentsFrom s (suc k) rs = andNext (segmentAt s rs) (λ x. onto x (segmentsFrom s k (drop width rs)))
 
 -- all segments; numbers that are no whole record are no range within the bytes
 unfoldable pub segmentsOf : List ℕ → List ℕ → Answer (List Segment)
-segmentsOf s rs = pick (eqb (length rs % 5) 0) (segmentsFrom s (length rs / 5) rs) (refused 36)
+segmentsOf s rs = pick (eqb (length rs % width) 0) (segmentsFrom s (length rs / width) rs) (refused 36)

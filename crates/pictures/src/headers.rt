@@ -8,6 +8,7 @@ ghost use Rattle.pictures.specs.Sizes.{checkedSays};
 ghost use Rattle.pictures.specs.Code.{firstSequence, laterSegments};
 ghost use Rattle.pictures.specs.Says.{foundSays, readSays};
 use crate::sizes::Checked;
+use blocks::numbers::WIDTH;
 use header::seq_header::SequenceAnswer;
 use header::seq_header::SequenceRead;
 use header::seq_header::Support;
@@ -110,13 +111,13 @@ fn count_same(unit: &[u8], first: &[u8]) -> Counted
 pub fn same_headers(picture: &[u8], segments: &[u64], first: &[u8]) -> Checked
     ensures { λ r. ⌜ checkedSays r ≡ sameHeaders (now (first .entry)) 1 (laterSegments (now (picture .entry)) (now (segments .entry))) ⌝ }
 {
-    let count = segments.len() / 5;
+    let count = segments.len() / WIDTH;
     let mut i: usize = 1;
     while i < count {
         let key = payload(
             picture,
-            segments[5 * i] as usize,
-            segments[5 * i + 1] as usize,
+            segments[WIDTH * i] as usize,
+            segments[WIDTH * i + 1] as usize,
         );
         match count_same(key, first) {
             Counted::Refused(k) => {

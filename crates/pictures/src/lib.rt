@@ -3,5 +3,6 @@ pub mod frames;
 pub mod headers;
 pub mod pictures;
 pub mod rewrite;
+pub mod settings;
 pub mod sizes;
 pub mod slot;

@@ -16,6 +16,10 @@ use crate::frames::golden_slot;
 use crate::rewrite::put_sent;
 use crate::rewrite::sent_len;
 use crate::sizes::plus;
+use blocks::numbers::WIDTH;
+use blocks::numbers::golden_of;
+use blocks::numbers::key_of;
+use blocks::numbers::segment_count;
 use header::seq_header::OperatingPoint;
 use header::seq_header::SequenceHeader;
 use obu::reader::payload;
@@ -67,12 +71,12 @@ pub fn measure_pictures(
 ) -> Measured
     ensures { λ r. ⌜ measuredSays r ≡ measured (sequenceOf header points) rewriting (now (new .entry)) (allSegments (now (picture .entry)) (now (segments .entry))) ⌝ }
 {
-    let count = segments.len() / 5;
+    let count = segment_count(segments);
     let mut i: usize = 0;
     let mut sum: u64 = 0;
     while i < count {
-        let key = unit_at(picture, segments, 5 * i);
-        let golden = unit_at(picture, segments, 5 * i + 2);
+        let key = key_of(picture, segments, i);
+        let golden = golden_of(picture, segments, i);
         let units = measure_units(key, golden, i, header, points, new, rewriting);
         let Measured::Bytes(n) = units else {
             return units;
@@ -123,12 +127,12 @@ pub fn put_pictures(
     ensures pictures { λ _. ⌜ now (pictures .exit) ≡ pasted (now (pictures .entry)) 0 (pictureOf (allSent rewriting (now (new .entry)) (allSegments (now (picture .entry)) (now (segments .entry))))) ⌝ }
     ensures ends { λ _. ⌜ now (ends .exit) ≡ pasted (now (ends .entry)) 0 (endsFrom 0 (allSent rewriting (now (new .entry)) (allSegments (now (picture .entry)) (now (segments .entry))))) ⌝ }
 {
-    let count = segments.len() / 5;
+    let count = segments.len() / WIDTH;
     let mut i: usize = 0;
     let mut at: usize = 0;
     while i < count {
-        let key = unit_at(picture, segments, 5 * i);
-        let golden = unit_at(picture, segments, 5 * i + 2);
+        let key = unit_at(picture, segments, WIDTH * i);
+        let golden = unit_at(picture, segments, WIDTH * i + 2);
         at = put_units(pictures, ends, at, i, key, golden, new, rewriting);
         i = i + 1;
     }
@@ -175,11 +179,11 @@ pub fn put_shows(
     requires { ⌜ 5 * length (allSegments (now picture) (now segments)) ≤ length (now shows) ⌝ }
     ensures { λ _. ⌜ now (shows .exit) ≡ pasted (now (shows .entry)) 0 (flatMap showUnit (slotsOf (sequenceOf header points) rewriting (allSegments (now (picture .entry)) (now (segments .entry))))) ⌝ }
 {
-    let count = segments.len() / 5;
+    let count = segments.len() / WIDTH;
     let mut i: usize = 0;
     while i < count {
-        let key = unit_at(picture, segments, 5 * i);
-        let golden = unit_at(picture, segments, 5 * i + 2);
+        let key = unit_at(picture, segments, WIDTH * i);
+        let golden = unit_at(picture, segments, WIDTH * i + 2);
         let slot = slot_or_zero(key, golden, header, points, rewriting);
         put_show(shows, 5 * i, slot);
         i = i + 1;

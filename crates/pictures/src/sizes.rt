@@ -1,5 +1,6 @@
 // The frames ordered and the ranges of the segments, judged over their flat numbers: five for each segment, where its key
 // starts and ends in the picture bytes, where its golden does, and its frames.
+ghost use Rattle.blocks.specs.Numbers.{width};
 ghost use mathlib.Core.Path.{_≡_};
 ghost use mathlib.Core.Bool.{cond as pick};
 ghost use mathlib.Core.Option.{some};
@@ -11,6 +12,9 @@ ghost use Rattle.blocks.specs.Lay.{framesIn};
 ghost use Rattle.pictures.specs.Assemble.{stopped, made, noneEmpty};
 ghost use Rattle.pictures.specs.Segments.{inside};
 ghost use Rattle.pictures.specs.Sizes.{checkedSays, sized, rangesFit, ranged};
+use blocks::numbers::WIDTH;
+use blocks::numbers::frames_of;
+use blocks::numbers::segment_count;
 
 pub enum Checked {
     Fit,
@@ -34,11 +38,11 @@ pub fn plus(a: u64, b: u64) -> u64
 pub fn total_frames(segments: &[u64]) -> u64
     ensures { λ r. ⌜ r ≡ min (total (framesIn (now (segments .entry)))) 18446744073709551615 ⌝ }
 {
-    let count = segments.len() / 5;
+    let count = segment_count(segments);
     let mut i: usize = 0;
     let mut sum: u64 = 0;
     while i < count {
-        sum = plus(sum, segments[5 * i + 4]);
+        sum = plus(sum, frames_of(segments, i));
         i = i + 1;
     }
     sum
@@ -48,10 +52,10 @@ pub fn total_frames(segments: &[u64]) -> u64
 fn first_empty(segments: &[u64]) -> usize
     ensures { λ r. ⌜ noneEmpty 0 (framesIn (now (segments .entry))) ≡ pick (ltb r (length (framesIn (now (segments .entry))))) (stopped 24 (some r)) (made tt) ⌝ }
 {
-    let count = segments.len() / 5;
+    let count = segments.len() / WIDTH;
     let mut i: usize = 0;
     while i < count {
-        if segments[5 * i + 4] == 0 {
+        if segments[WIDTH * i + 4] == 0 {
             return i;
         }
         i = i + 1;
@@ -63,7 +67,7 @@ fn first_empty(segments: &[u64]) -> usize
 pub fn check_sizes(gop: u64, segments: &[u64]) -> Checked
     ensures { λ r. ⌜ checkedSays r ≡ sized gop (framesIn (now (segments .entry))) ⌝ }
 {
-    let count = segments.len() / 5;
+    let count = segments.len() / WIDTH;
     if count == 0 {
         return Checked::Refused(21);
     }
@@ -93,7 +97,7 @@ fn is_inside(picture: &[u8], a: u64, e: u64) -> bool
 
 // Whether both ranges of the segment whose numbers start at `at` lie within the picture bytes.
 fn ranges_fit(picture: &[u8], segments: &[u64], at: usize) -> bool
-    requires { ⌜ at + 5 ≤ length (now segments) ⌝ }
+    requires { ⌜ at + width ≤ length (now segments) ⌝ }
     ensures { λ r. ⌜ r ≡ rangesFit (now (picture .entry)) (drop at (now (segments .entry))) ⌝ }
 {
     let key = is_inside(picture, segments[at], segments[at + 1]);
@@ -105,13 +109,13 @@ fn ranges_fit(picture: &[u8], segments: &[u64], at: usize) -> bool
 pub fn check_ranges(picture: &[u8], segments: &[u64]) -> Checked
     ensures { λ r. ⌜ checkedSays r ≡ ranged (now (picture .entry)) (now (segments .entry)) ⌝ }
 {
-    if segments.len() % 5 != 0 {
+    if segments.len() % WIDTH != 0 {
         return Checked::Refused(36);
     }
-    let count = segments.len() / 5;
+    let count = segments.len() / WIDTH;
     let mut i: usize = 0;
     while i < count {
-        if !ranges_fit(picture, segments, 5 * i) {
+        if !ranges_fit(picture, segments, WIDTH * i) {
             return Checked::Refused(36);
         }
         i = i + 1;

@@ -10,14 +10,15 @@ use lib.Dec.{leb, ltb}
 use borrow.Author.Tests.{leb-true}
 use Rattle.bitio.specs.Limits.{limit}
 use Rattle.bitio.specs.Parse.{Answer, refused, accepted}
+use Rattle.bitio.specs.Lent.{pasted}
 use Rattle.bitio.proofs.LentLaws.{pasted-length}
 use Rattle.container.specs.Units.{bytesAfter, endsAfter, countOf, outAfter}
 use Rattle.container.specs.Container.{Container}
 use Rattle.annexb.proofs.SplitLaws.{and-true}
 use Rattle.pictures.specs.Segments.{Segment, segmentsOf}
-use Rattle.pictures.specs.Prepare.{Settings}
-use Rattle.pictures.specs.Assemble.{Outcome, stopped, made, andAlso, overall, Output, Room, fits, assembled, assemble, lentAfter}
-use Rattle.assemble.specs.Whole.{counts, countsOf, outcome}
+use Rattle.pictures.specs.declared.settings.Settings.{Settings}
+use Rattle.pictures.specs.Assemble.{Outcome, stopped, made, andAlso, overall, Output, Room, fits, assembled, assemble}
+use Rattle.assemble.specs.Whole.{counts, countsOf, Lent, outcome, lentAfter}
 use Rattle.assemble.specs.declared.multi.Counts.{Counts}
 use Rattle.playback.specs.declared.play.Shows.{Shows}
 use Rattle.playback.specs.declared.play.Shows.the-variants.{Positions, Refused as ShowsRefused}
@@ -98,27 +99,17 @@ pub record Head (xs : List ℕ) (n : ℕ) (d : List ℕ) : Type 0 where
   pub within : n ≤ length d
   pub is : take (n - 0) (drop 0 d) ≡ xs
 
-head-of : (x : Outcome Output) (sel : Output → List ℕ) (r : Output) → x ≡ made r → (d : List ℕ) → length (sel r) ≤ length d → {d′ : List ℕ} {n : ℕ}
-    → d′ ≡ lentAfter x sel d → n ≡ length (sel r) → Head (sel r) n d′
-head-of x sel r q d l {n = n} e k =
-    let w = e ∙ ap (λ y. lentAfter y sel d) q in
+head-of : (s d : List ℕ) → length s ≤ length d → {d′ : List ℕ} {n : ℕ} → d′ ≡ pasted d 0 s → n ≡ length s → Head s n d′
+head-of s d l {n = n} w k =
     record {
-      within = omega (arith, ap length w, pasted-length d 0 (sel r) (omega (arith, l)), l, k);
-      is = ap (λ y. take (n - 0) (drop 0 y)) w ∙ head-is d (sel r) n k;
+      within = omega (arith, ap length w, pasted-length d 0 s (omega (arith, l)), l, k);
+      is = ap (λ y. take (n - 0) (drop 0 y)) w ∙ head-is d s n k;
     }
 
-pub record HasIn (li pi en sh : List ℕ) (o : Output) : Type 0 where
-  pub list : length (o .list) ≤ length li
-  pub picture : length (o .picture) ≤ length pi
-  pub ends : length (o .ends) ≤ length en
-  pub shows : length (o .shows) ≤ length sh
-
-pub outcome-has : (s rs : List ℕ) (gop fps den : ℕ) (list cues pictures ends shows header : List ℕ) (o : Output)
-    → outcome s rs gop fps den list cues pictures ends shows header ≡ made o → HasIn list pictures ends shows o
+pub outcome-has : (s rs : List ℕ) (set : Settings) (l : Lent) (o : Output) → outcome s rs set l ≡ made o
+    → Has (record { list = length (l .list); cues = length (l .cues); picture = length (l .pictures); ends = length (l .ends); shows = length (l .shows); header = length (l .header) }) o
 unfolding outcome
-outcome-has s rs gop fps den list cues pictures ends shows header o q =
-    let h = assemble-has (record { list = length list; cues = length cues; picture = length pictures; ends = length ends; shows = length shows; header = length header }) (record { gop = gop; fps = fps; den = den }) s rs o q in
-    record { list = h .list; picture = h .picture; ends = h .ends; shows = h .shows }
+outcome-has s rs set l o q = assemble-has _ set s rs o q
 
 -- ---- the whole
 
@@ -138,10 +129,10 @@ module _ (c : Container) (x : Outcome Output) (cue : ℕ) (d m o b f g : List �
   unfolding walk andAlso
   walk-stop k i q = let e = stops x k i q in rw e (refl, (refl, (refl, (refl, (refl, (refl, refl))))))
 
--- assembly has handed out, li to sh being the buffers that it was lent
-module _ (x : Outcome Output) (t : Counts) (q : made t ≡ countsOf x) (li pi en sh : List ℕ) (h : (r : Output) → x ≡ made r → HasIn li pi en sh r)
-    {li′ pi′ en′ sh′ : List ℕ} (el : li′ ≡ lentAfter x (λ r. r .list) li) (ep : pi′ ≡ lentAfter x (λ r. r .picture) pi)
-    (ee : en′ ≡ lentAfter x (λ r. r .ends) en) (es : sh′ ≡ lentAfter x (λ r. r .shows) sh) where
+-- assembly has handed out into l
+module _ (x : Outcome Output) (t : Counts) (q : made t ≡ countsOf x) (l : Lent)
+    (h : (r : Output) → x ≡ made r → Has (record { list = length (l .list); cues = length (l .cues); picture = length (l .pictures); ends = length (l .ends); shows = length (l .shows); header = length (l .header) }) r)
+    {l′ : Lent} (lent : l′ ≡ lentAfter x l) where
   abbrev r : Output
   r = makes x t q .0
 
@@ -151,34 +142,37 @@ module _ (x : Outcome Output) (t : Counts) (q : made t ≡ countsOf x) (li pi en
   t-is : t ≡ counts r
   t-is = makes x t q .2
 
-  in-list : Head (r .list) (t .units) li′
-  in-list = head-of x (λ y. y .list) r r-is li (h r r-is .list) el (ap (λ y. y .units) t-is)
+  there : l′ ≡ lentAfter (made r) l
+  there = lent ∙ ap (λ y. lentAfter y l) r-is
 
-  in-picture : Head (r .picture) (t .picture) pi′
-  in-picture = head-of x (λ y. y .picture) r r-is pi (h r r-is .picture) ep (ap (λ y. y .picture) t-is)
+  in-list : Head (r .list) (t .units) (l′ .list)
+  in-list = head-of (r .list) (l .list) (h r r-is .list) (ap (λ y. y .list) there) (ap (λ y. y .units) t-is)
 
-  in-ends : Head (r .ends) (t .ends) en′
-  in-ends = head-of x (λ y. y .ends) r r-is en (h r r-is .ends) ee (ap (λ y. y .ends) t-is)
+  in-picture : Head (r .picture) (t .picture) (l′ .pictures)
+  in-picture = head-of (r .picture) (l .pictures) (h r r-is .picture) (ap (λ y. y .pictures) there) (ap (λ y. y .picture) t-is)
 
-  in-shows : Head (r .shows) (t .shows) sh′
-  in-shows = head-of x (λ y. y .shows) r r-is sh (h r r-is .shows) es (ap (λ y. y .shows) t-is)
+  in-ends : Head (r .ends) (t .ends) (l′ .ends)
+  in-ends = head-of (r .ends) (l .ends) (h r r-is .ends) (ap (λ y. y .ends) there) (ap (λ y. y .ends) t-is)
 
-  pub handed-list : t .units ≤ length li′
+  in-shows : Head (r .shows) (t .shows) (l′ .shows)
+  in-shows = head-of (r .shows) (l .shows) (h r r-is .shows) (ap (λ y. y .shows) there) (ap (λ y. y .shows) t-is)
+
+  pub handed-list : t .units ≤ length (l′ .list)
   handed-list = in-list .within
 
-  pub handed-picture : t .picture ≤ length pi′
+  pub handed-picture : t .picture ≤ length (l′ .pictures)
   handed-picture = in-picture .within
 
-  pub handed-ends : t .ends ≤ length en′
+  pub handed-ends : t .ends ≤ length (l′ .ends)
   handed-ends = in-ends .within
 
-  pub handed-shows : t .shows ≤ length sh′
+  pub handed-shows : t .shows ≤ length (l′ .shows)
   handed-shows = in-shows .within
 
   module _ (c : Container) (d m o b f : List ℕ) where
     module _ (cue : ℕ) (g : List ℕ) where
       pub walk-go : {d′ m′ o′ b′ f′ g′ : List ℕ} {a : Answer ℕ} {z : Outcome ℕ} → z ≡ overall a
-          → Showed c (take (t .units - 0) (drop 0 li′)) (take (t .picture - 0) (drop 0 pi′)) (take (t .ends - 0) (drop 0 en′)) (take (t .shows - 0) (drop 0 sh′)) d m o b f cue g a d′ m′ o′ b′ f′ g′
+          → Showed c (take (t .units - 0) (drop 0 (l′ .list))) (take (t .picture - 0) (drop 0 (l′ .pictures))) (take (t .ends - 0) (drop 0 (l′ .ends))) (take (t .shows - 0) (drop 0 (l′ .shows))) d m o b f cue g a d′ m′ o′ b′ f′ g′
           → Walks c x cue d m o b f g z d′ m′ o′ b′ f′ g′
       unfolding walk andAlso overall
       walk-go v w = let (i, rest) = rw (in-list .is, in-picture .is, in-ends .is, in-shows .is) at w in rw r-is (v ∙ ap overall i ∙ go (shownIn c (r .list) (r .picture) (r .ends) (r .shows) cue d m o b f g), rest)

@@ -1,8 +1,8 @@
 // The whole way for one list at run time: assembled, gathered, written in a container, read back, and played from a cue.
 ghost use mathlib.Core.Path.{_≡_};
-ghost use Rattle.pictures.specs.Assemble.{overall, lentAfter};
+ghost use Rattle.pictures.specs.Assemble.{overall};
 ghost use Rattle.container.specs.Units.{bytesAfter, endsAfter, outAfter};
-ghost use Rattle.assemble.specs.Whole.{outcome};
+ghost use Rattle.assemble.specs.Whole.{outcome, slices, lentAfter};
 ghost use Rattle.playback.specs.Shown.{showsSay};
 ghost use Rattle.playback.specs.Way.{formSays, gatheredIn, writtenIn, backIn, shownIn};
 ghost use Rattle.playback.specs.Walk.{walk, numberOf, walkedSays, stepAfter};
@@ -11,6 +11,7 @@ use crate::way::Form;
 use crate::way::play_list;
 use assemble::multi::Assembled;
 use assemble::multi::assemble_multi;
+use pictures::settings::Settings;
 
 pub enum Walked {
     // how many positions have their number
@@ -36,9 +37,7 @@ pub fn walk(
     form: Form,
     picture: &[u8],
     segments: &[u64],
-    gop_size: u64,
-    fps: u32,
-    fps_den: u32,
+    settings: Settings,
     cue: usize,
     list: &mut [u32],
     cues: &mut [u32],
@@ -53,26 +52,19 @@ pub fn walk(
     back_ends: &mut [u32],
     shown: &mut [u64],
 ) -> Walked
-    ensures answer { λ r. ⌜ walkedSays r ≡ numberOf (walk (formSays form) (outcome (now (picture .entry)) (now (segments .entry)) «gop_size» fps «fps_den» (now (list .entry)) (now (cues .entry)) (now (pictures .entry)) (now (ends .entry)) (now (shows .entry)) (now (header .entry))) cue (now (units .entry)) (now («unit_ends» .entry)) (now (out .entry)) (now (back .entry)) (now («back_ends» .entry)) (now (shown .entry))) ⌝ }
-    ensures list { λ _. ⌜ now (list .exit) ≡ lentAfter (outcome (now (picture .entry)) (now (segments .entry)) «gop_size» fps «fps_den» (now (list .entry)) (now (cues .entry)) (now (pictures .entry)) (now (ends .entry)) (now (shows .entry)) (now (header .entry))) (λ o. o .list) (now (list .entry)) ⌝ }
-    ensures cues { λ _. ⌜ now (cues .exit) ≡ lentAfter (outcome (now (picture .entry)) (now (segments .entry)) «gop_size» fps «fps_den» (now (list .entry)) (now (cues .entry)) (now (pictures .entry)) (now (ends .entry)) (now (shows .entry)) (now (header .entry))) (λ o. o .cues) (now (cues .entry)) ⌝ }
-    ensures pictures { λ _. ⌜ now (pictures .exit) ≡ lentAfter (outcome (now (picture .entry)) (now (segments .entry)) «gop_size» fps «fps_den» (now (list .entry)) (now (cues .entry)) (now (pictures .entry)) (now (ends .entry)) (now (shows .entry)) (now (header .entry))) (λ o. o .picture) (now (pictures .entry)) ⌝ }
-    ensures ends { λ _. ⌜ now (ends .exit) ≡ lentAfter (outcome (now (picture .entry)) (now (segments .entry)) «gop_size» fps «fps_den» (now (list .entry)) (now (cues .entry)) (now (pictures .entry)) (now (ends .entry)) (now (shows .entry)) (now (header .entry))) (λ o. o .ends) (now (ends .entry)) ⌝ }
-    ensures shows { λ _. ⌜ now (shows .exit) ≡ lentAfter (outcome (now (picture .entry)) (now (segments .entry)) «gop_size» fps «fps_den» (now (list .entry)) (now (cues .entry)) (now (pictures .entry)) (now (ends .entry)) (now (shows .entry)) (now (header .entry))) (λ o. o .shows) (now (shows .entry)) ⌝ }
-    ensures header { λ _. ⌜ now (header .exit) ≡ lentAfter (outcome (now (picture .entry)) (now (segments .entry)) «gop_size» fps «fps_den» (now (list .entry)) (now (cues .entry)) (now (pictures .entry)) (now (ends .entry)) (now (shows .entry)) (now (header .entry))) (λ o. o .header) (now (header .entry)) ⌝ }
-    ensures units { λ _. ⌜ now (units .exit) ≡ stepAfter (outcome (now (picture .entry)) (now (segments .entry)) «gop_size» fps «fps_den» (now (list .entry)) (now (cues .entry)) (now (pictures .entry)) (now (ends .entry)) (now (shows .entry)) (now (header .entry))) (λ o. bytesAfter (gatheredIn (formSays form) (o .list) (o .picture) (o .ends) (o .shows) (now (units .entry)) (now («unit_ends» .entry))) (now (units .entry))) (now (units .entry)) ⌝ }
-    ensures unit_ends { λ _. ⌜ now («unit_ends» .exit) ≡ stepAfter (outcome (now (picture .entry)) (now (segments .entry)) «gop_size» fps «fps_den» (now (list .entry)) (now (cues .entry)) (now (pictures .entry)) (now (ends .entry)) (now (shows .entry)) (now (header .entry))) (λ o. endsAfter (gatheredIn (formSays form) (o .list) (o .picture) (o .ends) (o .shows) (now (units .entry)) (now («unit_ends» .entry))) (now («unit_ends» .entry))) (now («unit_ends» .entry)) ⌝ }
-    ensures out { λ _. ⌜ now (out .exit) ≡ stepAfter (outcome (now (picture .entry)) (now (segments .entry)) «gop_size» fps «fps_den» (now (list .entry)) (now (cues .entry)) (now (pictures .entry)) (now (ends .entry)) (now (shows .entry)) (now (header .entry))) (λ o. outAfter (writtenIn (formSays form) (o .list) (o .picture) (o .ends) (o .shows) (now (units .entry)) (now («unit_ends» .entry)) (now (out .entry))) (now (out .entry))) (now (out .entry)) ⌝ }
-    ensures back { λ _. ⌜ now (back .exit) ≡ stepAfter (outcome (now (picture .entry)) (now (segments .entry)) «gop_size» fps «fps_den» (now (list .entry)) (now (cues .entry)) (now (pictures .entry)) (now (ends .entry)) (now (shows .entry)) (now (header .entry))) (λ o. bytesAfter (backIn (formSays form) (o .list) (o .picture) (o .ends) (o .shows) (now (units .entry)) (now («unit_ends» .entry)) (now (out .entry)) (now (back .entry)) (now («back_ends» .entry))) (now (back .entry))) (now (back .entry)) ⌝ }
-    ensures back_ends { λ _. ⌜ now («back_ends» .exit) ≡ stepAfter (outcome (now (picture .entry)) (now (segments .entry)) «gop_size» fps «fps_den» (now (list .entry)) (now (cues .entry)) (now (pictures .entry)) (now (ends .entry)) (now (shows .entry)) (now (header .entry))) (λ o. endsAfter (backIn (formSays form) (o .list) (o .picture) (o .ends) (o .shows) (now (units .entry)) (now («unit_ends» .entry)) (now (out .entry)) (now (back .entry)) (now («back_ends» .entry))) (now («back_ends» .entry))) (now («back_ends» .entry)) ⌝ }
-    ensures shown { λ _. ⌜ now (shown .exit) ≡ stepAfter (outcome (now (picture .entry)) (now (segments .entry)) «gop_size» fps «fps_den» (now (list .entry)) (now (cues .entry)) (now (pictures .entry)) (now (ends .entry)) (now (shows .entry)) (now (header .entry))) (λ o. outAfter (shownIn (formSays form) (o .list) (o .picture) (o .ends) (o .shows) cue (now (units .entry)) (now («unit_ends» .entry)) (now (out .entry)) (now (back .entry)) (now («back_ends» .entry)) (now (shown .entry))) (now (shown .entry))) (now (shown .entry)) ⌝ }
+    ensures answer { λ r. ⌜ walkedSays r ≡ numberOf (walk (formSays form) (outcome (now (picture .entry)) (now (segments .entry)) settings (slices list cues pictures ends shows header .entry)) cue (now (units .entry)) (now («unit_ends» .entry)) (now (out .entry)) (now (back .entry)) (now («back_ends» .entry)) (now (shown .entry))) ⌝ }
+    ensures lent { λ _. ⌜ slices list cues pictures ends shows header .exit ≡ lentAfter (outcome (now (picture .entry)) (now (segments .entry)) settings (slices list cues pictures ends shows header .entry)) (slices list cues pictures ends shows header .entry) ⌝ }
+    ensures units { λ _. ⌜ now (units .exit) ≡ stepAfter (outcome (now (picture .entry)) (now (segments .entry)) settings (slices list cues pictures ends shows header .entry)) (λ o. bytesAfter (gatheredIn (formSays form) (o .list) (o .picture) (o .ends) (o .shows) (now (units .entry)) (now («unit_ends» .entry))) (now (units .entry))) (now (units .entry)) ⌝ }
+    ensures unit_ends { λ _. ⌜ now («unit_ends» .exit) ≡ stepAfter (outcome (now (picture .entry)) (now (segments .entry)) settings (slices list cues pictures ends shows header .entry)) (λ o. endsAfter (gatheredIn (formSays form) (o .list) (o .picture) (o .ends) (o .shows) (now (units .entry)) (now («unit_ends» .entry))) (now («unit_ends» .entry))) (now («unit_ends» .entry)) ⌝ }
+    ensures out { λ _. ⌜ now (out .exit) ≡ stepAfter (outcome (now (picture .entry)) (now (segments .entry)) settings (slices list cues pictures ends shows header .entry)) (λ o. outAfter (writtenIn (formSays form) (o .list) (o .picture) (o .ends) (o .shows) (now (units .entry)) (now («unit_ends» .entry)) (now (out .entry))) (now (out .entry))) (now (out .entry)) ⌝ }
+    ensures back { λ _. ⌜ now (back .exit) ≡ stepAfter (outcome (now (picture .entry)) (now (segments .entry)) settings (slices list cues pictures ends shows header .entry)) (λ o. bytesAfter (backIn (formSays form) (o .list) (o .picture) (o .ends) (o .shows) (now (units .entry)) (now («unit_ends» .entry)) (now (out .entry)) (now (back .entry)) (now («back_ends» .entry))) (now (back .entry))) (now (back .entry)) ⌝ }
+    ensures back_ends { λ _. ⌜ now («back_ends» .exit) ≡ stepAfter (outcome (now (picture .entry)) (now (segments .entry)) settings (slices list cues pictures ends shows header .entry)) (λ o. endsAfter (backIn (formSays form) (o .list) (o .picture) (o .ends) (o .shows) (now (units .entry)) (now («unit_ends» .entry)) (now (out .entry)) (now (back .entry)) (now («back_ends» .entry))) (now («back_ends» .entry))) (now («back_ends» .entry)) ⌝ }
+    ensures shown { λ _. ⌜ now (shown .exit) ≡ stepAfter (outcome (now (picture .entry)) (now (segments .entry)) settings (slices list cues pictures ends shows header .entry)) (λ o. outAfter (shownIn (formSays form) (o .list) (o .picture) (o .ends) (o .shows) cue (now (units .entry)) (now («unit_ends» .entry)) (now (out .entry)) (now (back .entry)) (now («back_ends» .entry)) (now (shown .entry))) (now (shown .entry))) (now (shown .entry)) ⌝ }
 {
     match assemble_multi(
         picture,
         segments,
-        gop_size,
-        fps,
-        fps_den,
+        settings,
         list,
         cues,
         pictures,

@@ -1,17 +1,11 @@
 use borrow.Author.Needs.{needs}
-use Prim.Native.Nat.{ℕ}
-use mathlib.Core.Path.{_≡_, sym, ap, _∙_}
-use denote.Ref.{now}
+use mathlib.Core.Path.{sym, ap, _∙_}
 use Rattle.pictures.specs.Assemble.{Outcome}
 use Rattle.assemble.specs.Whole.{assembledSays}
 use Rattle.assemble.specs.declared.multi.Counts.{Counts}
-use Rattle.capi.specs.Door.{assembledCode, numberAfter}
+use Rattle.capi.specs.Door.{assembledCode, numbersAfter, five}
 use Rattle.capi.proofs.magbelo_assemble.Statement.{statement}
 use Rattle.capi.proofs.magbelo_assemble.Tie as tie
-
--- a lent number afterwards, by what was answered
-after : (f : Counts → ℕ) (d : ℕ) {x y : Outcome Counts} → x ≡ y → numberAfter x f d ≡ numberAfter y f d
-after f d e = ap (λ x. numberAfter x f d) e
 
 assemble-multi-requires : tie.Need-assemble-multi-requires
 assemble-multi-requires c κs = search needs
@@ -57,37 +51,8 @@ returns c =
     let u = c .before .before .before .before .before .before .before .before .before .before .before .before .before .before .before in
     let a = u .before .before .before .before .before .before .before .before .before .before .before .before .before .before .before .args in
     let w = u .assemble-multi .ensures in
-    let e = sym (ap assembledSays (c .before .k .given .1)) ∙ w .0 in (
-      ap assembledCode e,
-      (
-        w .1 .0,
-        (
-          w .1 .1 .0,
-          (
-            w .1 .1 .1 .0,
-            (
-              w .1 .1 .1 .1 .0,
-              (
-                w .1 .1 .1 .1 .1 .0,
-                (
-                  w .1 .1 .1 .1 .1 .1,
-                  (
-                    after (λ y. y .units) (now (a .units)) e,
-                    (
-                      after (λ y. y .cues) (now (a .cue-count)) e,
-                      (
-                        after (λ y. y .picture) (now (a .picture-len)) e,
-                        (after (λ y. y .header) (now (a .header-len)) e, after (λ y. y .«golden_slot») (now (a .golden-slot)) e),
-                      ),
-                    ),
-                  ),
-                ),
-              ),
-            ),
-          ),
-        ),
-      ),
-    )
+    let e = sym (ap assembledSays (c .before .k .given .1)) ∙ w .answer in
+    record { code = ap assembledCode e; lent = w .lent; numbers = ap (λ (y : Outcome Counts). numbersAfter y (five (a .units) (a .cue-count) (a .picture-len) (a .header-len) (a .golden-slot))) e }
 
 same-length-7 : tie.Need-same-length-7
 same-length-7 c = search needs
@@ -112,37 +77,8 @@ returns-2 c =
     let u = c .before .before .before .before .before .before .before .before .before .before .before .before .before .before .before in
     let a = u .before .before .before .before .before .before .before .before .before .before .before .before .before .before .before .args in
     let w = u .assemble-multi .ensures in
-    let e = sym (ap assembledSays (c .before .k2 .given .1)) ∙ w .0 in (
-      ap assembledCode e,
-      (
-        w .1 .0,
-        (
-          w .1 .1 .0,
-          (
-            w .1 .1 .1 .0,
-            (
-              w .1 .1 .1 .1 .0,
-              (
-                w .1 .1 .1 .1 .1 .0,
-                (
-                  w .1 .1 .1 .1 .1 .1,
-                  (
-                    after (λ y. y .units) (now (a .units)) e,
-                    (
-                      after (λ y. y .cues) (now (a .cue-count)) e,
-                      (
-                        after (λ y. y .picture) (now (a .picture-len)) e,
-                        (after (λ y. y .header) (now (a .header-len)) e, after (λ y. y .«golden_slot») (now (a .golden-slot)) e),
-                      ),
-                    ),
-                  ),
-                ),
-              ),
-            ),
-          ),
-        ),
-      ),
-    )
+    let e = sym (ap assembledSays (c .before .k2 .given .1)) ∙ w .answer in
+    record { code = ap assembledCode e; lent = w .lent; numbers = ap (λ (y : Outcome Counts). numbersAfter y (five (a .units) (a .cue-count) (a .picture-len) (a .header-len) (a .golden-slot))) e }
 
 same-length-13 : tie.Need-same-length-13
 same-length-13 c = search needs
@@ -167,37 +103,8 @@ returns-3 c =
     let u = c .before .before .before .before .before .before .before .before .before .before .before .before .before .before .before in
     let a = u .before .before .before .before .before .before .before .before .before .before .before .before .before .before .before .args in
     let w = u .assemble-multi .ensures in
-    let e = sym (ap assembledSays (c .before .c .given .1)) ∙ w .0 in (
-      ap assembledCode e,
-      (
-        w .1 .0,
-        (
-          w .1 .1 .0,
-          (
-            w .1 .1 .1 .0,
-            (
-              w .1 .1 .1 .1 .0,
-              (
-                w .1 .1 .1 .1 .1 .0,
-                (
-                  w .1 .1 .1 .1 .1 .1,
-                  (
-                    after (λ y. y .units) (now (a .units)) e,
-                    (
-                      after (λ y. y .cues) (now (a .cue-count)) e,
-                      (
-                        after (λ y. y .picture) (now (a .picture-len)) e,
-                        (after (λ y. y .header) (now (a .header-len)) e, after (λ y. y .«golden_slot») (now (a .golden-slot)) e),
-                      ),
-                    ),
-                  ),
-                ),
-              ),
-            ),
-          ),
-        ),
-      ),
-    )
+    let e = sym (ap assembledSays (c .before .c .given .1)) ∙ w .answer in
+    record { code = ap assembledCode e; lent = w .lent; numbers = ap (λ (y : Outcome Counts). numbersAfter y (five (a .units) (a .cue-count) (a .picture-len) (a .header-len) (a .golden-slot))) e }
 
 pub magbelo-assemble-spec : {M : Type 1} → statement M
 magbelo-assemble-spec =

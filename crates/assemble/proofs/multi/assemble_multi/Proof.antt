@@ -3,6 +3,7 @@ use borrow.Author.Needs.{needs}
 use mathlib.Core.Path.{sym, ap, _∙_}
 use borrow.Author.Tests.{not-true, not-false}
 use denote.Ref.{now}
+use Rattle.assemble.specs.Whole.{six}
 use Rattle.assemble.specs.Stages.{fitsIn}
 use Rattle.assemble.specs.declared.multi.Counts.{Counts}
 use Rattle.assemble.proofs.WholeLaws.{plan-ready, sound, full, can-lay, can-pictures, can-shows, can-header, plan-refused, plan-refused-in, all-made}
@@ -35,7 +36,7 @@ count-all-requires c κs =
     let s = now (a .picture) in
     let rs = now (a .segments) in
     let y = plan-ready s rs _ _ _ _ _ (g .before .before .before .before .answer3 .given .1) (g .before .payload .ensures) (m .plan-multi .ensures) in
-    let z = sound s rs (a .gop-size) (a .fps) (a .fps-den) (now (a .list)) (now (a .cues)) (now (a .pictures)) (now (a .ends)) (now (a .shows)) (now (a .header)) _ _ _ _ y in
+    let z = sound s rs (a .settings) (six (a .list) (a .cues) (a .pictures) (a .ends) (a .shows) (a .header)) _ _ _ _ y in
     (omega (arith, z .gop-size), (omega (arith, z .some-there), z .small))
 
 fits-room-requires : tie.Need-fits-room-requires
@@ -46,7 +47,7 @@ fits-room-requires c κs =
     let s = now (a .picture) in
     let rs = now (a .segments) in
     let y = plan-ready s rs _ _ _ _ _ (g .before .before .before .before .answer3 .given .1) (g .before .payload .ensures) (m .plan-multi .ensures) in
-    let z = sound s rs (a .gop-size) (a .fps) (a .fps-den) (now (a .list)) (now (a .cues)) (now (a .pictures)) (now (a .ends)) (now (a .shows)) (now (a .header)) _ _ _ _ y in
+    let z = sound s rs (a .settings) (six (a .list) (a .cues) (a .pictures) (a .ends) (a .shows) (a .header)) _ _ _ _ y in
     let w = ap (λ (n : Counts). n .shows) (c .before .before .before .before .before .before .count-all .ensures) in
     omega (arith, z .count, w)
 
@@ -76,7 +77,7 @@ returns c =
     let s = now (a .picture) in
     let rs = now (a .segments) in
     let y = plan-ready s rs _ _ _ _ _ (g .before .before .before .before .answer3 .given .1) (g .before .payload .ensures) (m .plan-multi .ensures) in
-    full s rs (a .gop-size) (a .fps) (a .fps-den) (now (a .list)) (now (a .cues)) (now (a .pictures)) (now (a .ends)) (now (a .shows)) (now (a .header)) _ _ _ _ y (sym (not-true _ (c .if1 .taken)) ∙ c .before .fits-room .ensures ∙ ap (fitsIn _) (c .before .before .before .before .before .before .before .before .count-all .ensures))
+    full s rs (a .settings) (six (a .list) (a .cues) (a .pictures) (a .ends) (a .shows) (a .header)) _ _ _ _ y (sym (not-true _ (c .if1 .taken)) ∙ c .before .fits-room .ensures ∙ ap (fitsIn _) (c .before .before .before .before .before .before .before .before .count-all .ensures))
 
 put-list-requires : tie.Need-put-list-requires
 put-list-requires c κs =
@@ -88,7 +89,7 @@ put-list-requires c κs =
     let y = plan-ready s rs _ _ _ _ _ (g .before .before .before .before .answer3 .given .1) (g .before .payload .ensures) (m .plan-multi .ensures) in
     let e = c .before .before in
     let f = sym (not-false _ (e .if1 .left)) ∙ e .before .fits-room .ensures ∙ ap (fitsIn _) (e .before .before .before .before .before .before .before .before .count-all .ensures) in
-    can-lay s rs (a .gop-size) (a .fps) (a .fps-den) (now (a .list)) (now (a .cues)) (now (a .pictures)) (now (a .ends)) (now (a .shows)) (now (a .header)) _ _ _ _ y f
+    can-lay s rs (a .settings) (six (a .list) (a .cues) (a .pictures) (a .ends) (a .shows) (a .header)) _ _ _ _ y f
 
 put-pictures-requires : tie.Need-put-pictures-requires
 put-pictures-requires c κs =
@@ -100,7 +101,7 @@ put-pictures-requires c κs =
     let y = plan-ready s rs _ _ _ _ _ (g .before .before .before .before .answer3 .given .1) (g .before .payload .ensures) (m .plan-multi .ensures) in
     let e = c .before .before .before .before .before .before .before .before .before in
     let f = sym (not-false _ (e .if1 .left)) ∙ e .before .fits-room .ensures ∙ ap (fitsIn _) (e .before .before .before .before .before .before .before .before .count-all .ensures) in
-    can-pictures s rs (a .gop-size) (a .fps) (a .fps-den) (now (a .list)) (now (a .cues)) (now (a .pictures)) (now (a .ends)) (now (a .shows)) (now (a .header)) _ _ _ _ y f
+    can-pictures s rs (a .settings) (six (a .list) (a .cues) (a .pictures) (a .ends) (a .shows) (a .header)) _ _ _ _ y f
 
 put-shows-requires : tie.Need-put-shows-requires
 put-shows-requires c κs =
@@ -112,7 +113,7 @@ put-shows-requires c κs =
     let y = plan-ready s rs _ _ _ _ _ (g .before .before .before .before .answer3 .given .1) (g .before .payload .ensures) (m .plan-multi .ensures) in
     let e = c .before .before .before .before .before .before .before .before .before .before .before .before .before .before .before in
     let f = sym (not-false _ (e .if1 .left)) ∙ e .before .fits-room .ensures ∙ ap (fitsIn _) (e .before .before .before .before .before .before .before .before .count-all .ensures) in
-    can-shows s rs (a .gop-size) (a .fps) (a .fps-den) (now (a .list)) (now (a .cues)) (now (a .pictures)) (now (a .ends)) (now (a .shows)) (now (a .header)) _ _ _ _ y f
+    can-shows s rs (a .settings) (six (a .list) (a .cues) (a .pictures) (a .ends) (a .shows) (a .header)) _ _ _ _ y f
 
 put-header-requires : tie.Need-put-header-requires
 put-header-requires c κs =
@@ -124,7 +125,7 @@ put-header-requires c κs =
     let y = plan-ready s rs _ _ _ _ _ (g .before .before .before .before .answer3 .given .1) (g .before .payload .ensures) (m .plan-multi .ensures) in
     let e = c .before .before .before .before .before .before .before .before .before .before .before .before .before .before .before .before .before .before .before in
     let f = sym (not-false _ (e .if1 .left)) ∙ e .before .fits-room .ensures ∙ ap (fitsIn _) (e .before .before .before .before .before .before .before .before .count-all .ensures) in
-    can-header s rs (a .gop-size) (a .fps) (a .fps-den) (now (a .list)) (now (a .cues)) (now (a .pictures)) (now (a .ends)) (now (a .shows)) (now (a .header)) _ _ _ _ y f
+    can-header s rs (a .settings) (six (a .list) (a .cues) (a .pictures) (a .ends) (a .shows) (a .header)) _ _ _ _ y f
 
 returns-2 : tie.Need-returns-2
 returns-2 c =
@@ -132,7 +133,7 @@ returns-2 c =
     let a = m .before .before .before .before .before .before .before .before .before .args in
     let s = now (a .picture) in
     let rs = now (a .segments) in
-    plan-refused s rs (a .gop-size) (a .fps) (a .fps-den) (now (a .list)) (now (a .cues)) (now (a .pictures)) (now (a .ends)) (now (a .shows)) (now (a .header)) _ (m .plan-multi .ensures) _ (c .before .answer .given .1)
+    plan-refused s rs (a .settings) (six (a .list) (a .cues) (a .pictures) (a .ends) (a .shows) (a .header)) _ (m .plan-multi .ensures) _ (c .before .answer .given .1)
 
 returns-3 : tie.Need-returns-3
 returns-3 c =
@@ -140,7 +141,7 @@ returns-3 c =
     let a = m .before .before .before .before .before .before .before .before .before .args in
     let s = now (a .picture) in
     let rs = now (a .segments) in
-    plan-refused-in s rs (a .gop-size) (a .fps) (a .fps-den) (now (a .list)) (now (a .cues)) (now (a .pictures)) (now (a .ends)) (now (a .shows)) (now (a .header)) _ (m .plan-multi .ensures) _ _ (c .before .answer2 .given .1)
+    plan-refused-in s rs (a .settings) (six (a .list) (a .cues) (a .pictures) (a .ends) (a .shows) (a .header)) _ (m .plan-multi .ensures) _ _ (c .before .answer2 .given .1)
 
 same-length-7 : tie.Need-same-length-7
 same-length-7 c = search needs
@@ -172,7 +173,7 @@ returns-4 c =
     let f = sym (not-false _ (e .if1 .left)) ∙ e .before .fits-room .ensures ∙ ap (fitsIn _) (e .before .before .before .before .before .before .before .before .count-all .ensures) in
     let l = c .before .before .before .before .before .before .before .before .before .before .before .before .before .before .before .before .before .before .before .put-list .ensures in
     let p = c .before .before .before .before .before .before .before .before .before .before .before .before .put-pictures .ensures in
-    all-made s rs (a .gop-size) (a .fps) (a .fps-den) (now (a .list)) (now (a .cues)) (now (a .pictures)) (now (a .ends)) (now (a .shows)) (now (a .header)) _ _ _ _ y f _ _ _ _ _ _ _ (e .before .before .before .before .before .before .before .before .count-all .ensures) (l .list) (l .cues) (p .0) (p .1) (c .before .before .before .before .before .before .put-shows .ensures) (c .before .before .put-header .ensures)
+    all-made s rs (a .settings) (six (a .list) (a .cues) (a .pictures) (a .ends) (a .shows) (a .header)) _ _ _ _ y f _ _ (e .before .before .before .before .before .before .before .before .count-all .ensures) (l .list) (l .cues) (p .0) (p .1) (c .before .before .before .before .before .before .put-shows .ensures) (c .before .before .put-header .ensures)
 
 pub assemble-multi-spec : {M : Type 1} → statement M
 assemble-multi-spec =

@@ -2,7 +2,6 @@ use native.Mathlib.Omega.{arith}
 use borrow.Author.Needs.{needs}
 use mathlib.Core.Path.{_≡_, sym, ap, _∙_}
 use denote.Ref.{now}
-use Rattle.pictures.specs.Prepare.{Settings}
 use Rattle.pictures.specs.Assemble.{made}
 use Rattle.pictures.specs.Sizes.{checkedSays}
 use Rattle.pictures.specs.Code.{firstSequence}
@@ -14,11 +13,11 @@ use Rattle.assemble.proofs.plan.plan_multi.Statement.{statement}
 use Rattle.assemble.proofs.plan.plan_multi.Tie as tie
 
 -- the checks are passed
-fit : (c : tie.After-enum-told) → made tt ≡ checked (now (c .before .before .before .before .before .args .picture)) (now (c .before .before .before .before .before .args .segments)) (c .before .before .before .before .before .args .gop)
+fit : (c : tie.After-enum-told) → made tt ≡ checked (now (c .before .before .before .before .before .args .picture)) (now (c .before .before .before .before .before .args .segments)) (c .before .before .before .before .before .args .settings .gop)
 fit c = sym (ap checkedSays (c .enum-told .given .1)) ∙ c .before .before .check-input .ensures
 
-sound : (c : tie.After-enum-told) → Sound (c .before .before .before .before .before .args .gop) (now (c .before .before .before .before .before .args .segments))
-sound c = checked-sound (now (c .before .before .before .before .before .args .picture)) (now (c .before .before .before .before .before .args .segments)) (c .before .before .before .before .before .args .gop) (sym (fit c))
+sound : (c : tie.After-enum-told) → Sound (c .before .before .before .before .before .args .settings .gop) (now (c .before .before .before .before .before .args .segments))
+sound c = checked-sound (now (c .before .before .before .before .before .args .picture)) (now (c .before .before .before .before .before .args .segments)) (c .before .before .before .before .before .args .settings .gop) (sym (fit c))
 
 check-input-requires : tie.Need-check-input-requires
 check-input-requires c κs = search needs
@@ -26,8 +25,8 @@ check-input-requires c κs = search needs
 enum-known-k : tie.Need-enum-known-k
 enum-known-k c = search needs
 
-cast-t13 : tie.Need-cast-t13
-cast-t13 c = search needs
+cast-t11 : tie.Need-cast-t11
+cast-t11 c = search needs
 
 no-plan-requires : tie.Need-no-plan-requires
 no-plan-requires c κs = search needs
@@ -35,8 +34,8 @@ no-plan-requires c κs = search needs
 enum-known-k-2 : tie.Need-enum-known-k-2
 enum-known-k-2 c = search needs
 
-cast-t15 : tie.Need-cast-t15
-cast-t15 c = search needs
+cast-t13 : tie.Need-cast-t13
+cast-t13 c = search needs
 
 no-plan-requires-2 : tie.Need-no-plan-requires-2
 no-plan-requires-2 c κs = search needs
@@ -53,8 +52,8 @@ first-sequence-requires c κs = search needs
 enum-known-k-3 : tie.Need-enum-known-k-3
 enum-known-k-3 c = search needs
 
-cast-t20 : tie.Need-cast-t20
-cast-t20 c = search needs
+cast-t18 : tie.Need-cast-t18
+cast-t18 c = search needs
 
 no-plan-requires-3 : tie.Need-no-plan-requires-3
 no-plan-requires-3 c κs = search needs
@@ -72,7 +71,7 @@ returns c =
     let a = c .before .before .before .before .before .before .before .args in
     let s = now (a .picture) in
     let rs = now (a .segments) in
-    let set : Settings = record { gop = a .gop; fps = a .fps; den = a .fps-den } in
+    let set = a .settings in
     says-refused s rs _ _ (c .no-plan .ensures)
     ∙ plan-unchecked s rs set _ _ (sym (ap checkedSays (c .before .before .k .given .1)) ∙ c .before .before .before .before .check-input .ensures)
 
@@ -81,7 +80,7 @@ returns-2 c =
     let a = c .before .before .before .before .before .before .before .args in
     let s = now (a .picture) in
     let rs = now (a .segments) in
-    let set : Settings = record { gop = a .gop; fps = a .fps; den = a .fps-den } in
+    let set = a .settings in
     says-refused-in s rs _ _ _ (c .no-plan2 .ensures)
     ∙ plan-unchecked s rs set _ _ (sym (ap checkedSays (c .before .before .k2 .given .1)) ∙ c .before .before .before .before .check-input .ensures)
 
@@ -90,7 +89,7 @@ returns-3 c =
     let a = c .before .before .before .before .before .before .before .before .before .before .before .args in
     let s = now (a .picture) in
     let rs = now (a .segments) in
-    let set : Settings = record { gop = a .gop; fps = a .fps; den = a .fps-den } in
+    let set = a .settings in
     let f = c .before .before .before .before in
     says-refused-in s rs _ _ _ (c .no-plan3 .ensures)
     ∙ plan-unfound s rs set (fit (f .before .before)) _ (sym (ap (foundSays (now (f .before .unit-at .result))) (c .before .before .k3 .given .1)) ∙ f .first-sequence .ensures ∙ ap firstSequence (f .before .unit-at .ensures))
@@ -100,7 +99,7 @@ returns-4 c =
     let a = c .before .before .before .before .before .before .before .before .before .before .before .args in
     let s = now (a .picture) in
     let rs = now (a .segments) in
-    let set : Settings = record { gop = a .gop; fps = a .fps; den = a .fps-den } in
+    let set = a .settings in
     let f = c .before .before .before .before in
     let u = f .before .unit-at .ensures in
     c .plan-header .ensures
@@ -112,16 +111,16 @@ plan-multi-spec =
     (tie.spec
     check-input-requires
     enum-known-k
-    cast-t13
+    cast-t11
     no-plan-requires
     enum-known-k-2
-    cast-t15
+    cast-t13
     no-plan-requires-2
     enum-told
     unit-at-requires
     first-sequence-requires
     enum-known-k-3
-    cast-t20
+    cast-t18
     no-plan-requires-3
     enum-known-obu
     plan-header-requires

@@ -1,6 +1,6 @@
 -- `assemble::segments::assemble_segments` meets its contract: a walk of its MIR, by hand, straight through two calls.
 -- The numbers are lent to `copy_segments` for a lifetime of the call, and come back as it ensures. Then all is handed to `assemble_copied` at its own lifetime, share and ghost name, and what that says of the last values is what is promised. Assumes nothing.
-use mathlib.Core.Path.{_≡_, refl, sym, _∙_, ap}
+use mathlib.Core.Path.{_≡_, refl, sym, _∙_, ap, fun-ext}
 use Prim.Native.Nat.{ℕ, _<_, _^_}
 use mathlib.Core.List.{List, [], _∷_}
 use lib.ListN.{length}
@@ -37,8 +37,9 @@ use denote.Triple.Entry.{Args, Vals, onEntry}
 use denote.Triple.Spec.{Meets, tripleOf}
 use denote.Triple.Table.{entered, cited}
 use denote.Triple.Walked.{Stays, walkOf, Walks, ends-at, walked, walk-meets}
-use Rattle.pictures.specs.Assemble.{Outcome, Output, lentAfter}
-use Rattle.assemble.specs.Whole.{assembledSays, countsOf}
+use Rattle.pictures.specs.Prepare.{Settings}
+use Rattle.pictures.specs.Assemble.{Outcome, Output}
+use Rattle.assemble.specs.Whole.{Lent as LentSix, six, Handed}
 use Rattle.assemble.specs.Records.{numbersAfter, copiedOutcome, recordsOutcome}
 use Rattle.assemble.specs.declared.segments.Segment.{Segment}
 use Rattle.assemble.specs.declared.multi.Assembled.{Assembled}
@@ -195,25 +196,26 @@ module _ {M : Type 1} (𝓤 : URA M) (H : Heap 𝓤) (A : Atoms 𝓤) (W : Given
   goes-copied : ent 𝓤 (onEntry 𝓤 H A copied.signature κs₁ qs₁ a₁ at₁) (Copied 𝓤 H A mem run .pre to-copied)
   goes-copied = qed W (raw (onEntry 𝓤 H A copied.signature κs₁ qs₁ a₁ at₁) ∷ []) ∵ frame ! $ done !
 
+  abbrev set : Settings
+  set = record { gop = gop; fps = fps; den = den }
+
   -- what is promised of the result and the last values, at an outcome
-  abbrev Promised : Assembled → Lasts copied.ended κs₁ a₁ → Outcome Output → SProp 𝓤
+  abbrev Promised : Assembled → Lasts copied.ended κs₁ a₁ → (LentSix → Outcome Output) → SProp 𝓤
   Promised r zs o =
-      sep 𝓤 (fact 𝓤 (assembledSays r ≡ countsOf o))
-      (sep 𝓤 (fact 𝓤 (zs .1 .1 .0 ≡ after))
-      (sep 𝓤 (fact 𝓤 (zs .1 .1 .1 .1 .1 .1 .0 ≡ lentAfter o (λ m. m .list) (list .now)))
-      (sep 𝓤 (fact 𝓤 (zs .1 .1 .1 .1 .1 .1 .1 .0 ≡ lentAfter o (λ m. m .cues) (cues .now)))
-      (sep 𝓤 (fact 𝓤 (zs .1 .1 .1 .1 .1 .1 .1 .1 .0 ≡ lentAfter o (λ m. m .picture) (pictures .now)))
-      (sep 𝓤 (fact 𝓤 (zs .1 .1 .1 .1 .1 .1 .1 .1 .1 .0 ≡ lentAfter o (λ m. m .ends) (ends .now)))
-      (sep 𝓤 (fact 𝓤 (zs .1 .1 .1 .1 .1 .1 .1 .1 .1 .1 .0 ≡ lentAfter o (λ m. m .shows) (shows .now)))
-      (fact 𝓤 (zs .1 .1 .1 .1 .1 .1 .1 .1 .1 .1 .1 .0 ≡ lentAfter o (λ m. m .header) (header .now)))))))))
+      let (l, (c, (p, (e, (w, (h, _)))))) = zs .1 .1 .1 .1 .1 .1 in
+      sep 𝓤 (fact 𝓤 (Handed o r (record {
+        entry = six list cues pictures ends shows header;
+        exit = record { list = l; cues = c; pictures = p; ends = e; shows = w; header = h };
+      })))
+      (fact 𝓤 (zs .1 .1 .0 ≡ after))
 
   abbrev Says : ℕ → List ℕ → Type 0
   Says r zs = (r ≡ length ys) × (zs ≡ after)
 
   exits : (r : Assembled) (w : Val) (zs : Lasts copied.ended κs₁ a₁) → length after ≡ length ws
-      → ent 𝓤 (⋆ 𝓤 H A (‵ (E.the-row .own r (w ∷ [])) ∷ (‵ (flft (κs .0) (qs .0)) ⊛ ‵ (flft κ q) ⊛ Tokens) ∷ ‵ (lasts copied.ended κs₁ a₁ zs) ∷ raw (Promised r zs (recordsOutcome (picture .now) ys ws gop fps den (list .now) (cues .now) (pictures .now) (ends .now) (shows .now) (header .now))) ∷ ‵ (flft (κs .1 .0) (qs .1 .0)) ∷ [])) (Post w)
+      → ent 𝓤 (⋆ 𝓤 H A (‵ (E.the-row .own r (w ∷ [])) ∷ (‵ (flft (κs .0) (qs .0)) ⊛ ‵ (flft κ q) ⊛ Tokens) ∷ ‵ (lasts copied.ended κs₁ a₁ zs) ∷ raw (Promised r zs (recordsOutcome (picture .now) ys ws set)) ∷ ‵ (flft (κs .1 .0) (qs .1 .0)) ∷ [])) (Post w)
   exits r w zs len =
-      qed W (‵ (E.the-row .own r (w ∷ [])) ∷ (‵ (flft (κs .0) (qs .0)) ⊛ ‵ (flft κ q) ⊛ Tokens) ∷ ‵ (lasts copied.ended κs₁ a₁ zs) ∷ raw (Promised r zs (recordsOutcome (picture .now) ys ws gop fps den (list .now) (cues .now) (pictures .now) (ends .now) (shows .now) (header .now))) ∷ ‵ (flft (κs .1 .0) (qs .1 .0)) ∷ []) ∵
+      qed W (‵ (E.the-row .own r (w ∷ [])) ∷ (‵ (flft (κs .0) (qs .0)) ⊛ ‵ (flft κ q) ⊛ Tokens) ∷ ‵ (lasts copied.ended κs₁ a₁ zs) ∷ raw (Promised r zs (recordsOutcome (picture .now) ys ws set)) ∷ ‵ (flft (κs .1 .0) (qs .1 .0)) ∷ []) ∵
       suffices ! _ (ends-at 𝓤 H A f.ended stayed (f.clauses 𝓤 H A mem run) W ((κs, qs, bounds, a, at), tt) w r zs (all-fit κs (f.ended .signature .params) (f.ended .kept) a zs)) $
       -- the numbers were as long when they were lent
       move ! (2 ∷ []) $ fsplit ! $ move ! (1 ∷ []) $ fsplit ! $ move ! (1 ∷ []) $ fsplit ! $ fsplit ! $ move ! (1 ∷ []) $ feqL ! (λ l.
@@ -279,8 +281,8 @@ module _ {M : Type 1} (𝓤 : URA M) (H : Heap 𝓤) (A : Atoms 𝓤) (W : Given
         (and-then ! (load ! (from ! (stop !)) (look ! 50 refl)) (and-then ! (load ! (from ! (stop !)) (look ! 48 refl)) (and-then ! (load ! (from ! (stop !)) (look ! 22 refl)) (and-then ! (load ! (from ! (stop !)) (look ! 18 refl))
         (and-then ! (load ! (from ! (stop !)) (look ! 14 refl)) (and-then ! (load ! (from ! (stop !)) (look ! 10 refl)) (and-then ! (load ! (from ! (stop !)) (look ! 6 refl)) (and-then ! (load ! (from ! (stop !)) (look ! 2 refl)) (no-more !))))))))))))) (λ w₁.
         use1 W (later (some (λ (r : Assembled). ((‵ (flft (κs .0) (qs .0)) ⊛ ‵ (flft κ q) ⊛ Tokens) ⊛ ‵ (E.the-row .own r (w₁ ∷ []))) ⊛ raw (ensured 𝓤 H A copied.ended (copied.clauses 𝓤 H A mem run) κs₁ a₁ tt r)))) (id⊢ 𝓤 _) $ await ! tt $ pick ! (λ r₁. split ! $ move ! (1 ∷ []) $
-        use1 W (some (λ (zs : Lasts copied.ended κs₁ a₁). ‵ (lasts copied.ended κs₁ a₁ zs) ⊛ raw (Promised r₁ zs (copiedOutcome (picture .now) (length ys) after gop fps den (list .now) (cues .now) (pictures .now) (ends .now) (shows .now) (header .now))))) (id⊢ 𝓤 _) $ pick ! (λ zs₁. split ! $
-        rewrite ! 1 (λ (m : Outcome Output). raw (Promised r₁ zs₁ m)) (copied-is (picture .now) ys ws gop fps den (list .now) (cues .now) (pictures .now) (ends .now) (shows .now) (header .now)) refl $
+        use1 W (some (λ (zs : Lasts copied.ended κs₁ a₁). ‵ (lasts copied.ended κs₁ a₁ zs) ⊛ raw (Promised r₁ zs (copiedOutcome (picture .now) (length ys) after set)))) (id⊢ 𝓤 _) $ pick ! (λ zs₁. split ! $
+        rewrite ! 1 (λ (m : LentSix → Outcome Output). raw (Promised r₁ zs₁ m)) (fun-ext (copied-is (picture .now) ys ws set)) refl $
         move ! (2 ∷ []) $ split ! $ move ! (1 ∷ []) $ peeks ! E.the-row (Is E.the-row) (showing 𝓤 H A E.the-row) r₁ (w₁ ∷ []) (λ is₁.
         -- [the result; the tokens; the last values; what is promised; the segments' token; the locals]
         land ! (from ! (stop !)) (init ! 63 refl (EL.lawful E.the-type E′.the-laws 𝓤 H A W tt .typed r₁ _ is₁ .0)) $ returns ! (look ! 63 refl) $

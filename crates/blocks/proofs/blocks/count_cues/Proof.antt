@@ -1,4 +1,5 @@
 -- `assemble::blocks::count_cues` meets its contract. Assumes nothing.
+use Rattle.blocks.specs.Numbers.{width}
 use borrow.Author.Needs.{needs}
 use native.Mathlib.Omega.{arith}
 use Prim.Native.Nat.{_-_, _/_}
@@ -12,7 +13,7 @@ abbrev Inv-loop : tie.InvT-loop
 Inv-loop gop segments count i₀ n₀ i n = CountingAll gop segments i n
 
 abbrev μ-loop : tie.MeasureT-loop
-μ-loop gop segments count i₀ n₀ i n = length segments / 5 - i
+μ-loop gop segments count i₀ n₀ i n = length segments / width - i
 
 loop-holds : tie.Need-loop-holds Inv-loop μ-loop
 loop-holds c = all-start (c .before .args .gop) (now (c .before .args .segments))

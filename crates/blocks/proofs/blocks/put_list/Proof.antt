@@ -1,4 +1,5 @@
 -- `assemble::blocks::put_list` meets its contract. Assumes nothing.
+use Rattle.blocks.specs.Numbers.{width}
 use borrow.Author.Needs.{needs}
 use native.Mathlib.Omega.{arith}
 use Prim.Native.Nat.{_-_, _/_}
@@ -12,7 +13,7 @@ abbrev Inv-loop : tie.InvT-loop
 Inv-loop list₀ cues₀ gop segments count i₀ at₀ c₀ list cues i at c = Listing list₀ cues₀ gop segments list cues i at c
 
 abbrev μ-loop : tie.MeasureT-loop
-μ-loop list₀ cues₀ gop segments count i₀ at₀ c₀ list cues i at c = length segments / 5 - i
+μ-loop list₀ cues₀ gop segments count i₀ at₀ c₀ list cues i at c = length segments / width - i
 
 loop-holds : tie.Need-loop-holds Inv-loop μ-loop
 loop-holds c = let s = c .before .before .before in list-start (now (s .args .list)) (now (s .args .cues)) (s .args .gop) (now (s .args .segments)) (s .pre)

@@ -2,6 +2,7 @@
 use borrow.Author.Needs.{needs}
 use denote.Ref.{now}
 use mathlib.Core.Path.{sym, ap, _∙_}
+use Rattle.assemble.specs.Whole.{six}
 use Rattle.listing.specs.Says.{fileSays}
 use Rattle.boardlist.proofs.AnswerLaws.{retold, bad-is, full-is, layout-fits, read-text}
 use Rattle.boardlist.proofs.answer.answer.Statement.{statement}
@@ -17,7 +18,7 @@ put-assembly-requires : tie.Need-put-assembly-requires
 put-assembly-requires c κs =
     let a = c .before .before .before .before .before .before .before .before .before .before .before .before .before .before .before .before .before .before .before .before .before .before .before .before .args in
     let e = c .before .before .before .before .before .before .before .before .before .before .before .before .before .read-file .ensures in
-    layout-fits (now (a .file)) (now (a .numbers)) (now (a .list)) (now (a .cues)) (now (a .pictures)) (now (a .ends)) (now (a .shows)) (now (a .header)) _ _ (sym (ap fileSays (c .before .before .before .before .before .before .before .before .before .layout .given .1)) ∙ e .0) (e .1)
+    layout-fits (now (a .file)) (now (a .numbers)) (six (a .list) (a .cues) (a .pictures) (a .ends) (a .shows) (a .header)) _ _ (sym (ap fileSays (c .before .before .before .before .before .before .before .before .before .layout .given .1)) ∙ e .0) (e .1)
 
 enum-told : tie.Need-enum-told
 enum-told c = search needs
@@ -59,7 +60,7 @@ returns : tie.Need-returns
 returns c =
     let a = c .before .before .before .before .before .before .before .before .before .before .before .before .before .before .before .before .before .before .before .before .before .before .before .before .before .before .before .before .before .before .before .before .before .before .before .before .before .before .before .args in
     let e = c .before .before .before .before .before .before .before .before .before .before .before .before .before .before .before .before .before .before .before .before .before .before .before .before .before .before .before .before .read-file .ensures in
-    retold (now (a .out)) (read-text (now (a .file)) (now (a .numbers)) (now (a .list)) (now (a .cues)) (now (a .pictures)) (now (a .ends)) (now (a .shows)) (now (a .header)) _ _ (sym (ap fileSays (c .before .before .before .before .before .before .before .before .before .before .before .before .before .before .before .before .before .before .before .before .before .before .before .before .layout .given .1)) ∙ e .0) (e .1)) (c .before .before .before .before .before .before .before .before .before .before .before .before .before .before .put-assembly .ensures)
+    retold (now (a .out)) (read-text (now (a .file)) (now (a .numbers)) (six (a .list) (a .cues) (a .pictures) (a .ends) (a .shows) (a .header)) _ _ (sym (ap fileSays (c .before .before .before .before .before .before .before .before .before .before .before .before .before .before .before .before .before .before .before .before .before .before .before .before .layout .given .1)) ∙ e .0) (e .1)) (c .before .before .before .before .before .before .before .before .before .before .before .before .before .before .put-assembly .ensures)
 
 same-length-9 : tie.Need-same-length-9
 same-length-9 c = search needs
@@ -71,7 +72,7 @@ returns-2 : tie.Need-returns-2
 returns-2 c =
     let a = c .before .before .before .before .before .before .before .before .before .before .before .before .before .before .before .before .before .before .before .args in
     let e = c .before .before .before .before .before .before .before .before .read-file .ensures in
-    retold (now (a .out)) (bad-is (now (a .file)) (now (a .numbers)) (now (a .list)) (now (a .cues)) (now (a .pictures)) (now (a .ends)) (now (a .shows)) (now (a .header)) (sym (ap fileSays (c .before .before .before .before .enum-told .given .1)) ∙ e .0)) (c .before .before .put-bad-file .ensures)
+    retold (now (a .out)) (bad-is (now (a .file)) (now (a .numbers)) (six (a .list) (a .cues) (a .pictures) (a .ends) (a .shows) (a .header)) (sym (ap fileSays (c .before .before .before .before .enum-told .given .1)) ∙ e .0)) (c .before .before .put-bad-file .ensures)
 
 same-length-11 : tie.Need-same-length-11
 same-length-11 c = search needs
@@ -83,7 +84,7 @@ returns-3 : tie.Need-returns-3
 returns-3 c =
     let a = c .before .before .before .before .before .before .before .before .before .before .before .before .before .before .before .before .before .before .before .args in
     let e = c .before .before .before .before .before .before .before .before .read-file .ensures in
-    retold (now (a .out)) (full-is (now (a .file)) (now (a .numbers)) (now (a .list)) (now (a .cues)) (now (a .pictures)) (now (a .ends)) (now (a .shows)) (now (a .header)) (sym (ap fileSays (c .before .before .before .before .enum-told2 .given .1)) ∙ e .0)) (c .before .before .put-refused .ensures)
+    retold (now (a .out)) (full-is (now (a .file)) (now (a .numbers)) (six (a .list) (a .cues) (a .pictures) (a .ends) (a .shows) (a .header)) (sym (ap fileSays (c .before .before .before .before .enum-told2 .given .1)) ∙ e .0)) (c .before .before .put-refused .ensures)
 
 pub answer-spec : {M : Type 1} → statement M
 answer-spec =

@@ -1,4 +1,5 @@
 -- `assemble::headers::same_headers` meets its contract. Assumes nothing.
+use Rattle.blocks.specs.Numbers.{width}
 use borrow.Author.Needs.{needs}
 use mathlib.Core.Path.{sym, ap, _∙_}
 use Prim.Native.Nat.{_-_, _/_}
@@ -13,7 +14,7 @@ abbrev Inv-loop : tie.InvT-loop
 Inv-loop picture segments first count i₀ i = Agree first picture segments i
 
 abbrev μ-loop : tie.MeasureT-loop
-μ-loop picture segments first count i₀ i = length segments / 5 - i
+μ-loop picture segments first count i₀ i = length segments / width - i
 
 loop-holds : tie.Need-loop-holds Inv-loop μ-loop
 loop-holds c = agree-start _ _ _

@@ -1,7 +1,8 @@
 -- `assemble::pictures::measure_pictures` meets its contract. Assumes nothing.
 use borrow.Author.Needs.{needs}
-use Prim.Native.Nat.{_-_, _/_}
-use lib.ListN.{length}
+use Prim.Native.Nat.{_-_}
+use native.Mathlib.Omega.{arith}
+use Rattle.blocks.specs.Numbers.{segmentCount}
 use Rattle.header.specs.Sequence.{sequenceOf}
 use Rattle.pictures.proofs.MeasureLaws.{Measuring, measure-start, measure-stop, measure-turn, measure-end}
 use Rattle.pictures.proofs.pictures.measure_pictures.Statement.{statement}
@@ -11,25 +12,19 @@ abbrev Inv-loop : tie.InvT-loop
 Inv-loop picture segments header points new rewriting count i₀ sum₀ i sum = Measuring (sequenceOf header points) rewriting new picture segments i sum
 
 abbrev μ-loop : tie.MeasureT-loop
-μ-loop picture segments header points new rewriting count i₀ sum₀ i sum = length segments / 5 - i
+μ-loop picture segments header points new rewriting count i₀ sum₀ i sum = segmentCount segments - i
+
+segment-count-requires : tie.Need-segment-count-requires Inv-loop μ-loop
+segment-count-requires c κs = search needs
 
 loop-holds : tie.Need-loop-holds Inv-loop μ-loop
 loop-holds c = measure-start _ _ _ _ _
 
-mul-unit-at : tie.Need-mul-unit-at Inv-loop μ-loop
-mul-unit-at c = search needs
+key-of-requires : tie.Need-key-of-requires Inv-loop μ-loop
+key-of-requires c κs = search needs
 
-unit-at-requires : tie.Need-unit-at-requires Inv-loop μ-loop
-unit-at-requires c κs = search needs
-
-mul-unit-at-2 : tie.Need-mul-unit-at-2 Inv-loop μ-loop
-mul-unit-at-2 c = search needs
-
-add-unit-at : tie.Need-add-unit-at Inv-loop μ-loop
-add-unit-at c = search needs
-
-unit-at-requires-2 : tie.Need-unit-at-requires-2 Inv-loop μ-loop
-unit-at-requires-2 c κs = search needs
+golden-of-requires : tie.Need-golden-of-requires Inv-loop μ-loop
+golden-of-requires c κs = search needs
 
 measure-units-requires : tie.Need-measure-units-requires Inv-loop μ-loop
 measure-units-requires c κs = search needs
@@ -41,7 +36,7 @@ enum-told : tie.Need-enum-told Inv-loop μ-loop
 enum-told c = search needs
 
 returns : tie.Need-returns Inv-loop μ-loop
-returns c = measure-stop (c .before .before .before .before .before .before .loop .inv) (c .before .before .before .before .before .loop-test .taken) _ _ _ (c .before .before .before .before .unit-at .ensures) (c .before .before .before .unit-at2 .ensures) (c .before .before .measure-units .ensures) _ _ (c .enum-told .given .1)
+returns c = measure-stop (c .before .before .before .before .before .before .loop .inv) (omega arith) _ _ _ (c .before .before .before .before .key-of .ensures) (c .before .before .before .golden-of .ensures) (c .before .before .measure-units .ensures) _ _ (c .enum-told .given .1)
 
 plus-requires : tie.Need-plus-requires Inv-loop μ-loop
 plus-requires c κs = search needs
@@ -53,10 +48,10 @@ loop-less : tie.Need-loop-less Inv-loop μ-loop
 loop-less c = search needs
 
 loop-again : tie.Need-loop-again Inv-loop μ-loop
-loop-again c = measure-turn (c .before .before .before .before .before .before .before .before .loop .inv) (c .before .before .before .before .before .before .before .loop-test .taken) _ _ _ (c .before .before .before .before .before .before .unit-at .ensures) (c .before .before .before .before .before .unit-at2 .ensures) (c .before .before .before .before .measure-units .ensures) _ _ (c .before .before .units .given .1) (c .plus .ensures)
+loop-again c = measure-turn (c .before .before .before .before .before .before .before .before .loop .inv) (omega arith) _ _ _ (c .before .before .before .before .before .before .key-of .ensures) (c .before .before .before .before .before .golden-of .ensures) (c .before .before .before .before .measure-units .ensures) _ _ (c .before .before .units .given .1) (c .plus .ensures)
 
 returns-2 : tie.Need-returns-2 Inv-loop μ-loop
-returns-2 c = measure-end (c .before .loop .inv) (c .loop-test .left)
+returns-2 c = measure-end (c .before .loop .inv) (omega arith)
 
 pub measure-pictures-spec : {M : Type 1} → statement M
 measure-pictures-spec =
@@ -64,12 +59,10 @@ measure-pictures-spec =
     (tie.spec
     Inv-loop
     μ-loop
+    segment-count-requires
     loop-holds
-    mul-unit-at
-    unit-at-requires
-    mul-unit-at-2
-    add-unit-at
-    unit-at-requires-2
+    key-of-requires
+    golden-of-requires
     measure-units-requires
     enum-known-units
     enum-told

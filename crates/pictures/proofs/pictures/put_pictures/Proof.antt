@@ -1,4 +1,5 @@
 -- `assemble::pictures::put_pictures` meets its contract. Assumes nothing.
+use Rattle.blocks.specs.Numbers.{width}
 use borrow.Author.Needs.{needs}
 use native.Mathlib.Omega.{arith}
 use Prim.Native.Nat.{_-_, _/_}
@@ -11,7 +12,7 @@ abbrev Inv-loop : tie.InvT-loop
 Inv-loop pictures₀ ends₀ picture segments new rewriting count i₀ at₀ pictures ends i at = Putting rewriting new picture segments pictures₀ ends₀ pictures ends i at
 
 abbrev μ-loop : tie.MeasureT-loop
-μ-loop pictures₀ ends₀ picture segments new rewriting count i₀ at₀ pictures ends i at = length segments / 5 - i
+μ-loop pictures₀ ends₀ picture segments new rewriting count i₀ at₀ pictures ends i at = length segments / width - i
 
 loop-holds : tie.Need-loop-holds Inv-loop μ-loop
 loop-holds c = put-start _ _ _ _ _ _

@@ -1,4 +1,5 @@
 -- `assemble::pictures::put_shows` meets its contract. Assumes nothing.
+use Rattle.blocks.specs.Numbers.{width}
 use borrow.Author.Needs.{needs}
 use Prim.Native.Nat.{ℕ, _-_, _/_, _<_}
 use mathlib.Core.Path.{sym, subst}
@@ -12,7 +13,7 @@ abbrev Inv-loop : tie.InvT-loop
 Inv-loop shows₀ picture segments header points rewriting count i₀ shows i = Showing (sequenceOf header points) rewriting picture segments shows₀ shows i
 
 abbrev μ-loop : tie.MeasureT-loop
-μ-loop shows₀ picture segments header points rewriting count i₀ shows i = length segments / 5 - i
+μ-loop shows₀ picture segments header points rewriting count i₀ shows i = length segments / width - i
 
 loop-holds : tie.Need-loop-holds Inv-loop μ-loop
 loop-holds c = show-start _ _ _ _ _

@@ -1,4 +1,5 @@
 -- `assemble::sizes::check_ranges` meets its contract. Assumes nothing.
+use Rattle.blocks.specs.Numbers.{width}
 use borrow.Author.Needs.{needs}
 use Prim.Native.Nat.{_-_, _/_}
 use mathlib.Core.Path.{sym, _∙_}
@@ -12,7 +13,7 @@ abbrev Inv-loop : tie.InvT-loop
 Inv-loop picture segments count i₀ i = Ranging picture segments i
 
 abbrev μ-loop : tie.MeasureT-loop
-μ-loop picture segments count i₀ i = length segments / 5 - i
+μ-loop picture segments count i₀ i = length segments / width - i
 
 returns : tie.Need-returns Inv-loop μ-loop
 returns c = let a = c .before .before .before .args in not-whole (now (a .picture)) (now (a .segments)) (c .if1 .taken)

@@ -1,4 +1,5 @@
 -- `assemble::sizes::first_empty` meets its contract. Assumes nothing.
+use Rattle.blocks.specs.Numbers.{width}
 use borrow.Author.Needs.{needs}
 use Prim.Native.Nat.{_-_, _/_}
 use lib.ListN.{length}
@@ -11,7 +12,7 @@ abbrev Inv-loop : tie.InvT-loop
 Inv-loop segments count i₀ i = Seeking segments i
 
 abbrev μ-loop : tie.MeasureT-loop
-μ-loop segments count i₀ i = length segments / 5 - i
+μ-loop segments count i₀ i = length segments / width - i
 
 loop-holds : tie.Need-loop-holds Inv-loop μ-loop
 loop-holds c = seek-start (now (c .args .segments))

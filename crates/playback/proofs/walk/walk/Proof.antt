@@ -3,7 +3,7 @@ use native.Mathlib.Omega.{arith}
 use mathlib.Core.Path.{sym, ap, _∙_}
 use mathlib.Core.Option.{none, some}
 use denote.Ref.{now}
-use Rattle.assemble.specs.Whole.{assembledSays, outcome}
+use Rattle.assemble.specs.Whole.{assembledSays, six, outcome}
 use Rattle.playback.specs.Way.{formSays}
 use Rattle.playback.proofs.WalkLaws.{outcome-has, handed-list, handed-picture, handed-ends, handed-shows, walk-stop, walk-go}
 use Rattle.playback.proofs.walk.walk.Statement.{statement}
@@ -32,7 +32,7 @@ part-play-list-end c =
     let n = c .before .before in
     let g = n .before .before .before .before .before .before .before .before .before .before .before .before .before .before in
     let a = g .before .before .before .before .before .before .before .before .before .before .before .before .before .before .before .before .before .before .before .before .before .args in
-    omega (arith, handed-list (outcome (now (a .picture)) (now (a .segments)) (a .gop-size) (a .fps) (a .fps-den) (now (a .list)) (now (a .cues)) (now (a .pictures)) (now (a .ends)) (now (a .shows)) (now (a .header))) (n .c .given .0 .0) (ap assembledSays (sym (n .c .given .1)) ∙ g .assemble-multi .ensures .0) (now (a .list)) (now (a .pictures)) (now (a .ends)) (now (a .shows)) (outcome-has (now (a .picture)) (now (a .segments)) (a .gop-size) (a .fps) (a .fps-den) (now (a .list)) (now (a .cues)) (now (a .pictures)) (now (a .ends)) (now (a .shows)) (now (a .header))) (g .assemble-multi .ensures .1 .0) (g .assemble-multi .ensures .1 .1 .1 .0) (g .assemble-multi .ensures .1 .1 .1 .1 .0) (g .assemble-multi .ensures .1 .1 .1 .1 .1 .0))
+    omega (arith, handed-list (outcome (now (a .picture)) (now (a .segments)) (a .settings) (six (a .list) (a .cues) (a .pictures) (a .ends) (a .shows) (a .header))) (n .c .given .0 .0) (ap assembledSays (sym (n .c .given .1)) ∙ g .assemble-multi .ensures .answer) (six (a .list) (a .cues) (a .pictures) (a .ends) (a .shows) (a .header)) (outcome-has (now (a .picture)) (now (a .segments)) (a .settings) (six (a .list) (a .cues) (a .pictures) (a .ends) (a .shows) (a .header))) (g .assemble-multi .ensures .lent))
 
 sub-play-list-2 : tie.Need-sub-play-list-2
 sub-play-list-2 c = search needs
@@ -45,7 +45,7 @@ part-play-list-end-2 c =
     let n = c .before .before .before .before in
     let g = n .before .before .before .before .before .before .before .before .before .before .before .before .before .before in
     let a = g .before .before .before .before .before .before .before .before .before .before .before .before .before .before .before .before .before .before .before .before .before .args in
-    omega (arith, handed-picture (outcome (now (a .picture)) (now (a .segments)) (a .gop-size) (a .fps) (a .fps-den) (now (a .list)) (now (a .cues)) (now (a .pictures)) (now (a .ends)) (now (a .shows)) (now (a .header))) (n .c .given .0 .0) (ap assembledSays (sym (n .c .given .1)) ∙ g .assemble-multi .ensures .0) (now (a .list)) (now (a .pictures)) (now (a .ends)) (now (a .shows)) (outcome-has (now (a .picture)) (now (a .segments)) (a .gop-size) (a .fps) (a .fps-den) (now (a .list)) (now (a .cues)) (now (a .pictures)) (now (a .ends)) (now (a .shows)) (now (a .header))) (g .assemble-multi .ensures .1 .0) (g .assemble-multi .ensures .1 .1 .1 .0) (g .assemble-multi .ensures .1 .1 .1 .1 .0) (g .assemble-multi .ensures .1 .1 .1 .1 .1 .0))
+    omega (arith, handed-picture (outcome (now (a .picture)) (now (a .segments)) (a .settings) (six (a .list) (a .cues) (a .pictures) (a .ends) (a .shows) (a .header))) (n .c .given .0 .0) (ap assembledSays (sym (n .c .given .1)) ∙ g .assemble-multi .ensures .answer) (six (a .list) (a .cues) (a .pictures) (a .ends) (a .shows) (a .header)) (outcome-has (now (a .picture)) (now (a .segments)) (a .settings) (six (a .list) (a .cues) (a .pictures) (a .ends) (a .shows) (a .header))) (g .assemble-multi .ensures .lent))
 
 sub-play-list-3 : tie.Need-sub-play-list-3
 sub-play-list-3 c = search needs
@@ -58,7 +58,7 @@ part-play-list-end-3 c =
     let n = c .before .before .before .before .before .before in
     let g = n .before .before .before .before .before .before .before .before .before .before .before .before .before .before in
     let a = g .before .before .before .before .before .before .before .before .before .before .before .before .before .before .before .before .before .before .before .before .before .args in
-    omega (arith, handed-ends (outcome (now (a .picture)) (now (a .segments)) (a .gop-size) (a .fps) (a .fps-den) (now (a .list)) (now (a .cues)) (now (a .pictures)) (now (a .ends)) (now (a .shows)) (now (a .header))) (n .c .given .0 .0) (ap assembledSays (sym (n .c .given .1)) ∙ g .assemble-multi .ensures .0) (now (a .list)) (now (a .pictures)) (now (a .ends)) (now (a .shows)) (outcome-has (now (a .picture)) (now (a .segments)) (a .gop-size) (a .fps) (a .fps-den) (now (a .list)) (now (a .cues)) (now (a .pictures)) (now (a .ends)) (now (a .shows)) (now (a .header))) (g .assemble-multi .ensures .1 .0) (g .assemble-multi .ensures .1 .1 .1 .0) (g .assemble-multi .ensures .1 .1 .1 .1 .0) (g .assemble-multi .ensures .1 .1 .1 .1 .1 .0))
+    omega (arith, handed-ends (outcome (now (a .picture)) (now (a .segments)) (a .settings) (six (a .list) (a .cues) (a .pictures) (a .ends) (a .shows) (a .header))) (n .c .given .0 .0) (ap assembledSays (sym (n .c .given .1)) ∙ g .assemble-multi .ensures .answer) (six (a .list) (a .cues) (a .pictures) (a .ends) (a .shows) (a .header)) (outcome-has (now (a .picture)) (now (a .segments)) (a .settings) (six (a .list) (a .cues) (a .pictures) (a .ends) (a .shows) (a .header))) (g .assemble-multi .ensures .lent))
 
 sub-play-list-4 : tie.Need-sub-play-list-4
 sub-play-list-4 c = search needs
@@ -71,7 +71,7 @@ part-play-list-end-4 c =
     let n = c .before .before .before .before .before .before .before .before in
     let g = n .before .before .before .before .before .before .before .before .before .before .before .before .before .before in
     let a = g .before .before .before .before .before .before .before .before .before .before .before .before .before .before .before .before .before .before .before .before .before .args in
-    omega (arith, handed-shows (outcome (now (a .picture)) (now (a .segments)) (a .gop-size) (a .fps) (a .fps-den) (now (a .list)) (now (a .cues)) (now (a .pictures)) (now (a .ends)) (now (a .shows)) (now (a .header))) (n .c .given .0 .0) (ap assembledSays (sym (n .c .given .1)) ∙ g .assemble-multi .ensures .0) (now (a .list)) (now (a .pictures)) (now (a .ends)) (now (a .shows)) (outcome-has (now (a .picture)) (now (a .segments)) (a .gop-size) (a .fps) (a .fps-den) (now (a .list)) (now (a .cues)) (now (a .pictures)) (now (a .ends)) (now (a .shows)) (now (a .header))) (g .assemble-multi .ensures .1 .0) (g .assemble-multi .ensures .1 .1 .1 .0) (g .assemble-multi .ensures .1 .1 .1 .1 .0) (g .assemble-multi .ensures .1 .1 .1 .1 .1 .0))
+    omega (arith, handed-shows (outcome (now (a .picture)) (now (a .segments)) (a .settings) (six (a .list) (a .cues) (a .pictures) (a .ends) (a .shows) (a .header))) (n .c .given .0 .0) (ap assembledSays (sym (n .c .given .1)) ∙ g .assemble-multi .ensures .answer) (six (a .list) (a .cues) (a .pictures) (a .ends) (a .shows) (a .header)) (outcome-has (now (a .picture)) (now (a .segments)) (a .settings) (six (a .list) (a .cues) (a .pictures) (a .ends) (a .shows) (a .header))) (g .assemble-multi .ensures .lent))
 
 play-list-requires : tie.Need-play-list-requires
 play-list-requires c κs = search needs
@@ -102,8 +102,8 @@ returns c =
     let n = c .before in
     let g = n .before .before .before .before .before .before .before .before .before .before .before .before .before .before in
     let a = g .before .before .before .before .before .before .before .before .before .before .before .before .before .before .before .before .before .before .before .before .before .args in
-    let w = walk-stop (formSays (a .form)) (outcome (now (a .picture)) (now (a .segments)) (a .gop-size) (a .fps) (a .fps-den) (now (a .list)) (now (a .cues)) (now (a .pictures)) (now (a .ends)) (now (a .shows)) (now (a .header))) (a .cue) (now (a .units)) (now (a .unit-ends)) (now (a .out)) (now (a .back)) (now (a .back-ends)) (now (a .shown)) _ none (ap assembledSays (sym (n .k .given .1)) ∙ g .assemble-multi .ensures .0) in
-    (w .0, (g .assemble-multi .ensures .1 .0, (g .assemble-multi .ensures .1 .1 .0, (g .assemble-multi .ensures .1 .1 .1 .0, (g .assemble-multi .ensures .1 .1 .1 .1 .0, (g .assemble-multi .ensures .1 .1 .1 .1 .1 .0, (g .assemble-multi .ensures .1 .1 .1 .1 .1 .1, w .1)))))))
+    let w = walk-stop (formSays (a .form)) (outcome (now (a .picture)) (now (a .segments)) (a .settings) (six (a .list) (a .cues) (a .pictures) (a .ends) (a .shows) (a .header))) (a .cue) (now (a .units)) (now (a .unit-ends)) (now (a .out)) (now (a .back)) (now (a .back-ends)) (now (a .shown)) _ none (ap assembledSays (sym (n .k .given .1)) ∙ g .assemble-multi .ensures .answer) in
+    (w .0, (g .assemble-multi .ensures .lent, w .1))
 
 same-length-7 : tie.Need-same-length-7
 same-length-7 c = search needs
@@ -128,26 +128,26 @@ returns-2 c =
     let n = c .before in
     let g = n .before .before .before .before .before .before .before .before .before .before .before .before .before .before in
     let a = g .before .before .before .before .before .before .before .before .before .before .before .before .before .before .before .before .before .before .before .before .before .args in
-    let w = walk-stop (formSays (a .form)) (outcome (now (a .picture)) (now (a .segments)) (a .gop-size) (a .fps) (a .fps-den) (now (a .list)) (now (a .cues)) (now (a .pictures)) (now (a .ends)) (now (a .shows)) (now (a .header))) (a .cue) (now (a .units)) (now (a .unit-ends)) (now (a .out)) (now (a .back)) (now (a .back-ends)) (now (a .shown)) _ (some _) (ap assembledSays (sym (n .k2 .given .1)) ∙ g .assemble-multi .ensures .0) in
-    (w .0, (g .assemble-multi .ensures .1 .0, (g .assemble-multi .ensures .1 .1 .0, (g .assemble-multi .ensures .1 .1 .1 .0, (g .assemble-multi .ensures .1 .1 .1 .1 .0, (g .assemble-multi .ensures .1 .1 .1 .1 .1 .0, (g .assemble-multi .ensures .1 .1 .1 .1 .1 .1, w .1)))))))
+    let w = walk-stop (formSays (a .form)) (outcome (now (a .picture)) (now (a .segments)) (a .settings) (six (a .list) (a .cues) (a .pictures) (a .ends) (a .shows) (a .header))) (a .cue) (now (a .units)) (now (a .unit-ends)) (now (a .out)) (now (a .back)) (now (a .back-ends)) (now (a .shown)) _ (some _) (ap assembledSays (sym (n .k2 .given .1)) ∙ g .assemble-multi .ensures .answer) in
+    (w .0, (g .assemble-multi .ensures .lent, w .1))
 
 same-length-13 : tie.Need-same-length-13
-same-length-13 c = c .before .before .before .before .before .before .before .before .before .before .before .before .before .before .before .before .before .before .before .before .before .before .before .before .before .before .before .before .before .before .before .before .before .before .before .before .before .before .before .before .before .before .before .assemble-multi .kept .1 .1 .1 .1 .1 .0
+same-length-13 c = c .before .before .before .before .before .before .before .before .before .before .before .before .before .before .before .before .before .before .before .before .before .before .before .before .before .before .before .before .before .before .before .before .before .before .before .before .before .before .before .before .before .before .before .assemble-multi .kept .1 .1 .1 .0
 
 same-length-14 : tie.Need-same-length-14
-same-length-14 c = c .before .before .before .before .before .before .before .before .before .before .before .before .before .before .before .before .before .before .before .before .before .before .before .before .before .before .before .before .before .before .before .before .before .before .before .before .before .before .before .before .before .before .before .assemble-multi .kept .1 .1 .1 .1 .1 .1 .0
+same-length-14 c = c .before .before .before .before .before .before .before .before .before .before .before .before .before .before .before .before .before .before .before .before .before .before .before .before .before .before .before .before .before .before .before .before .before .before .before .before .before .before .before .before .before .before .before .assemble-multi .kept .1 .1 .1 .1 .0
 
 same-length-15 : tie.Need-same-length-15
-same-length-15 c = c .before .before .before .before .before .before .before .before .before .before .before .before .before .before .before .before .before .before .before .before .before .before .before .before .before .before .before .before .before .before .before .before .before .before .before .before .before .before .before .before .before .before .before .assemble-multi .kept .1 .1 .1 .1 .1 .1 .1 .0
+same-length-15 c = c .before .before .before .before .before .before .before .before .before .before .before .before .before .before .before .before .before .before .before .before .before .before .before .before .before .before .before .before .before .before .before .before .before .before .before .before .before .before .before .before .before .before .before .assemble-multi .kept .1 .1 .1 .1 .1 .0
 
 same-length-16 : tie.Need-same-length-16
-same-length-16 c = c .before .before .before .before .before .before .before .before .before .before .before .before .before .before .before .before .before .before .before .before .before .before .before .before .before .before .before .before .before .before .before .before .before .before .before .before .before .before .before .before .before .before .before .assemble-multi .kept .1 .1 .1 .1 .1 .1 .1 .1 .0
+same-length-16 c = c .before .before .before .before .before .before .before .before .before .before .before .before .before .before .before .before .before .before .before .before .before .before .before .before .before .before .before .before .before .before .before .before .before .before .before .before .before .before .before .before .before .before .before .assemble-multi .kept .1 .1 .1 .1 .1 .1 .0
 
 same-length-17 : tie.Need-same-length-17
-same-length-17 c = c .before .before .before .before .before .before .before .before .before .before .before .before .before .before .before .before .before .before .before .before .before .before .before .before .before .before .before .before .before .before .before .before .before .before .before .before .before .before .before .before .before .before .before .assemble-multi .kept .1 .1 .1 .1 .1 .1 .1 .1 .1 .0
+same-length-17 c = c .before .before .before .before .before .before .before .before .before .before .before .before .before .before .before .before .before .before .before .before .before .before .before .before .before .before .before .before .before .before .before .before .before .before .before .before .before .before .before .before .before .before .before .assemble-multi .kept .1 .1 .1 .1 .1 .1 .1 .0
 
 same-length-18 : tie.Need-same-length-18
-same-length-18 c = c .before .before .before .before .before .before .before .before .before .before .before .before .before .before .before .before .before .before .before .before .before .before .before .before .before .before .before .before .before .before .before .before .before .before .before .before .before .before .before .before .before .before .before .assemble-multi .kept .1 .1 .1 .1 .1 .1 .1 .1 .1 .1 .0
+same-length-18 c = c .before .before .before .before .before .before .before .before .before .before .before .before .before .before .before .before .before .before .before .before .before .before .before .before .before .before .before .before .before .before .before .before .before .before .before .before .before .before .before .before .before .before .before .assemble-multi .kept .1 .1 .1 .1 .1 .1 .1 .1 .0
 
 same-length-19 : tie.Need-same-length-19
 same-length-19 c = c .before .before .before .before .before .before .before .before .before .before .before .before .before .play-list .kept .1 .1 .1 .1 .1 .1 .0
@@ -173,8 +173,8 @@ returns-3 c =
     let n = p .before .before .before .before .before .before .before .before .before .before .before .before .before .before .before .before in
     let g = n .before .before .before .before .before .before .before .before .before .before .before .before .before .before in
     let a = g .before .before .before .before .before .before .before .before .before .before .before .before .before .before .before .before .before .before .before .before .before .args in
-    let w = walk-go (outcome (now (a .picture)) (now (a .segments)) (a .gop-size) (a .fps) (a .fps-den) (now (a .list)) (now (a .cues)) (now (a .pictures)) (now (a .ends)) (now (a .shows)) (now (a .header))) (n .c .given .0 .0) (ap assembledSays (sym (n .c .given .1)) ∙ g .assemble-multi .ensures .0) (now (a .list)) (now (a .pictures)) (now (a .ends)) (now (a .shows)) (outcome-has (now (a .picture)) (now (a .segments)) (a .gop-size) (a .fps) (a .fps-den) (now (a .list)) (now (a .cues)) (now (a .pictures)) (now (a .ends)) (now (a .shows)) (now (a .header))) (g .assemble-multi .ensures .1 .0) (g .assemble-multi .ensures .1 .1 .1 .0) (g .assemble-multi .ensures .1 .1 .1 .1 .0) (g .assemble-multi .ensures .1 .1 .1 .1 .1 .0) (formSays (a .form)) (now (a .units)) (now (a .unit-ends)) (now (a .out)) (now (a .back)) (now (a .back-ends)) (a .cue) (now (a .shown)) (c .behind .ensures) (p .play-list .ensures) in
-    (w .0, (g .assemble-multi .ensures .1 .0, (g .assemble-multi .ensures .1 .1 .0, (g .assemble-multi .ensures .1 .1 .1 .0, (g .assemble-multi .ensures .1 .1 .1 .1 .0, (g .assemble-multi .ensures .1 .1 .1 .1 .1 .0, (g .assemble-multi .ensures .1 .1 .1 .1 .1 .1, w .1)))))))
+    let w = walk-go (outcome (now (a .picture)) (now (a .segments)) (a .settings) (six (a .list) (a .cues) (a .pictures) (a .ends) (a .shows) (a .header))) (n .c .given .0 .0) (ap assembledSays (sym (n .c .given .1)) ∙ g .assemble-multi .ensures .answer) (six (a .list) (a .cues) (a .pictures) (a .ends) (a .shows) (a .header)) (outcome-has (now (a .picture)) (now (a .segments)) (a .settings) (six (a .list) (a .cues) (a .pictures) (a .ends) (a .shows) (a .header))) (g .assemble-multi .ensures .lent) (formSays (a .form)) (now (a .units)) (now (a .unit-ends)) (now (a .out)) (now (a .back)) (now (a .back-ends)) (a .cue) (now (a .shown)) (c .behind .ensures) (p .play-list .ensures) in
+    (w .0, (g .assemble-multi .ensures .lent, w .1))
 
 pub walk-spec : {M : Type 1} → statement M
 walk-spec =
