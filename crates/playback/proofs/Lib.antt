@@ -1,5 +1,7 @@
-pub mod BlockLaws
 pub mod ListLaws
+pub mod Laid
+pub mod BlockLaws
+pub mod SizeLaws
 pub mod HandedLaws
 pub mod GivenLaws
 pub mod LentLaws
@@ -9,8 +11,12 @@ pub mod UnitLaws
 pub mod AssembleLaws
 pub mod Turns
 pub mod Demand3
+pub mod Sequencer
+pub mod Tests02
+pub mod Calls
 pub mod Listing
 pub mod GatherLaws
 pub mod ShownLaws
 pub mod WayLaws
 pub mod WalkLaws
+pub mod WalkRight

@@ -2,6 +2,7 @@ pub mod Kinds
 pub mod Premises
 pub mod Courses
 pub mod Demand
+pub mod Sizes
 pub mod Gather
 pub mod Shown
 pub mod Way
