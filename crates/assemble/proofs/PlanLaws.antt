@@ -26,7 +26,8 @@ use Rattle.header.specs.declared.seq_header.SequenceHeader.{SequenceHeader}
 use Rattle.header.specs.declared.seq_header.OperatingPoint.{OperatingPoint}
 use Rattle.header.proofs.TimedLaws.{timed-of}
 use Rattle.blocks.specs.Lay.{framesIn}
-use Rattle.pictures.specs.Prepare.{isSequence, firstOf, Settings, timedSequence, Prepared}
+use Rattle.pictures.specs.Prepare.{isSequence, firstOf, timedSequence, Prepared}
+use Rattle.pictures.specs.declared.settings.Settings.{Settings}
 use Rattle.pictures.specs.Assemble.{Outcome, stopped, made, andAlso, inSegment, readHeader, sameHeaders, headerObu, prepareAll, pictureOf}
 use Rattle.pictures.specs.Sizes.{sized, ranged}
 use Rattle.pictures.specs.Code.{allSegments, laterSegments, firstSequence, renewing, orElse, allPrepared, capped, measured}

@@ -15,7 +15,7 @@ use Rattle.bitio.specs.Lent.{pasted}
 use Rattle.bitio.proofs.ParseLaws.{pick-cases}
 use Rattle.bitio.proofs.LentLaws.{pasted-nil, pasted-sets, pasted-more, pasted-length, pasted-take-end}
 use Rattle.pictures.specs.Assemble.{Outcome, stopped, Output}
-use Rattle.pictures.specs.Prepare.{Settings}
+use Rattle.pictures.specs.declared.settings.Settings.{Settings}
 use Rattle.assemble.specs.Whole.{Lent, outcome}
 use Rattle.assemble.specs.Records.{fiveOf, numbersOf, copyCount, numbersAfter, noRoom, copiedOutcome, recordsOutcome}
 use Rattle.assemble.specs.declared.segments.Segment.{Segment}

@@ -13,7 +13,8 @@ use Rattle.emittable.specs.Emittable.{emittable}
 use Rattle.header.proofs.TimedLaws.{supports}
 use Rattle.emit.proofs.EmitLaws.{parse-emittable, payload-length}
 use Rattle.emit.proofs.TimedEmitLaws.{timed-emittable}
-use Rattle.pictures.specs.Prepare.{Settings, timedSequence}
+use Rattle.pictures.specs.Prepare.{timedSequence}
+use Rattle.pictures.specs.declared.settings.Settings.{Settings}
 use Rattle.pictures.specs.Assemble.{readHeader}
 
 -- what can be emitted fits the room that is kept for it

@@ -16,7 +16,8 @@ use Rattle.obu.specs.Obu.{obus}
 use Rattle.blocks.specs.Blocks.{total}
 use Rattle.blocks.specs.Lay.{framesFrom, framesIn}
 use Rattle.pictures.specs.Segments.{Segment, framesOf, inside, segmentAt, segmentsFrom, segmentsOf}
-use Rattle.pictures.specs.Prepare.{Settings, effective, renewal}
+use Rattle.pictures.specs.Prepare.{effective, renewal}
+use Rattle.pictures.specs.declared.settings.Settings.{Settings}
 use Rattle.pictures.specs.Assemble.{Outcome, stopped, made, andAlso, inSegment, overall, noneEmpty, sizes, readHeader, sameHeaders, headerObu, prepareAll, pictureOf, Output, outputOf, Room, assembled, fitted, assemble}
 use Rattle.pictures.specs.Sizes.{sized, ranged}
 use Rattle.pictures.specs.Code.{segmentIn, segmentsIn, allSegments, laterSegments, firstSequence, capped}

@@ -13,7 +13,8 @@ use Rattle.header.specs.Sequence.{Sequence, sequenceOf}
 use Rattle.header.specs.declared.seq_header.OperatingPoint.{OperatingPoint}
 use Rattle.blocks.specs.Blocks.{listOf, cuesOf}
 use Rattle.blocks.specs.Lay.{framesIn, CanLayAll}
-use Rattle.pictures.specs.Prepare.{Settings, Prepared, showUnit}
+use Rattle.pictures.specs.Prepare.{Prepared, showUnit}
+use Rattle.pictures.specs.declared.settings.Settings.{Settings}
 use Rattle.pictures.specs.Assemble.{Outcome, stopped, made, andAlso, pictureOf, endsFrom, showsOf, firstSlot, Output, outputOf, Room, fits, fitted}
 use Rattle.pictures.specs.Code.{segmentsIn, allSegments, judged, orElse, allPrepared, allSent, slotsOf, capped}
 use Rattle.assemble.specs.Whole.{counts, countsOf, assembledSays, Lent, outcome, lentAfter, Handed}

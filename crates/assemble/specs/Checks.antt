@@ -24,7 +24,8 @@ use Rattle.emit.specs.Emit.{ofBits, packN, pack, trailed, sequenceBytes}
 use Rattle.frame.specs.Frame.{showExisting, frameStart, orderHint, removalTimes, bufferRemoval, frameInfo, frameBits, frameHeader, parseFrame}
 use Rattle.blocks.specs.Blocks.{Key, Golden, Show, blocks, kinds, layout, positions, total}
 use Rattle.pictures.specs.Segments.{Segment, segmentAt, segmentsFrom, segmentsOf}
-use Rattle.pictures.specs.Prepare.{Settings, firstOf, sent, firstFrame, lowest, prepare, showUnit}
+use Rattle.pictures.specs.Prepare.{firstOf, sent, firstFrame, lowest, prepare, showUnit}
+use Rattle.pictures.specs.declared.settings.Settings.{Settings}
 use Rattle.pictures.specs.Assemble.{Outcome, stopped, made, andAlso, inSegment, overall, noneEmpty, sizes, readHeader, sameBytes, sameHeaders, prepareAll, endsFrom, Output, Room, fits, assembled, assemble, named, unitsOf}
 
 -- 01's K and G, and K with its header timed 25/1

@@ -8,7 +8,7 @@ use lib.Dec.{leb, ltb}
 use Rattle.bitio.specs.Limits.{limit}
 use Rattle.bitio.specs.Lent.{pasted}
 use Rattle.pictures.specs.Assemble.{Outcome, stopped, Output}
-use Rattle.pictures.specs.Prepare.{Settings}
+use Rattle.pictures.specs.declared.settings.Settings.{Settings}
 use Rattle.assemble.specs.Whole.{Lent, outcome}
 use Rattle.assemble.specs.declared.segments.Segment.{Segment}
 

@@ -16,7 +16,8 @@ use Rattle.header.specs.Sequence.{Sequence, sequenceOf}
 use Rattle.header.specs.declared.seq_header.OperatingPoint.{OperatingPoint}
 use Rattle.blocks.specs.Blocks.{listOf, cuesOf}
 use Rattle.blocks.specs.Lay.{framesIn}
-use Rattle.pictures.specs.Prepare.{Settings, effective, renewal, Prepared}
+use Rattle.pictures.specs.Prepare.{effective, renewal, Prepared}
+use Rattle.pictures.specs.declared.settings.Settings.{Settings}
 use Rattle.pictures.specs.Assemble.{Outcome, stopped, made, andAlso, inSegment, readHeader, sameHeaders, headerObu, prepareAll, pictureOf, Room}
 use Rattle.pictures.specs.Sizes.{sized, ranged}
 use Rattle.pictures.specs.Code.{allSegments, laterSegments, firstSequence, judged, renewing, orElse, allPrepared, capped}

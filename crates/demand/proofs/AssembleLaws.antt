@@ -30,14 +30,14 @@ use Rattle.pictures.specs.declared.settings.Settings.{Settings}
 use Rattle.pictures.specs.Assemble.{Outcome, stopped, made, andAlso, inSegment, overall, noneEmpty, sizes, readHeader, sameBytes, sameHeader, sameHeaders, headerObu, prepareAll, Output, outputOf, Room, fits, assembled, assemble}
 use Rattle.player.proofs.StepLaws.{link}
 use Rattle.player.specs.Player.{unitFrame}
-use Rattle.demand.specs.Premises.{listHeader, Premise, Premises, InFields}
+use Rattle.demand.specs.Premises.{listHeader, Premise, Formed, InFields}
 use Rattle.demand.proofs.HeaderLaws.{timed-short, timed-back, timed-fine}
 use Rattle.demand.proofs.PlayerLaws.{sole-is}
 use Rattle.demand.proofs.UnitLaws.{first-is, outgoing, Short, Out, goes-out}
 
 -- ---- an accepted chain was accepted at each link
 
-link-made : {A B R : Type 0} (t : Outcome A) (k : A → Outcome B) (b : B) → andAlso t k ≡ made b → ((a : A) → t ≡ made a → k a ≡ made b → R) → R
+pub link-made : {A B R : Type 0} (t : Outcome A) (k : A → Outcome B) (b : B) → andAlso t k ≡ made b → ((a : A) → t ≡ made a → k a ≡ made b → R) → R
 unfolding andAlso
 link-made (made a) k b e f = f a refl e
 link-made (stopped n i) k b e f = let z : _≡_ {A = ℕ} 0 1 = cc in absurd (omega arith)
@@ -225,13 +225,11 @@ sizes-ok gop ns u e = go (ltb gop 2) refl (ltb (total ns) 2) refl e
 
 -- ---- the whole
 
--- where what is handed out comes from
-pub record Made (set : Settings) (xs : List Segment) : Type 0 where
+-- the segments, ready to go out, whatever the blocks
+pub record Boards (set : Settings) (xs : List Segment) : Type 0 where
   -- the list's sequence header as ordered
   pub first : Sequence
   pub first-is : parseSequence (listHeader xs) ≡ accepted first
-  pub gop-two : 2 ≤ set .gop
-  pub total-two : 2 ≤ total (framesOf xs)
   -- and as it goes out
   pub payload : List ℕ
   pub read : parseSequence payload ≡ accepted (effective set first)
@@ -239,11 +237,17 @@ pub record Made (set : Settings) (xs : List Segment) : Type 0 where
   -- the segments' units
   pub prepared : List Prepared
   pub pairs : Matches (Paired (effective set first) (renewal set first) payload) xs prepared
+
+-- where what is handed out comes from
+pub record Made (set : Settings) (xs : List Segment) : Type 0 where
+  pub boards : Boards set xs
+  pub gop-two : 2 ≤ set .gop
+  pub total-two : 2 ≤ total (framesOf xs)
   pub obu : List ℕ
 
 -- what is handed out
 abbrev pub out : {set : Settings} {xs : List Segment} → Made set xs → Output
-out {set} {xs} m = outputOf (set .gop) (framesOf xs) (m .obu) (m .prepared)
+out {set} {xs} m = outputOf (set .gop) (framesOf xs) (m .obu) (m .boards .prepared)
 
 -- with timing, and without
 outgoing-header : (set : Settings) → InFields set → (s : List ℕ) (q : Sequence) → parseSequence s ≡ accepted q → support (q .header) ≡ accepted tt
@@ -260,7 +264,7 @@ read-is : (s : List ℕ) (q : Sequence) → readHeader s ≡ accepted q → (par
 unfolding readHeader
 read-is s q e = link _ _ q e (λ q′ a e. link _ _ q e (λ u b e. let z : q′ ≡ q = cc in (rw (← z) a, rw (← z) b)))
 
-from-segments : (set : Settings) (xs : List Segment) (r : Output) → InFields set → Every Fits xs → Premises xs → assembled set xs ≡ made r → (m : Made set xs) × (out m ≡ r)
+from-segments : (set : Settings) (xs : List Segment) (r : Output) → InFields set → Every Fits xs → Formed xs → assembled set xs ≡ made r → (m : Made set xs) × (out m ≡ r)
 unfolding assembled
 from-segments set [] r fields sh p e = let z : _≡_ {A = ℕ} 0 1 = cc in absurd (omega arith)
 from-segments set (x ∷ xs) r fields sh p e =
@@ -275,15 +279,17 @@ from-segments set (x ∷ xs) r fields sh p e =
     let (n, c, d) = outgoing-header set fields s q a′ b in
     let z = sizes-ok (set .gop) (framesOf (x ∷ xs)) u e₁ in (
       record {
-        first = q;
-        first-is = a′;
+        boards = record {
+          first = q;
+          first-is = a′;
+          payload = outgoing (renewal set q) s;
+          read = c;
+          supported = d;
+          prepared = bs;
+          pairs = paired-all (effective set q) (renewal set q) s n 0 (x ∷ xs) bs sh (p .keys) (p .goldens) (also hs (later-headers (o .payload) 1 xs w e₅)) e₆;
+        };
         gop-two = z .gop-two;
         total-two = z .total-two;
-        payload = outgoing (renewal set q) s;
-        read = c;
-        supported = d;
-        prepared = bs;
-        pairs = paired-all (effective set q) (renewal set q) s n 0 (x ∷ xs) bs sh (p .keys) (p .goldens) (also hs (later-headers (o .payload) 1 xs w e₅)) e₆;
         obu = headerObu (renewal set q) o;
       },
       cc,
@@ -361,7 +367,7 @@ fitting false a b e = let z : _≡_ {A = ℕ} 0 1 = cc in absurd (omega arith)
 
 module _ (room : Room) (set : Settings) (s rs : List ℕ) (xs : List Segment) (r : Output) where
   -- under demand 3's premises
-  pub accepts : InFields set → segmentsOf s rs ≡ accepted xs → Premises xs → assemble room set s rs ≡ made r → (m : Made set xs) × (out m ≡ r) × (length (r .picture) ≤ limit)
+  pub accepts : InFields set → segmentsOf s rs ≡ accepted xs → Formed xs → assemble room set s rs ≡ made r → (m : Made set xs) × (out m ≡ r) × (length (r .picture) ≤ limit)
   unfolding assemble overall
   accepts fields g p e =
       let (n, e) = not-over (length s) _ r e in

@@ -1,18 +1,19 @@
 -- The unit that a list entry names, in what is handed out, is its segment's own. Assumes nothing.
 use Prim.Native.Nat.{ℕ, zero, suc, _+_, _*_, _-_, _≤_, _<_}
 use native.Mathlib.Omega.{arith}
-use mathlib.Core.Path.{_≡_, sym}
-use mathlib.Core.List.{List, [], _∷_, _++_, flatMap, append-assoc}
+use mathlib.Core.Path.{_≡_, sym, ap, _∙_}
+use mathlib.Core.List.{List, [], _∷_, _++_, map, flatMap, append-assoc}
 use mathlib.Core.Bool.{cond as pick}
 use lib.ListN.{length, getD, length-append}
 use lib.Seq.{take-append-seam, drop-append-seam}
 use lib.Dec.{eqb, ltb}
 use borrow.Author.Tests.{le-leb}
 use Rattle.obu.specs.Place.{part}
-use Rattle.blocks.specs.Blocks.{Kind, Key, Golden, Show, Entry, code, number}
+use Rattle.blocks.specs.Blocks.{Kind, Key, Golden, Show, Entry, code, number, cuesOf}
 use Rattle.pictures.specs.Prepare.{Prepared, showUnit}
 use Rattle.pictures.specs.Assemble.{pictureOf, endsFrom, showsOf, pictureUnit, named}
-use Rattle.demand.proofs.ListLaws.{number-kind, number-segment}
+use Rattle.demand.specs.Demand.{Given}
+use Rattle.demand.proofs.ListLaws.{getD-map-lt, map-both, number-kind, number-segment}
 
 abbrev pub noUnits : Prepared
 noUnits = record { key = []; golden = []; slot = 0 }
@@ -22,6 +23,18 @@ abbrev pub unitOf : Kind → Prepared → List ℕ
 unitOf Key b = b .key
 unitOf Golden b = b .golden
 unitOf Show b = showUnit (b .slot)
+
+-- the unit of an entry, bs being the segments' units
+abbrev pub unitBy : List Prepared → Entry → List ℕ
+unitBy bs e = unitOf (e .kind) (getD bs (e .segment) noUnits)
+
+-- the entries es given out
+abbrev pub givenOut : List Prepared → List Entry → Given
+givenOut bs es = record { list = map number es; cues = cuesOf (map number es); units = map (unitBy bs) es }
+
+-- each segment's units are within n bytes
+abbrev pub Within : ℕ → List Prepared → Type 0
+Within n bs = (i : ℕ) → i < length bs → (length ((getD bs i noUnits) .key) ≤ n) × (length ((getD bs i noUnits) .golden) ≤ n)
 
 -- a part in the middle
 pub part-mid : (f m r : List ℕ) → part (f ++ (m ++ r)) (length f) (length f + length m) ≡ m
@@ -76,7 +89,7 @@ show-there f (b ∷ bs) (suc i) h =
 -- ---- the unit named
 
 pub named-is : (bs : List Prepared) (e : Entry) → e .segment < length bs
-    → named (pictureOf bs) (endsFrom 0 bs) (showsOf bs) (number e) ≡ unitOf (e .kind) (getD bs (e .segment) noUnits)
+    → named (pictureOf bs) (endsFrom 0 bs) (showsOf bs) (number e) ≡ unitBy bs e
 unfolding named
 named-is bs e h = rw (number-kind e, number-segment e) (go (e .kind))
   where
@@ -89,8 +102,7 @@ named-is bs e h = rw (number-kind e, number-segment e) (go (e .kind))
     go Show = let n : 0 + 5 * (e .segment) ≡ 5 * (e .segment) = omega arith in rw n at (show-there [] bs (e .segment) h)
 
 -- each unit is within the picture bytes
-pub picture-short : (bs : List Prepared) (n : ℕ) → length (pictureOf bs) ≤ n → (i : ℕ) → i < length bs
-    → (length ((getD bs i noUnits) .key) ≤ n) × (length ((getD bs i noUnits) .golden) ≤ n)
+pub picture-short : (bs : List Prepared) (n : ℕ) → length (pictureOf bs) ≤ n → Within n bs
 unfolding flatMap
 picture-short [] n l i h = absurd (omega arith)
 picture-short (b ∷ bs) n l zero h =

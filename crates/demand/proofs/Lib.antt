@@ -1,5 +1,6 @@
-pub mod BlockLaws
 pub mod ListLaws
+pub mod Laid
+pub mod BlockLaws
 pub mod HandedLaws
 pub mod GivenLaws
 pub mod HeaderLaws
@@ -8,4 +9,6 @@ pub mod UnitLaws
 pub mod AssembleLaws
 pub mod Turns
 pub mod Demand3
+pub mod Calls
+pub mod WalkRight
 pub mod Listing

@@ -4,14 +4,30 @@ use native.Mathlib.Omega.{arith}
 use mathlib.Core.Path.{_≡_, refl, _∙_}
 use mathlib.Core.List.{List, [], _∷_, map, List·Memᴰ, List·Memᴰ·head, List·Memᴰ·tail, List·Memᴰ·not-nil}
 use mathlib.Core.Bool.{Bool, true, false, cond}
-use lib.ListN.{length, getD}
+use lib.ListN.{length, getD, take}
 use lib.Dec.{eqb}
 use borrow.Author.Tests.{eqb-true, eqb-false}
 use Rattle.bitio.specs.Every.{Every}
 use Rattle.bitio.specs.Every.Every.{none as nothing, also}
 use Rattle.blocks.proofs.BlockLaws.{code-small}
-use Rattle.blocks.specs.Blocks.{Kind, Key, Golden, Show, Entry, code, number, layout, listOf, positions, isKeyEntry, cuesOf}
+use Rattle.blocks.specs.Blocks.{Kind, Key, Golden, Show, Entry, code, number, positions, isKeyEntry, cuesOf}
 use Rattle.demand.specs.Demand.{Rising}
+
+-- ---- maps
+
+pub getD-map-lt : {A B : Type 0} (f : A → B) (l : List A) (k : ℕ) (d : B) (d′ : A) → k < length l → getD (map f l) k d ≡ f (getD l k d′)
+getD-map-lt f [] k d d′ h = absurd (omega arith)
+getD-map-lt f (x ∷ l) zero d d′ h = refl
+getD-map-lt f (x ∷ l) (suc k) d d′ h = getD-map-lt f l k d d′ (omega arith)
+
+pub map-both : {A B C : Type 0} (f : B → C) (g : A → B) (h : A → C) (l : List A) (d : A) → ((k : ℕ) → k < length l → f (g (getD l k d)) ≡ h (getD l k d)) → map f (map g l) ≡ map h l
+map-both f g h [] d e = refl
+map-both f g h (x ∷ l) d e = rw (e 0 (omega arith), map-both f g h l d (λ k w. e (suc k) (omega arith)))
+
+pub map-take : {A B : Type 0} (f : A → B) (n : ℕ) (l : List A) → map f (take n l) ≡ take n (map f l)
+map-take f zero l = refl
+map-take f (suc n) [] = refl
+map-take f (suc n) (x ∷ l) = rw (map-take f n l)
 
 -- ---- positions
 
@@ -113,10 +129,8 @@ key-number e = rw (number-kind e) (go (e .kind))
     go Golden = refl
     go Show = refl
 
-pub cues-are : (gop : ℕ) (ns : List ℕ) → cuesOf (listOf gop ns) ≡ positions (λ e. isKey (e .kind)) 1 (layout gop 0 ns)
-cues-are gop ns =
-    positions-map isKeyEntry number 1 (layout gop 0 ns)
-    ∙ positions-ext _ _ 1 (layout gop 0 ns) first (λ k w. key-number (getD (layout gop 0 ns) k first))
+pub cues-are : (es : List Entry) → cuesOf (map number es) ≡ positions (λ e. isKey (e .kind)) 1 es
+cues-are es = positions-map isKeyEntry number 1 es ∙ positions-ext _ _ 1 es first (λ k w. key-number (getD es k first))
   where
     first : Entry
     first = record { segment = 0; kind = Key }

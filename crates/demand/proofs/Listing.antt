@@ -34,7 +34,7 @@ use Rattle.player.specs.Player.{State, start, soleFrame, play, unitFrame}
 use Rattle.demand.specs.Kinds.{unitKind, unitAt}
 use Rattle.demand.specs.Premises.{Premise, Premises}
 use Rattle.demand.specs.Courses.{Course, done, plays, noise, Throughout}
-use Rattle.demand.specs.Demand.{Right, PlaysRight, ReadBack, Demand}
+use Rattle.demand.specs.Demand.{Right, PlaysRight, ReadBack, Demand3}
 use Rattle.demand.proofs.Demand3.{demand3}
 
 abbrev segments : List Segment
@@ -87,13 +87,15 @@ premises : Premises segments
 unfolding many manyF lebRead readLeb sized passes headObuOf obusOf isType firstPayload
 premises =
     record {
-      keys = also {a = record { key = unitK; golden = unitG; frames = 4 }} key (also {a = record { key = unitK; golden = unitG; frames = 1 }} key nothing);
-      goldens = also {a = record { key = unitK; golden = unitG; frames = 4 }} golden (also {a = record { key = unitK; golden = unitG; frames = 1 }} golden nothing);
+      formed = record {
+        keys = also {a = record { key = unitK; golden = unitG; frames = 4 }} key (also {a = record { key = unitK; golden = unitG; frames = 1 }} key nothing);
+        goldens = also {a = record { key = unitK; golden = unitG; frames = 4 }} golden (also {a = record { key = unitK; golden = unitG; frames = 1 }} golden nothing);
+      };
       noModel = no-model;
     }
 
 -- the premises hold and assembly accepts: so demand 3 holds of what it hands out
-pub demanded : Demand settingsKG segments outputKG
+pub demanded : Demand3 settingsKG segments outputKG
 demanded = demand3 roomKG settingsKG pictureKG (rangesKG 4 1) segments outputKG (record { fps = omega arith; den = omega arith }) given premises listing
 
 -- ---- what its units show
@@ -181,19 +183,19 @@ weaken P Q f done t = tt
 weaken P Q f (noise o v n r k) t = weaken P Q f k t
 weaken P Q f (plays {st} {p} k) t = (f st p (t .0), weaken P Q f k (t .1))
 
-shown-from : (cue : ℕ) → List·Memᴰ cue (outputKG .cues) → (us : List (List ℕ)) → ReadBack outputKG us → (course : Course start cue (drop (cue - 1) us)) → Throughout (AsExpected us) course
+shown-from : (cue : ℕ) → List·Memᴰ cue (outputKG .cues) → (us : List (List ℕ)) → ReadBack (unitsOf outputKG) us → (course : Course start cue (drop (cue - 1) us)) → Throughout (AsExpected us) course
 shown-from cue m us w course = weaken _ _ (answered us (demanded .back us w) cue) course (demanded .played us w cue m course)
 
 -- Demand 3 spelt out for 01's listing. Its five units are written as a stream or as Annex B, with any room, and read back.
 -- Played from the cue 1 on they show 1, 2, 2, 2, 5, from the cue 5 on 5, whatever refused units are played before and between them.
-pub shown-from-one : (us : List (List ℕ)) → ReadBack outputKG us → (course : Course start 1 us) → Throughout (AsExpected us) course
+pub shown-from-one : (us : List (List ℕ)) → ReadBack (unitsOf outputKG) us → (course : Course start 1 us) → Throughout (AsExpected us) course
 shown-from-one = shown-from 1 (List·Memᴰ·head refl)
 
-pub shown-from-five : (us : List (List ℕ)) → ReadBack outputKG us → (course : Course start 5 (drop 4 us)) → Throughout (AsExpected us) course
+pub shown-from-five : (us : List (List ℕ)) → ReadBack (unitsOf outputKG) us → (course : Course start 5 (drop 4 us)) → Throughout (AsExpected us) course
 shown-from-five = shown-from 5 (List·Memᴰ·tail (List·Memᴰ·head refl))
 
 -- there are such units: with room for 64 bytes and five ends the stream carries the list's own
-pub reads-back : ReadBack outputKG (unitsOf outputKG)
+pub reads-back : ReadBack (unitsOf outputKG) (unitsOf outputKG)
 unfolding many manyF lebRead readLeb sized lebWrite lebBytes framed passes headObuOf obusOf obuBytes unitBytes flatMap isType count part named unitsOf cut group others join behind joined units streamUnits flat streamBytes read write
 reads-back =
     record {

@@ -1,11 +1,11 @@
--- One turn of a course, and every course: the units of a list, played from a cue on. Assumes nothing.
+-- One turn of a course, and every course: the units of a list of whatever blocks, played from a cue on. Assumes nothing.
 use Prim.Native.Nat.{ℕ, suc, _+_, _-_, _^_, _≤_, _<_}
 use native.Mathlib.Omega.{arith}
 use mathlib.Core.Path.{_≡_, refl, sym, ap, subst, _∙_}
-use mathlib.Core.List.{List, [], List·Memᴰ}
+use mathlib.Core.List.{List, [], map, List·Memᴰ}
 use mathlib.Core.Logic.{_↔_}
 use mathlib.Core.Bool.{Bool, true, false}
-use mathlib.Core.Option.{Option, none, some}
+use mathlib.Core.Option.{Option, some}
 use lib.ListN.{length, getD, drop, replicate, length-map, length-drop}
 use lib.Seq.{drop-cons}
 use lib.Dec.{ltb}
@@ -18,25 +18,24 @@ use Rattle.header.specs.Sequence.{Sequence, parseSequence}
 use Rattle.header.specs.Support.{support}
 use Rattle.frame.specs.declared.frame_header.FrameHeaderInfo.{FrameHeaderInfo}
 use Rattle.frame.specs.declared.frame_header.FrameHeaderInfo.the-variants.{Existing}
-use Rattle.blocks.specs.Blocks.{Kind, Key, Golden, Show, Entry, number, layout, listOf, positions, cuesOf, isKeyEntry, total}
+use Rattle.blocks.specs.Blocks.{Kind, Key, Golden, Show, Entry, number, positions, cuesOf, isKeyEntry}
 use Rattle.pictures.specs.Segments.{Segment, framesOf}
 use Rattle.pictures.specs.Prepare.{isSequence, effective, renewal, Prepared, showUnit}
 use Rattle.pictures.specs.declared.settings.Settings.{Settings}
-use Rattle.pictures.specs.Assemble.{pictureOf, endsFrom, showsOf, named, unitsOf}
+use Rattle.pictures.specs.Assemble.{pictureOf, endsFrom, showsOf, named}
 use Rattle.player.specs.Player.{empty, filled, refresh, State, start, play, leaves, unitFrame}
 use Rattle.player.specs.declared.slots.Slot.{Slot}
 use Rattle.demand.specs.Kinds.{unitKind, saysKey, isKeyUnit, unitAt, segmentOf}
 use Rattle.demand.specs.Premises.{firstSequence, Premise}
 use Rattle.demand.specs.Courses.{Course, done, plays, noise, Throughout}
 use Rattle.demand.specs.Demand.{Rising, noSegment, IsUnit, Listed, PlaysRight}
-use Rattle.blocks.proofs.BlockLaws.{length-layout}
-use Rattle.demand.proofs.BlockLaws.{entry, Since, first-key, segment-in, getD-map-lt, segment-is, fits-layout, show-led}
-use Rattle.demand.proofs.ListLaws.{isKey, positions-map, positions-ext, positions-pass, pass-positions, Passes, positions-rising, cues-are, every-from}
-use Rattle.demand.proofs.HandedLaws.{noUnits, unitOf, named-is, picture-short}
+use Rattle.demand.proofs.Laid.{entry, first, Laid, first-key, segment-in, Since, show-led}
+use Rattle.demand.proofs.ListLaws.{getD-map-lt, map-both, isKey, positions-map, positions-ext, positions-pass, pass-positions, Passes, positions-rising, cues-are, every-from}
+use Rattle.demand.proofs.HandedLaws.{noUnits, unitOf, unitBy, Within, named-is}
 use Rattle.demand.proofs.HeaderLaws.{flags-byte, shown-showable, show-frame}
 use Rattle.demand.proofs.PlayerLaws.{length-refresh, hit, keep-same, keep-first, sole-is, play-is}
 use Rattle.demand.proofs.UnitLaws.{first-same, show-unit, show-payload}
-use Rattle.demand.proofs.AssembleLaws.{Says, Paired, matches-length, matches-at, Made, out}
+use Rattle.demand.proofs.AssembleLaws.{Says, Paired, matches-length, matches-at, Boards}
 
 -- ---- one segment's units
 
@@ -148,63 +147,57 @@ key-says Key = refl
 key-says Golden = refl
 key-says Show = refl
 
-abbrev first : Entry
-first = record { segment = 0; kind = Key }
-
 -- ---- the list
 
-module _ (set : Settings) (xs : List Segment) (m : Made set xs) (small : length (pictureOf (m .prepared)) ≤ limit) where
+-- es: the entries, whatever their blocks
+module _ (set : Settings) (xs : List Segment) (m : Boards set xs) (short : Within limit (m .prepared)) (es : List Entry) (laid : Laid (framesOf xs) es) where
   abbrev q : Sequence
   q = effective set (m .first)
 
   abbrev ns : List ℕ
   ns = framesOf xs
 
+  -- the entries' units
   abbrev us : List (List ℕ)
-  us = unitsOf (out m)
+  us = map (unitBy (m .prepared)) es
+
+  abbrev cues : List ℕ
+  cues = cuesOf (map number es)
 
   abbrev U : ℕ → List ℕ
   U = unitAt us
 
   -- the entry at a position
   abbrev E : ℕ → Entry
-  E p = getD (layout (set .gop) 0 ns) (p - 1) first
+  E p = getD es (p - 1) first
 
   abbrev unitsAt : ℕ → Prepared
   unitsAt i = getD (m .prepared) i noUnits
 
-  length-list : length (layout (set .gop) 0 ns) ≡ total ns
-  length-list = length-layout (set .gop) 0 ns (omega (arith, m .gop-two))
-
-  pub length-units : length us ≡ total ns
-  unfolding unitsOf
-  length-units = rw (length-map, length-map) length-list
+  pub length-units : length us ≡ length es
+  length-units = length-map es (unitBy (m .prepared))
 
   length-prepared : length (m .prepared) ≡ length ns
   length-prepared = matches-length (m .pairs) ∙ sym (length-map xs (λ x. x .frames))
 
-  module _ (p : ℕ) (lo : 1 ≤ p) (hi : p ≤ total ns) where
-    entry-is : getD (listOf (set .gop) ns) (p - 1) 0 ≡ number (E p)
-    entry-is = getD-map-lt number (layout (set .gop) 0 ns) (p - 1) 0 first (omega (arith, length-list))
+  module _ (p : ℕ) (lo : 1 ≤ p) (hi : p ≤ length es) where
+    entry-is : getD (map number es) (p - 1) 0 ≡ number (E p)
+    entry-is = getD-map-lt number es (p - 1) 0 first (omega arith)
 
     segment-here : (E p) .segment ≡ segmentOf ns p
-    segment-here = segment-is (set .gop) 0 ns (p - 1) first (omega (arith, m .gop-two)) (omega arith) ∙ omega arith
+    segment-here = laid .segments (p - 1) (omega arith)
 
     in-list : (E p) .segment < length (m .prepared)
-    in-list = omega (arith, segment-here, segment-in ns (p - 1) (omega arith), length-prepared)
+    in-list = omega (arith, segment-here, segment-in ns (p - 1) (omega (arith, laid .within)), length-prepared)
 
     unit-is : U p ≡ unitOf ((E p) .kind) (unitsAt ((E p) .segment))
-    unfolding unitsOf
-    unit-is =
-        getD-map-lt (named (pictureOf (m .prepared)) (endsFrom 0 (m .prepared)) (showsOf (m .prepared))) (listOf (set .gop) ns) (p - 1) [] 0 (omega (arith, length-list, length-map (layout (set .gop) 0 ns) number))
-        ∙ ap (named (pictureOf (m .prepared)) (endsFrom 0 (m .prepared)) (showsOf (m .prepared))) entry-is
-        ∙ named-is (m .prepared) (E p) in-list
+    unit-is = getD-map-lt (unitBy (m .prepared)) es (p - 1) [] first (omega arith)
 
     ok : Paired q (renewal set (m .first)) (m .payload) (getD xs ((E p) .segment) noSegment) (unitsAt ((E p) .segment))
     ok = matches-at (m .pairs) ((E p) .segment) noSegment noUnits in-list
 
     size-ok : (length ((unitsAt ((E p) .segment)) .key) ≤ limit) × (length ((unitsAt ((E p) .segment)) .golden) ≤ limit)
-    size-ok = picture-short (m .prepared) limit small ((E p) .segment) in-list
+    size-ok = short ((E p) .segment) in-list
 
     kind-is : unitKind q (U p) ≡ accepted ((E p) .kind)
     kind-is = rw unit-is (kind-says ok (m .supported) ((E p) .kind))
@@ -215,11 +208,7 @@ module _ (set : Settings) (xs : List Segment) (m : Made set xs) (small : length 
     led : (E p) .kind ≡ Show → (o : ℕ) × Since E ((E p) .segment) o p
     led w =
         let n : 1 + (p - 1) ≡ p = omega arith in
-        rw n at
-        (show-led E (layout (set .gop) 0 ns) 1 none (fits-layout (set .gop) 0 ns none) first
-        (λ k b. ap (λ (j : ℕ). getD (layout (set .gop) 0 ns) j first) (omega arith))
-        (λ i e. let z : _≡_ {A = ℕ} 0 1 = cc in absurd (omega arith))
-        (p - 1) (omega (arith, length-list)) (rw n w))
+        rw n at (show-led E es 1 (laid .order) (λ k b. ap (λ (j : ℕ). getD es j first) (omega arith)) (p - 1) (omega arith) (rw n w))
 
     -- the unit as part 1 has it
     is-unit : (k : Kind) → IsUnit set (m .first) k (getD xs ((E p) .segment) noSegment) (unitOf k (unitsAt ((E p) .segment)))
@@ -227,7 +216,7 @@ module _ (set : Settings) (xs : List Segment) (m : Made set xs) (small : length 
     is-unit Golden = ok .golden-sent
     is-unit Show = (ok .info, ok .golden-frame, ap showUnit (ok .slot-is))
 
-    pub listed : Listed set (m .first) xs (out m) p
+    pub listed : Listed set (m .first) xs (record { list = map number es; cues = cues; units = us }) p
     listed =
         record {
           kind = (E p) .kind;
@@ -236,61 +225,62 @@ module _ (set : Settings) (xs : List Segment) (m : Made set xs) (small : length 
           says = kind-is;
         }
 
+  -- the units are those that the entries name in what is handed out
+  pub named-units : map (named (pictureOf (m .prepared)) (endsFrom 0 (m .prepared)) (showsOf (m .prepared))) (map number es) ≡ us
+  named-units =
+      map-both (named (pictureOf (m .prepared)) (endsFrom 0 (m .prepared)) (showsOf (m .prepared))) number (unitBy (m .prepared)) es first
+      (λ k h.
+      let n : suc k - 1 ≡ k = omega arith in
+      rw n at (named-is (m .prepared) (E (suc k)) (in-list (suc k) (omega arith) (omega arith))))
+
   -- every unit of the list is one of demand 3's kind
   pub all-units : Every (Premise (m .payload)) us
   all-units =
       every-from us [] (λ k h.
-      let hi : suc k ≤ total ns = omega (arith, length-units) in
+      let hi : suc k ≤ length es = omega (arith, length-units) in
       let n : suc k - 1 ≡ k = omega arith in
       rw n at (rw (← unit-is (suc k) (omega arith) hi) at (kind-unit (ok (suc k) (omega arith) hi) ((E (suc k)) .kind))))
 
   -- ---- the cues
 
-  pub cue-is : cuesOf (listOf (set .gop) ns) ≡ positions (isKeyUnit q) 1 us
-  unfolding unitsOf
+  pub cue-is : cues ≡ positions (isKeyUnit q) 1 us
   cue-is =
-      cues-are (set .gop) ns
-      ∙ positions-ext (λ e. isKey (e .kind)) (λ e. isKeyUnit q (named (pictureOf (m .prepared)) (endsFrom 0 (m .prepared)) (showsOf (m .prepared)) (number e))) 1 (layout (set .gop) 0 ns) first
+      cues-are es
+      ∙ positions-ext (λ e. isKey (e .kind)) (λ e. isKeyUnit q (unitBy (m .prepared) e)) 1 es first
       (λ k w.
       let n : suc k - 1 ≡ k = omega arith in
-      let hi : suc k ≤ total ns = omega (arith, length-list) in
-      let x = in-list (suc k) (omega arith) hi in
-      let y = kind-says (ok (suc k) (omega arith) hi) (m .supported) ((E (suc k)) .kind) in
-      let z = ap saysKey (rw (← named-is (m .prepared) (E (suc k)) x) at y) ∙ key-says ((E (suc k)) .kind) in
+      let y = kind-says (ok (suc k) (omega arith) (omega arith)) (m .supported) ((E (suc k)) .kind) in
+      let z = ap saysKey y ∙ key-says ((E (suc k)) .kind) in
       sym (rw n at z))
-      ∙ sym (positions-map (λ n. isKeyUnit q (named (pictureOf (m .prepared)) (endsFrom 0 (m .prepared)) (showsOf (m .prepared)) n)) number 1 (layout (set .gop) 0 ns))
-      ∙ sym (positions-map (isKeyUnit q) (named (pictureOf (m .prepared)) (endsFrom 0 (m .prepared)) (showsOf (m .prepared))) 1 (listOf (set .gop) ns))
+      ∙ sym (positions-map (isKeyUnit q) (unitBy (m .prepared)) 1 es)
 
-  key-at : (c : ℕ) → List·Memᴰ c (cuesOf (listOf (set .gop) ns)) → Passes (λ e. isKey (e .kind)) 1 (layout (set .gop) 0 ns) first c
-  key-at c k = positions-pass (λ e. isKey (e .kind)) 1 (layout (set .gop) 0 ns) first c (rw (cues-are (set .gop) ns) at k)
+  key-at : (c : ℕ) → List·Memᴰ c cues → Passes (λ e. isKey (e .kind)) 1 es first c
+  key-at c k = positions-pass (λ e. isKey (e .kind)) 1 es first c (rw (cues-are es) at k)
 
-  pub exactly : (c : ℕ) → List·Memᴰ c (cuesOf (listOf (set .gop) ns)) ↔ ((1 ≤ c) × (c ≤ total ns) × (unitKind q (U c) ≡ accepted Key))
+  pub exactly : (c : ℕ) → List·Memᴰ c cues ↔ ((1 ≤ c) × (c ≤ length es) × (unitKind q (U c) ≡ accepted Key))
   exactly c = (there, back)
     where
-      there : List·Memᴰ c (cuesOf (listOf (set .gop) ns)) → (1 ≤ c) × (c ≤ total ns) × (unitKind q (U c) ≡ accepted Key)
+      there : List·Memᴰ c cues → (1 ≤ c) × (c ≤ length es) × (unitKind q (U c) ≡ accepted Key)
       there k =
           let w = key-at c k in
-          let hi : c ≤ total ns = omega (arith, w .high, length-list) in
+          let hi : c ≤ length es = omega (arith, w .high) in
           (w .low, hi, kind-is c (w .low) hi ∙ ap accepted (is-key ((E c) .kind) (w .holds)))
 
-      back : (1 ≤ c) × (c ≤ total ns) × (unitKind q (U c) ≡ accepted Key) → List·Memᴰ c (cuesOf (listOf (set .gop) ns))
+      back : (1 ≤ c) × (c ≤ length es) × (unitKind q (U c) ≡ accepted Key) → List·Memᴰ c cues
       back (lo, hi, k) =
           let w = kind-is c lo hi in
           let v : (E c) .kind ≡ Key = cc in
-          rw (cues-are (set .gop) ns)
-          (pass-positions (λ e. isKey (e .kind)) 1 (layout (set .gop) 0 ns) first c (record { low = lo; high = omega (arith, length-list); holds = ap isKey v }))
+          rw (cues-are es) (pass-positions (λ e. isKey (e .kind)) 1 es first c (record { low = lo; high = omega arith; holds = ap isKey v }))
 
   -- position 1 is a cue
-  pub starts : List·Memᴰ 1 (cuesOf (listOf (set .gop) ns))
-  starts =
-      let k = first-key (set .gop) 0 ns first (omega (arith, m .gop-two)) (omega (arith, m .total-two)) in
-      exactly 1 .1 (omega arith, omega (arith, m .total-two), kind-is 1 (omega arith) (omega (arith, m .total-two)) ∙ ap accepted k)
+  pub starts : 1 ≤ length es → List·Memᴰ 1 cues
+  starts h = exactly 1 .1 (omega arith, h, kind-is 1 (omega arith) h ∙ ap accepted (first-key es (laid .order)))
 
   -- a cue's unit has the list's sequence header
-  pub carries : (c : ℕ) → List·Memᴰ c (cuesOf (listOf (set .gop) ns)) → parseSequence (firstSequence (U c)) ≡ accepted q
+  pub carries : (c : ℕ) → List·Memᴰ c cues → parseSequence (firstSequence (U c)) ≡ accepted q
   carries c k =
       let w = key-at c k in
-      let hi : c ≤ total ns = omega (arith, w .high, length-list) in
+      let hi : c ≤ length es = omega (arith, w .high) in
       let u = unit-of c (w .low) hi Key (is-key ((E c) .kind) (w .holds)) in
       let b = ok c (w .low) hi in
       let v = b .key .unit in
@@ -299,8 +289,8 @@ module _ (set : Settings) (xs : List Segment) (m : Made set xs) (small : length 
       ∙ ap parseSequence (first-same (m .payload) (v .same) (b .key-header))
       ∙ m .read
 
-  pub rising : Rising 1 (cuesOf (listOf (set .gop) ns))
-  rising = positions-rising isKeyEntry 1 (listOf (set .gop) ns)
+  pub rising : Rising 1 cues
+  rising = positions-rising isKeyEntry 1 (map number es)
 
   -- ---- one turn
 
@@ -315,7 +305,7 @@ module _ (set : Settings) (xs : List Segment) (m : Made set xs) (small : length 
     right : PlaysRight set (m .first) xs us c p st
     next : Inv c (suc p) (right .after)
 
-  module _ (c p : ℕ) (st : State) (lo : 1 ≤ c) (hi : p ≤ total ns) (cue : (E c) .kind ≡ Key) (inv : Inv c p st) where
+  module _ (c p : ℕ) (st : State) (lo : 1 ≤ c) (hi : p ≤ length es) (cue : (E c) .kind ≡ Key) (inv : Inv c p st) where
     lo′ : 1 ≤ p
     lo′ = omega (arith, inv .from)
 
@@ -388,7 +378,7 @@ module _ (set : Settings) (xs : List Segment) (m : Made set xs) (small : length 
         let (o, s) = led p lo′ hi k in
         let behind = key-before E ((E p) .segment) o p c s k (inv .from) cue in
         let lo-o : 1 ≤ o = omega arith in
-        let hi-o : o ≤ total ns = omega (arith, s .below) in
+        let hi-o : o ≤ length es = omega (arith, s .below) in
         let held = inv .held ((E p) .segment) o (omega arith) s in
         let here = segment-here p lo′ hi in
         record {
@@ -451,7 +441,7 @@ module _ (set : Settings) (xs : List Segment) (m : Made set xs) (small : length 
     every st p vs (plays {u} {us = vs′} k) inv e =
         let n = ap length e ∙ length-drop (p - 1) us in
         let lo′ : 1 ≤ p = omega (arith, inv .from) in
-        let hi : p ≤ total ns = omega (arith, length-units) in
+        let hi : p ≤ length es = omega (arith, length-units) in
         let d = drop-cons us (p - 1) [] (omega (arith, length-units)) in
         let w : u ≡ U p = cc in
         let r : vs′ ≡ drop (suc (p - 1)) us = cc in
@@ -459,7 +449,7 @@ module _ (set : Settings) (xs : List Segment) (m : Made set xs) (small : length 
         let t = turn c p st lo hi cue inv in
         (t .right, every _ (suc p) vs′ k (rw w (onward c p st t)) (r ∙ ap (λ (i : ℕ). drop i us) j))
 
-  pub played : (c : ℕ) → List·Memᴰ c (cuesOf (listOf (set .gop) ns)) → (k : Course start c (drop (c - 1) us)) → Throughout (λ p st. PlaysRight set (m .first) xs us c p st) k
+  pub played : (c : ℕ) → List·Memᴰ c cues → (k : Course start c (drop (c - 1) us)) → Throughout (λ p st. PlaysRight set (m .first) xs us c p st) k
   played c k course =
       let w = key-at c k in
       every c (w .low) (is-key ((E c) .kind) (w .holds)) start c _ course (begins c) refl

@@ -1,12 +1,12 @@
--- What demand 3 claims of an accepted list. Assumes nothing.
+-- What demand 3 claims of a list that is given out, of whatever blocks, or of its first units. Assumes nothing.
 -- What stands in quotation marks is document 01's wording, which says board for segment. What Premises, Courses and Kinds quote is not quoted again here.
 use Prim.Native.Nat.{ℕ, suc, _-_, _≤_, _<_}
 use mathlib.Core.Path.{_≡_}
-use mathlib.Core.List.{List, [], _∷_, List·Memᴰ}
+use mathlib.Core.List.{List, [], _∷_, map, List·Memᴰ}
 use mathlib.Core.Logic.{_↔_, _⊎_}
 use mathlib.Core.Bool.{Bool, true}
 use mathlib.Core.Option.{some}
-use lib.ListN.{length, getD, drop}
+use lib.ListN.{length, getD, take, drop}
 use Rattle.bitio.specs.Parse.{refused, accepted}
 use Rattle.header.specs.Sequence.{Sequence, parseSequence}
 use Rattle.frame.specs.declared.frame_header.FrameInfo.{FrameInfo}
@@ -15,7 +15,7 @@ use Rattle.container.specs.Limits.{Room}
 use Rattle.container.specs.Stream.{streamBytes}
 use Rattle.container.specs.Units.{endsOf}
 use Rattle.container.specs.Container.{Container, read, write, writeAt}
-use Rattle.blocks.specs.Blocks.{Kind, Key, Golden, Show, number, listOf, positions, total}
+use Rattle.blocks.specs.Blocks.{Kind, Key, Golden, Show, Entry, number, layout, positions, cuesOf, total}
 use Rattle.pictures.specs.Segments.{Segment, framesOf}
 use Rattle.pictures.specs.Prepare.{effective, renewal, sent, slotOf, showUnit}
 use Rattle.pictures.specs.declared.settings.Settings.{Settings}
@@ -29,6 +29,20 @@ use Rattle.demand.specs.Courses.{Course, Throughout}
 unfoldable pub Rising : ℕ → List ℕ → Type 0
 Rising lo [] = Unit
 Rising lo (x ∷ l) = (lo ≤ x) × (Rising (suc x) l)
+
+-- what is given out: the list's entries by number, the cues, and the units
+pub record Given : Type 0 where
+  pub list : List ℕ
+  pub cues : List ℕ
+  pub units : List (List ℕ)
+
+-- by assembly
+abbrev pub handed : Output → Given
+handed r = record { list = r .list; cues = r .cues; units = unitsOf r }
+
+-- the first n units alone, as a sequencer has given them after n calls: their cues are those at keys among them
+abbrev pub front : ℕ → Given → Given
+front n g = record { list = take n (g .list); cues = cuesOf (take n (g .list)); units = take n (g .units) }
 
 abbrev pub noSegment : Segment
 noSegment = record { key = []; golden = []; frames = 0 }
@@ -57,16 +71,16 @@ module _ (set : Settings) (q : Sequence) where
   IsUnit Golden x u = IsGolden x u
   IsUnit Show x u = IsShow x u
 
-  -- position p of the list r
-  pub record Listed (xs : List Segment) (r : Output) (p : ℕ) : Type 0 where
+  -- position p of the list g
+  pub record Listed (xs : List Segment) (g : Given) (p : ℕ) : Type 0 where
     pub kind : Kind
     -- its entry names that kind of unit of the segment whose position it is.
     -- 01: "A list entry is segment × 4 + kind (key 0, golden 1, show 2), segments from 0"
-    pub entry : getD (r .list) (p - 1) 0 ≡ number (record { segment = segmentOf (framesOf xs) p; kind = kind })
+    pub entry : getD (g .list) (p - 1) 0 ≡ number (record { segment = segmentOf (framesOf xs) p; kind = kind })
     -- its bytes are that unit's
-    pub bytes : IsUnit kind (ownSegment xs p) (unitAt (unitsOf r) p)
+    pub bytes : IsUnit kind (ownSegment xs p) (unitAt (g .units) p)
     -- and say so
-    pub says : unitKind (effective set q) (unitAt (unitsOf r) p) ≡ accepted kind
+    pub says : unitKind (effective set q) (unitAt (g .units) p) ≡ accepted kind
 
   -- ---- one play, of the units us from the cue c on
 
@@ -104,50 +118,54 @@ module _ (set : Settings) (q : Sequence) where
       pub answer : play st p (unitAt us p) ≡ accepted (record { shown = some shown; state = after })
       pub right : Right kind shown
 
--- the list's units, written in a container and read back: us.
+-- the units vs, written in a container and read back: us.
 -- 01: "All the list's units are written in order, the container being the stream or Annex B."
-pub record ReadBack (r : Output) (us : List (List ℕ)) : Type 0 where
+pub record ReadBack (vs us : List (List ℕ)) : Type 0 where
   pub container : Container
   pub room : Room
   pub bytes : List ℕ
-  pub written : write container room (unitsOf r) ≡ accepted bytes
+  pub written : write container room vs ≡ accepted bytes
   pub room′ : Room
   pub readBack : read container room′ bytes ≡ accepted us
 
--- Demand 3, of what assembly has handed out for the segments xs.
+-- Demand 3, of the n units of g, given out for the segments xs, es being the entries that their blocks give.
 -- 01: "It is a single claim about the whole way from the boards to the last unit played, not one for each call."
-pub record Demand (set : Settings) (xs : List Segment) (r : Output) : Type 0 where
+pub record Demand (set : Settings) (xs : List Segment) (es : List Entry) (n : ℕ) (g : Given) : Type 0 where
   -- What the list's sequence header reads as.
   -- As it goes out, timed if it was not, every cue's unit has it, and position 1 is a cue.
   pub header : Sequence
   pub reads : parseSequence (listHeader xs) ≡ accepted header
-  pub starts : List·Memᴰ 1 (r .cues)
-  pub carries : (cue : ℕ) → List·Memᴰ cue (r .cues) → parseSequence (firstSequence (unitAt (unitsOf r) cue)) ≡ accepted (effective set header)
+  pub starts : List·Memᴰ 1 (g .cues)
+  pub carries : (cue : ℕ) → List·Memᴰ cue (g .cues) → parseSequence (firstSequence (unitAt (g .units) cue)) ≡ accepted (effective set header)
   --
-  -- 1. The entries are, segment after segment, what the blocks give; there are as many units as frames ordered;
+  -- 1. The entries are, segment after segment, what the blocks give; there are n units;
   --    each has the bytes of its segment's key or golden, copied or rewritten, or of the segment's own show unit.
-  -- 01: "Blocks of min(frames left, gop_size): key, golden, then show units. A block of 1 after a golden is one show unit. A segment of 1 frame is its key."
-  pub entries : r .list ≡ listOf (set .gop) (framesOf xs)
-  -- 01: "The frames ordered are the sum of the boards' frame counts."
-  pub count : length (unitsOf r) ≡ total (framesOf xs)
-  pub units : (p : ℕ) → 1 ≤ p → p ≤ total (framesOf xs) → Listed set header xs r p
+  pub entries : g .list ≡ map number es
+  pub count : length (g .units) ≡ n
+  pub units : (p : ℕ) → 1 ≤ p → p ≤ n → Listed set header xs g p
   --
   -- 2. The units are written from lent memory: their bytes one behind the other, and the end of each.
-  pub lent : (c : Container) (room : Room) → writeAt c room (streamBytes (unitsOf r)) (endsOf 0 (unitsOf r)) ≡ write c room (unitsOf r)
+  pub lent : (c : Container) (room : Room) → writeAt c room (streamBytes (g .units)) (endsOf 0 (g .units)) ≡ write c room (g .units)
   -- 01: "Writing may be refused with 34 or 35 only, reading back with 35 only; then nothing is read back."
-  pub writing : (c : Container) (room : Room) (n : ℕ) → write c room (unitsOf r) ≡ refused n → (n ≡ 34) ⊎ (n ≡ 35)
-  pub reading : (c : Container) (room room′ : Room) (bs : List ℕ) → write c room (unitsOf r) ≡ accepted bs → (n : ℕ) → read c room′ bs ≡ refused n → n ≡ 35
+  pub writing : (c : Container) (room : Room) (k : ℕ) → write c room (g .units) ≡ refused k → (k ≡ 34) ⊎ (k ≡ 35)
+  pub reading : (c : Container) (room room′ : Room) (bs : List ℕ) → write c room (g .units) ≡ accepted bs → (k : ℕ) → read c room′ bs ≡ refused k → k ≡ 35
   -- else the units read back are the list's, byte for byte
-  pub back : (us : List (List ℕ)) → ReadBack r us → us ≡ unitsOf r
+  pub back : (us : List (List ℕ)) → ReadBack (g .units) us → us ≡ g .units
   --
   -- 3. The cues are exactly the positions, rising, of the units that are key units as their bytes say.
   -- 01: "cues count units from 1"
-  pub cues : r .cues ≡ positions (isKeyUnit (effective set header)) 1 (unitsOf r)
-  pub exactly : (p : ℕ) → List·Memᴰ p (r .cues) ↔ ((1 ≤ p) × (p ≤ total (framesOf xs)) × (unitKind (effective set header) (unitAt (unitsOf r) p) ≡ accepted Key))
-  pub rising : Rising 1 (r .cues)
+  pub cues : g .cues ≡ positions (isKeyUnit (effective set header)) 1 (g .units)
+  pub exactly : (p : ℕ) → List·Memᴰ p (g .cues) ↔ ((1 ≤ p) × (p ≤ n) × (unitKind (effective set header) (unitAt (g .units) p) ≡ accepted Key))
+  pub rising : Rising 1 (g .cues)
   --
   -- 4. From every cue on, the units read back are played, from eight empty slots and no kept header.
   --    Whatever refused units are played before and between them: none of them is refused, and each shows what it has to.
   -- 01: "Each unit read back is played under its position."
-  pub played : (us : List (List ℕ)) → ReadBack r us → (cue : ℕ) → List·Memᴰ cue (r .cues) → (course : Course start cue (drop (cue - 1) us))
+  pub played : (us : List (List ℕ)) → ReadBack (g .units) us → (cue : ℕ) → List·Memᴰ cue (g .cues) → (course : Course start cue (drop (cue - 1) us))
       → Throughout (λ p st. PlaysRight set header xs us cue p st) course
+
+-- of what assembly has handed out: as many units as frames ordered, in the blocks of 01.
+-- 01: "Blocks of min(frames left, gop_size): key, golden, then show units. A block of 1 after a golden is one show unit. A segment of 1 frame is its key."
+-- 01: "The frames ordered are the sum of the boards' frame counts."
+abbrev pub Demand3 : Settings → List Segment → Output → Type 0
+Demand3 set xs r = Demand set xs (layout (set .gop) 0 (framesOf xs)) (total (framesOf xs)) (handed r)

@@ -44,9 +44,13 @@ pub record Premise (s u : List ℕ) : Type 0 where
   -- 4. the payload of every sequence header OBU in it is s
   pub same : Every (Same s) held
 
-pub record Premises (xs : List Segment) : Type 0 where
+-- 1 to 4 of each key and golden
+pub record Formed (xs : List Segment) : Type 0 where
   pub keys : Every (λ x. Premise (listHeader xs) (x .key)) xs
   pub goldens : Every (λ x. Premise (listHeader xs) (x .golden)) xs
+
+pub record Premises (xs : List Segment) : Type 0 where
+  pub formed : Formed xs
   -- 5. the list's sequence header has no decoder model
   pub noModel : (q : Sequence) → parseSequence (listHeader xs) ≡ accepted q → q .header .opening .model .«decoder_model_info_present» ≡ false
 

@@ -37,7 +37,7 @@ use denote.Triple.Entry.{Args, Vals, onEntry}
 use denote.Triple.Spec.{Meets, tripleOf}
 use denote.Triple.Table.{entered, cited}
 use denote.Triple.Walked.{Stays, walkOf, Walks, ends-at, walked, walk-meets}
-use Rattle.pictures.specs.Prepare.{Settings}
+use Rattle.pictures.specs.declared.settings.Settings.{Settings}
 use Rattle.pictures.specs.Assemble.{Outcome, Output}
 use Rattle.assemble.specs.Whole.{Lent as LentSix, six, Handed}
 use Rattle.assemble.specs.Records.{numbersAfter, copiedOutcome, recordsOutcome}

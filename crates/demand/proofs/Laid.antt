@@ -1,0 +1,195 @@
+-- What demand 3 needs of a list's entries, whatever blocks they come from: `Laid`, and what follows from it. Assumes nothing.
+use Prim.Native.Nat.{ℕ, zero, suc, _+_, _-_, _≤_, _<_}
+use native.Mathlib.Omega.{arith}
+use mathlib.Core.Path.{_≡_, refl, sym, ap, subst, _∙_}
+use mathlib.Core.List.{List, [], _∷_, _++_}
+use mathlib.Core.Logic.{_⊎_, inl, inr}
+use mathlib.Core.Bool.{Bool, true, false, cond}
+use mathlib.Core.Option.{Option, none, some}
+use lib.ListN.{length, getD, take, length-take, length-append, List·getD-append}
+use lib.Seq.{getD-take, getD-append-seam}
+use lib.Dec.{ltb}
+use borrow.Author.Tests.{ltb-true, ltb-false, lt-ltb, le-ltb}
+use Rattle.blocks.specs.Blocks.{Kind, Key, Golden, Show, Entry, total}
+use Rattle.demand.specs.Kinds.{segmentBehind}
+
+abbrev pub entry : ℕ → Kind → Entry
+entry i k = record { segment = i; kind = k }
+
+abbrev pub first : Entry
+first = entry 0 Key
+
+-- ---- which entry may stand behind which
+
+-- A golden stands directly behind a key, a show entry behind a golden or a show entry, of its own segment; a key anywhere.
+-- So a list, and every segment in it, starts with a key.
+abbrev pub Behind : Option Entry → ℕ → Kind → Type 0
+Behind b i Key = Unit
+Behind b i Golden = b ≡ some (entry i Key)
+Behind b i Show = (b ≡ some (entry i Golden)) ⊎ (b ≡ some (entry i Show))
+
+-- b: the entry before, if there is one
+unfoldable pub fits : Option Entry → List Entry → Type 0
+fits b [] = Unit
+fits b (x ∷ xs) = (Behind b (x .segment) (x .kind)) × (fits (some x) xs)
+
+-- the entries es are those of segments with the frames ns, or the first of them
+pub record Laid (ns : List ℕ) (es : List Entry) : Type 0 where
+  pub within : length es ≤ total ns
+  pub segments : (k : ℕ) → k < length es → (getD es k first) .segment ≡ segmentBehind ns k
+  pub order : fits none es
+
+-- ---- the first of them
+
+pub fits-take : (b : Option Entry) (es : List Entry) (k : ℕ) → fits b es → fits b (take k es)
+unfolding fits
+fits-take b es zero f = tt
+fits-take b [] (suc k) f = tt
+fits-take b (x ∷ es) (suc k) f = (f .0, fits-take (some x) es k (f .1))
+
+pub laid-take : {ns : List ℕ} {es : List Entry} → Laid ns es → (k : ℕ) → Laid ns (take k es)
+laid-take {es} l k =
+    let n = length-take k es in
+    record {
+      within = omega (arith, l .within);
+      segments = λ j h. ap (λ (x : Entry). x .segment) (getD-take k es j first (omega arith)) ∙ l .segments j (omega arith);
+      order = fits-take none es k (l .order);
+    }
+
+-- ---- one entry more, as a sequencer gives them
+
+abbrev pub lastOf : Option Entry → List Entry → Option Entry
+lastOf b [] = b
+lastOf b (x ∷ es) = lastOf (some x) es
+
+fits-more : (b : Option Entry) (es : List Entry) (x : Entry) → fits b es → Behind (lastOf b es) (x .segment) (x .kind) → fits b (es ++ x ∷ [])
+unfolding fits
+fits-more b [] x f h = (h, tt)
+fits-more b (y ∷ es) x f h = (f .0, fits-more (some y) es x (f .1) h)
+
+pub laid-none : (ns : List ℕ) → Laid ns []
+unfolding fits
+laid-none ns = record { within = omega arith; segments = λ k h. absurd (omega arith); order = tt }
+
+pub laid-more : {ns : List ℕ} {es : List Entry} → Laid ns es → (x : Entry) → length es < total ns → x .segment ≡ segmentBehind ns (length es)
+    → Behind (lastOf none es) (x .segment) (x .kind) → Laid ns (es ++ x ∷ [])
+laid-more {ns} {es} l x h w f =
+    let n = length-append es (x ∷ []) in
+    record { within = omega arith; segments = λ k b. go k (omega arith) (ltb k (length es)) refl; order = fits-more none es x (l .order) f }
+  where
+    go : (k : ℕ) → k < suc (length es) → (t : Bool) → ltb k (length es) ≡ t → (getD (es ++ x ∷ []) k first) .segment ≡ segmentBehind ns k
+    go k b true t =
+        let u = ltb-true k (length es) t in
+        ap (λ (y : Entry). y .segment) (List·getD-append es (x ∷ []) first k u) ∙ l .segments k u
+    go k b false t =
+        let u = ltb-false k (length es) t in
+        let e : k ≡ length es = omega arith in
+        rw e (ap (λ (y : Entry). y .segment) (getD-append-seam es x [] first) ∙ w)
+
+-- ---- a list, and every segment in it, starts with a key
+
+pub first-key : (es : List Entry) → fits none es → (getD es 0 first) .kind ≡ Key
+unfolding fits
+first-key [] f = refl
+first-key (x ∷ es) f = go (x .kind) (f .0)
+  where
+    go : (k : Kind) → Behind none (x .segment) k → k ≡ Key
+    go Key b = refl
+    go Golden b = let z : _≡_ {A = ℕ} 0 1 = cc in absurd (omega arith)
+    go Show (inl b) = let z : _≡_ {A = ℕ} 0 1 = cc in absurd (omega arith)
+    go Show (inr b) = let z : _≡_ {A = ℕ} 0 1 = cc in absurd (omega arith)
+
+-- what stands behind an entry may stand there
+pub fits-at : (b : Option Entry) (es : List Entry) → fits b es → (k : ℕ) → suc k < length es
+    → Behind (some (getD es k first)) ((getD es (suc k) first) .segment) ((getD es (suc k) first) .kind)
+unfolding fits
+fits-at b [] f k h = absurd (omega arith)
+fits-at b (x ∷ []) f k h = absurd (omega arith)
+fits-at b (x ∷ y ∷ es) f zero h = f .1 .0
+fits-at b (x ∷ y ∷ es) f (suc k) h = fits-at (some x) (y ∷ es) (f .1) k (omega arith)
+
+pub segment-key : {ns : List ℕ} {es : List Entry} → Laid ns es → (k : ℕ) → suc k < length es → ((getD es k first) .segment ≡ (getD es (suc k) first) .segment → ⊥)
+    → (getD es (suc k) first) .kind ≡ Key
+segment-key {es} l k h n = go ((getD es (suc k) first) .kind) (fits-at none es (l .order) k h)
+  where
+    same : (x y : Entry) → _≡_ {A = Option Entry} (some x) (some y) → x .segment ≡ y .segment
+    same x y e = let z : x ≡ y = cc in ap (λ (w : Entry). w .segment) z
+
+    go : (kind : Kind) → Behind (some (getD es k first)) ((getD es (suc k) first) .segment) kind → kind ≡ Key
+    go Key b = refl
+    go Golden b = absurd (n (same (getD es k first) (entry ((getD es (suc k) first) .segment) Key) b))
+    go Show (inl b) = absurd (n (same (getD es k first) (entry ((getD es (suc k) first) .segment) Golden) b))
+    go Show (inr b) = absurd (n (same (getD es k first) (entry ((getD es (suc k) first) .segment) Show) b))
+
+-- ---- whose segment a position is
+
+pub segment-in : (ns : List ℕ) (k : ℕ) → k < total ns → segmentBehind ns k < length ns
+unfolding segmentBehind total
+segment-in [] k h = absurd (omega arith)
+segment-in (m ∷ ns) k h = go (λ j w. segment-in ns j w) (ltb k m) refl
+  where
+    go : ((j : ℕ) → j < total ns → segmentBehind ns j < length ns) → (t : Bool) → ltb k m ≡ t → cond t 0 (suc (segmentBehind ns (k - m))) < suc (length ns)
+    go more true e = omega arith
+    go more false e = let w = ltb-false k m e in let ih = more (k - m) (omega arith) in omega arith
+
+-- position j of segment i, both from 0
+pub segment-there : (ns : List ℕ) (i j : ℕ) → j < getD ns i 0 → segmentBehind ns (total (take i ns) + j) ≡ i
+unfolding segmentBehind total
+segment-there [] i j h = absurd (omega arith)
+segment-there (n ∷ ns) zero j h = rw (lt-ltb (0 + j) n (omega arith))
+segment-there (n ∷ ns) (suc i) j h =
+    let e : n + total (take i ns) + j - n ≡ total (take i ns) + j = omega arith in
+    rw (le-ltb (n + total (take i ns) + j) n (omega arith), e, segment-there ns i j h)
+
+-- ---- every show entry follows its segment's golden, with show entries of that segment between
+
+-- e gives the entry at each position: q holds the golden of segment i, and show entries of that segment stand between q and p
+pub record Since (e : ℕ → Entry) (i q p : ℕ) : Type 0 where
+  pub below : q < p
+  pub golden : e q ≡ entry i Golden
+  pub shows : (r : ℕ) → q < r → r < p → e r ≡ entry i Show
+
+module _ (e : ℕ → Entry) where
+  since-golden : (i p : ℕ) → e p ≡ entry i Golden → Since e i p (suc p)
+  since-golden i p g = record { below = omega arith; golden = g; shows = λ r a b. absurd (omega arith) }
+
+  since-show : (i q p : ℕ) → Since e i q p → e p ≡ entry i Show → Since e i q (suc p)
+  since-show i q p s w = record { below = omega (arith, s .below); golden = s .golden; shows = λ r a b. go r a b (ltb r p) refl }
+    where
+      go : (r : ℕ) → q < r → r < suc p → (t : Bool) → ltb r p ≡ t → e r ≡ entry i Show
+      go r a b true t = s .shows r a (ltb-true r p t)
+      go r a b false t = let u = ltb-false r p t in let v : r ≡ p = omega arith in rw v w
+
+  -- what is known of the golden, where a show entry may come next at position p
+  abbrev Known : Option Entry → ℕ → Type 0
+  Known b p = (i : ℕ) → Behind b i Show → (q : ℕ) × Since e i q p
+
+  known-none : (p : ℕ) → Known none p
+  known-none p i (inl b) = let z : _≡_ {A = ℕ} 0 1 = cc in absurd (omega arith)
+  known-none p i (inr b) = let z : _≡_ {A = ℕ} 0 1 = cc in absurd (omega arith)
+
+  known-next : (x : Entry) (p : ℕ) (b : Option Entry) → e p ≡ x → Known b p → Behind b (x .segment) (x .kind) → Known (some x) (suc p)
+  known-next x p b at kn f i (inl g) = let v : x ≡ entry i Golden = cc in (p, since-golden i p (at ∙ v))
+  known-next x p b at kn f i (inr g) =
+      let v : x ≡ entry i Show = cc in
+      let (q, s) = kn i (subst (λ (y : Entry). Behind b (y .segment) (y .kind)) v f) in
+      (q, since-show i q p s (at ∙ v))
+
+  led-from : (xs : List Entry) (p : ℕ) (b : Option Entry) → fits b xs → ((k : ℕ) → k < length xs → e (p + k) ≡ getD xs k first)
+      → Known b p → (k : ℕ) → k < length xs → (e (p + k)) .kind ≡ Show → (q : ℕ) × Since e ((e (p + k)) .segment) q (p + k)
+  unfolding fits
+  led-from [] p b f at kn k h w = absurd (omega arith)
+  led-from (x ∷ xs) p b f at kn zero h w =
+      let n : p + 0 ≡ p = omega arith in
+      let a : e p ≡ x = ap e (omega arith) ∙ at 0 (omega arith) in
+      let v : x .kind ≡ Show = ap (λ (y : Entry). y .kind) (sym a) ∙ (rw n at w) in
+      rw (n, a) (kn (x .segment) (subst (λ (k : Kind). Behind b (x .segment) k) v (f .0)))
+  led-from (x ∷ xs) p b f at kn (suc k) h w =
+      let a : e p ≡ x = ap e (omega arith) ∙ at 0 (omega arith) in
+      let n : p + suc k ≡ suc p + k = omega arith in
+      rw n (led-from xs (suc p) (some x) (f .1) (λ j b. ap e (omega arith) ∙ at (suc j) (omega arith)) (known-next x p b a kn (f .0)) k (omega arith) (rw n at w))
+
+  -- the first entry stands at p
+  pub show-led : (xs : List Entry) (p : ℕ) → fits none xs → ((k : ℕ) → k < length xs → e (p + k) ≡ getD xs k first)
+      → (k : ℕ) → k < length xs → (e (p + k)) .kind ≡ Show → (q : ℕ) × Since e ((e (p + k)) .segment) q (p + k)
+  show-led xs p f at = led-from xs p none f at (known-none p)
