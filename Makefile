@@ -1,13 +1,10 @@
 # The gate and the programs. All need the Rattle kit (the command rt); the C program needs gcc.
 .PHONY: test run check
 
-# From nothing: every proof, every must-fail edit, every program against its recorded output; then the C program against
-# the exported functions, and boardplay on document 01's list.
+# The gate: from nothing, every proof, every must-fail edit, every program against its recorded output, then the C program
+# against the exported functions and boardplay's text.
 test:
 	.ci/run
-	tests/run
-	rt check boardplay
-	tests/run-boardplay
 
 # What changed since the last check.
 check:
