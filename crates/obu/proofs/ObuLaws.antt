@@ -149,18 +149,23 @@ pub obus-unit : {os : List Obu} → Every Allowed os → obus (unitBytes os) ≡
 unfolding obusOf unitBytes
 obus-unit hs = many-all headObu obuBytes (obu-shrinks passes) (every hs)
 
--- OBUs in front of an answer
-abbrev pub infront : List Obu → Answer (List Obu) → Answer (List Obu)
-infront os (refused k) = refused k
-infront os (accepted l) = accepted (os ++ l)
+module _ {A : Type 0} where
+  -- things in front of an answer
+  abbrev pub infront : List A → Answer (List A) → Answer (List A)
+  infront front (refused k) = refused k
+  infront front (accepted l) = accepted (front ++ l)
 
-infront-onto : (o : Obu) (os : List Obu) (x : Answer (List Obu)) → onto o (infront os x) ≡ infront (o ∷ os) x
-infront-onto o os (refused k) = refl
-infront-onto o os (accepted l) = refl
+  infront-onto : (a : A) (l : List A) (x : Answer (List A)) → onto a (infront l x) ≡ infront (a ∷ l) x
+  infront-onto a l (refused k) = refl
+  infront-onto a l (accepted m) = refl
 
-pub infront-nil : (x : Answer (List Obu)) → x ≡ infront [] x
-infront-nil (refused k) = refl
-infront-nil (accepted l) = refl
+  pub infront-next : (l : List A) (a : A) (x : Answer (List A)) → infront l (onto a x) ≡ infront (l ++ (a ∷ [])) x
+  infront-next l a (refused k) = refl
+  infront-next l a (accepted m) = ap accepted (sym (append-assoc l (a ∷ []) m))
+
+  pub infront-nil : (x : Answer (List A)) → x ≡ infront [] x
+  infront-nil (refused k) = refl
+  infront-nil (accepted l) = refl
 
 -- behind written OBUs reading goes on as if they were not there
 pub obus-behind : {os : List Obu} → Every Allowed os → (b : List ℕ) → obus (unitBytes os ++ b) ≡ infront os (obus b)

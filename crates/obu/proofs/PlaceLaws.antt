@@ -22,7 +22,8 @@ use Rattle.obu.proofs.reader.ObuAt.{the-type}
 use Rattle.obu.specs.declared.reader.ObuAt.{ObuAt}
 use Rattle.obu.specs.declared.reader.ObuAt.the-variants.{Found, End, Refused}
 use Rattle.obu.specs.Place.{Place, nothing, wrong, placed, placeOf, obuPlace, refusalOf, obuSays, part}
-use Rattle.obu.proofs.ObuLaws.{is-obu, obus-item, obus-stop, obus-nil, infront, infront-nil}
+use Rattle.obu.specs.Write.{obu as obuOf}
+use Rattle.obu.proofs.ObuLaws.{is-obu, obus-item, obus-stop, obus-nil, infront, infront-next, infront-nil}
 
 -- ---- the outcomes of a body: the header byte h and the extension e are read, and the rest starts at p
 
@@ -156,7 +157,7 @@ module _ (s : List ℕ) (at : ℕ) where
   pub is-placed : {t : ℕ} {e : Option ℕ} {a b : ℕ} → obuPlace s at ≡ placed t e a b → IsPlaced s at t e a b
   is-placed q = rw q at place-says
 
-  is-wrong : (k : ℕ) → obuPlace s at ≡ wrong k → (at < length s) × (headObu (drop at s) ≡ stop k)
+  pub is-wrong : (k : ℕ) → obuPlace s at ≡ wrong k → (at < length s) × (headObu (drop at s) ≡ stop k)
   is-wrong k q = rw q at place-says
 
   pub is-end : obuPlace s at ≡ nothing → length s ≤ at
@@ -172,15 +173,11 @@ pub record Walked (s : List ℕ) (at : ℕ) (front : List Obu) : Type 0 where
 pub walk-start : (s : List ℕ) → Walked s 0 []
 walk-start s = record { whole = infront-nil (obus s); within = omega arith }
 
-infront-onto : (front : List Obu) (o : Obu) (x : Answer (List Obu)) → infront front (onto o x) ≡ infront (front ++ (o ∷ [])) x
-infront-onto front o (refused k) = refl
-infront-onto front o (accepted l) = ap accepted (sym (append-assoc front (o ∷ []) l))
-
 module _ {s : List ℕ} {at : ℕ} {front : List Obu} (w : Walked s at front) where
   pub walk-next : {o : Obu} {a b : ℕ} → Placed s at o a b → Walked s b (front ++ (o ∷ []))
   walk-next {o} {a} {b} p =
       record {
-        whole = w .whole ∙ ap (infront front) (obus-item (drop at s) o (drop b s) (p .head)) ∙ infront-onto front o (obus (drop b s));
+        whole = w .whole ∙ ap (infront front) (obus-item (drop at s) o (drop b s) (p .head)) ∙ infront-next front o (obus (drop b s));
         within = p .within;
       }
 
@@ -213,3 +210,9 @@ part-none s = rw (le-leb 0 (length s) (omega arith))
 pub part-placed : {s : List ℕ} {at : ℕ} {o : Obu} {a b : ℕ} → Placed s at o a b → part s a b ≡ o .payload
 unfolding part
 part-placed {s} {at} {o} {a} {b} p = rw (le-leb a b (p .ends), le-leb b (length s) (p .within)) (p .payload)
+
+-- an OBU as its place says
+pub placed-obu : {s : List ℕ} {at t a b : ℕ} {e : Option ℕ} (g : IsPlaced s at t e a b) → obuOf t e (part s a b) ≡ g .obu
+placed-obu {s} {at} {t} {a} {b} {e} g =
+    ap (λ x. obuOf x e (part s a b)) (sym (g .type)) ∙ ap (λ x. obuOf (g .obu .type) x (part s a b)) (sym (g .ext))
+    ∙ ap (λ x. obuOf (g .obu .type) (g .obu .ext) x) (part-placed (g .placed))

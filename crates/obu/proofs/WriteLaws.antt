@@ -11,6 +11,7 @@ use lib.Seq.{take-all}
 use Rattle.bitio.specs.Parse.{accepted, refused}
 use Rattle.bitio.specs.Lent.{pasted, placed, lent}
 use Rattle.bitio.specs.Leb.{lebBytes, framed}
+use Rattle.bitio.proofs.LebLaws.{bytes-mono}
 use Rattle.bitio.proofs.LentLaws.{pasted-more, pasted-one, pasted-set, placed-room, lent-room, placed-full, lent-full}
 use Rattle.obu.specs.declared.reader.Extension.{Extension}
 use Rattle.obu.specs.declared.reader.Extension.the-variants.{Absent, Byte}
@@ -24,13 +25,13 @@ ext-length Absent = omega arith
 ext-length (Byte x) = omega arith
 
 -- a header byte alone, and with an extension byte
-pub header-plain : (d : List ℕ) (at t : ℕ) → at < length d → set d at (t * 8 + 2) ≡ pasted d at (header 2 t none)
-header-plain d at t l = let e : t * 8 + 2 ≡ 8 * t + 0 + 2 = omega arith in rw e (pasted-one d at (8 * t + 0 + 2) l)
+pub header-plain : (d : List ℕ) (at t f : ℕ) → at < length d → set d at (t * 8 + f) ≡ pasted d at (header f t none)
+header-plain d at t f l = let e : t * 8 + f ≡ 8 * t + 0 + f = omega arith in rw e (pasted-one d at (8 * t + 0 + f) l)
 
-pub header-ext : (d : List ℕ) (at t e : ℕ) → at + 1 < length d → set (set d at (t * 8 + 6)) (at + 1) e ≡ pasted d at (header 2 t (some e))
-header-ext d at t e l =
-    let q : t * 8 + 6 ≡ 8 * t + 4 + 2 = omega arith in
-    let h = 8 * t + 4 + 2 in
+pub header-ext : (d : List ℕ) (at t f e : ℕ) → at + 1 < length d → set (set d at (t * 8 + 4 + f)) (at + 1) e ≡ pasted d at (header f t (some e))
+header-ext d at t f e l =
+    let q : t * 8 + 4 + f ≡ 8 * t + 4 + f = omega arith in
+    let h = 8 * t + 4 + f in
     rw (q, pasted-one d at h (omega arith)) (pasted-set d at (h ∷ []) e l)
 
 -- what a copy of all of s into a part as long holds
@@ -57,6 +58,14 @@ obu-pasted d at t e p {a} {b} {c} {i} {j} h ea ei r eb ej ec =
     let k : i + length lb ≡ at + length (hd ++ lb) = omega arith in
     let ob : b ≡ pasted d at (hd ++ lb) = eb ∙ ap₂ (λ x y. pasted x y lb) ea (ei ∙ m) ∙ pasted-more d at hd h lb in
     ec ∙ ap₂ (λ x y. pasted x y p) ob (ej ∙ k) ∙ pasted-more d at (hd ++ lb) h p ∙ ap (pasted d at) (append-assoc hd lb p)
+
+-- where a size n and m bytes have room, so have a lesser size v, and the m bytes behind it
+module _ (p m l v n : ℕ) (h : v ≤ n) (r : p + length (lebBytes n) + m ≤ l) where
+  pub size-room : p + length (lebBytes v) ≤ l
+  size-room = omega (arith, bytes-mono h)
+
+  pub behind-room : (q : ℕ) → q ≡ p + length (lebBytes v) → q + m ≤ l
+  behind-room q e = omega (arith, bytes-mono h)
 
 -- ---- the outcomes of writing an OBU
 

@@ -1,10 +1,16 @@
 -- Questions on the OBUs of a unit. Assumes nothing.
-use Prim.Native.Nat.{ℕ, zero, suc}
+use Prim.Native.Nat.{ℕ, zero, suc, _-_}
 use mathlib.Core.List.{List, [], _∷_}
+use mathlib.Core.Option.{Option, none, some}
 use mathlib.Core.Bool.{Bool, true, false, cond as pick, _||_}
+use lib.ListN.{length}
 use lib.Dec.{eqb}
-use Rattle.bitio.specs.Parse.{Answer, refused, accepted, answer}
-use Rattle.obu.specs.Obu.{Obu, obus}
+use Rattle.bitio.specs.Parse.{Answer, refused, accepted, answer, Head, stop, item, many}
+use Rattle.obu.specs.Obu.{Obu, headObu, obus}
+use Rattle.obu.specs.Place.{extensionSays, part}
+use Rattle.obu.specs.Write.{obu as obuOf}
+use Rattle.obu.specs.declared.reader.ObuAt.{ObuAt}
+use Rattle.obu.specs.declared.reader.ObuAt.the-variants.{Found, End, Refused as Wrong}
 use Rattle.obu.specs.declared.unit.Kind.{Kind}
 use Rattle.obu.specs.declared.unit.Kind.the-variants.{Any, SequenceHeader, TemporalDelimiter, Frame}
 use Rattle.obu.specs.declared.unit.Counted.{Counted}
@@ -38,6 +44,43 @@ firstPayload p (o ∷ os) = pick (p o) (o .payload) (firstPayload p os)
 unfoldable pub lastPayload : (Obu → Bool) → List Obu → List ℕ
 lastPayload p [] = []
 lastPayload p (o ∷ os) = pick (has p os) (lastPayload p os) (pick (p o) (o .payload) [])
+
+-- an OBU of a unit: its payload lies from start to end
+pub record Located : Type 0 where
+  pub obu : Obu
+  pub start : ℕ
+  pub end : ℕ
+
+-- the OBU at the head, in a unit of n bytes
+abbrev pub located : ℕ → Head Obu → Head Located
+located n (stop k) = stop k
+located n (item o r) = item (record { obu = o; start = n - length r - length (o .payload); end = n - length r }) r
+
+unfoldable pub locatedObus : List ℕ → Answer (List Located)
+locatedObus s = many (λ l. located (length s) (headObu l)) s
+
+abbrev pub orElse : {A : Type 0} → Option A → Option A → Option A
+orElse none y = y
+orElse (some a) y = some a
+
+-- the first that p holds of, or the last
+unfoldable pub sought : {A : Type 0} → Bool → (A → Bool) → List A → Option A
+sought last p [] = none
+sought last p (a ∷ l) =
+    pick last (orElse (sought last p l) (pick (p a) (some a) none)) (orElse (pick (p a) (some a) none) (sought last p l))
+
+-- 01's number, or what was found in s, for each case of ObuAt
+abbrev pub foundSays : List ℕ → ObuAt → Answer (Option Located)
+foundSays s (Found o) =
+    accepted (some (record { obu = obuOf (o .«obu_type») (extensionSays (o .extension)) (part s (o .start) (o .end)); start = o .start; end = o .end }))
+foundSays s End = accepted none
+foundSays s (Wrong k) = refused k
+
+-- the payload of what was found, or none
+abbrev pub payloadFound : Answer (Option Located) → List ℕ
+payloadFound (refused k) = []
+payloadFound (accepted none) = []
+payloadFound (accepted (some l)) = l .obu .payload
 
 -- whether a delimiter stands anywhere but first
 abbrev pub strayIn : List Obu → Bool

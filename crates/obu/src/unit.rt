@@ -1,11 +1,10 @@
 // A whole unit, read through to its end or its first refusal: what upper layers ask of it.
 ghost use mathlib.Core.Path.{_≡_};
-ghost use mathlib.Core.Bool.{false, cond as pick};
+ghost use mathlib.Core.Bool.{false};
 ghost use mathlib.Core.List.{[]};
 ghost use Rattle.bitio.specs.Parse.{answer};
 ghost use Rattle.obu.specs.Obu.{obus};
-ghost use Rattle.obu.specs.Place.{part};
-ghost use Rattle.obu.specs.Unit.{isType, isKind, count, firstPayload, lastPayload, strayIn, ofUnit, countedSays};
+ghost use Rattle.obu.specs.Unit.{isType, isKind, count, firstPayload, lastPayload, locatedObus, sought, foundSays, payloadFound, strayIn, ofUnit, countedSays};
 use crate::reader::ObuAt;
 use crate::reader::obu_at;
 use crate::reader::payload;
@@ -23,11 +22,6 @@ pub enum Counted {
     Count(usize),
     // document 01's number, 1 to 5
     Refused(u32),
-}
-
-struct Span {
-    start: usize,
-    end: usize,
 }
 
 // Whether an OBU of type t is of that kind.
@@ -61,43 +55,51 @@ pub fn count_obus(s: &[u8], k: Kind) -> Counted
     Counted::Count(n)
 }
 
-// Where the payload of the first or the last OBU of a kind lies.
-fn find(s: &[u8], k: Kind, last: bool) -> Span
-    ensures { λ r. ⌜ part (now (s .entry)) (r .start) (r .end) ≡ ofUnit [] (λ os. pick last (lastPayload (isKind k) os) (firstPayload (isKind k) os)) (obus (now (s .entry))) ⌝ }
+// The first OBU of a kind, or the last, with where it lies; `End` where the unit has none.
+pub fn find_obu(s: &[u8], k: Kind, last: bool) -> ObuAt
+    ensures { λ r. ⌜ foundSays (now (s .entry)) r ≡ answer (sought last (λ o. isKind k (o .obu))) (locatedObus (now (s .entry))) ⌝ }
 {
     let mut at: usize = 0;
     let mut seen = false;
-    let mut start: usize = 0;
-    let mut end: usize = 0;
+    let mut kept = ObuAt::End;
     while at < s.len() {
-        let ObuAt::Found(o) = obu_at(s, at) else {
-            return Span { start: 0, end: 0 };
+        let found = obu_at(s, at);
+        let ObuAt::Found(o) = found else {
+            return found;
         };
         let is = is_type(k, o.obu_type);
         if (last | !seen) & is {
-            start = o.start;
-            end = o.end;
+            kept = found;
         }
         seen = seen | is;
         at = o.end;
     }
-    Span { start, end }
+    kept
+}
+
+// The payload of what was found, as a part of the unit; the empty part where that is none or a refusal.
+fn payload_of(s: &[u8], found: ObuAt) -> &[u8]
+    ensures { λ r. ⌜ now r ≡ payloadFound (foundSays (now (s .entry)) found) ⌝ }
+{
+    match found {
+        ObuAt::Found(o) => payload(s, o.start, o.end),
+        ObuAt::End => payload(s, 0, 0),
+        ObuAt::Refused(_) => payload(s, 0, 0),
+    }
 }
 
 // The payload of the first OBU of a kind, as a part of the unit; the empty part where there is none or the unit is refused.
 pub fn first_payload(s: &[u8], k: Kind) -> &[u8]
     ensures { λ r. ⌜ now r ≡ ofUnit [] (firstPayload (isKind k)) (obus (now (s .entry))) ⌝ }
 {
-    let span = find(s, k, false);
-    payload(s, span.start, span.end)
+    payload_of(s, find_obu(s, k, false))
 }
 
 // The same of the last.
 pub fn last_payload(s: &[u8], k: Kind) -> &[u8]
     ensures { λ r. ⌜ now r ≡ ofUnit [] (lastPayload (isKind k)) (obus (now (s .entry))) ⌝ }
 {
-    let span = find(s, k, true);
-    payload(s, span.start, span.end)
+    payload_of(s, find_obu(s, k, true))
 }
 
 // Whether a delimiter stands anywhere but first; a refused unit has none.

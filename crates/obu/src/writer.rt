@@ -10,6 +10,7 @@ ghost use Rattle.obu.specs.Place.{extensionSays};
 ghost use Rattle.obu.specs.Write.{obuLength, obu, obuPlaced, obuLent, obuPutSays};
 use crate::reader::Extension;
 use crate::reader::is_known_type;
+use bitio::numbers::plus;
 
 pub enum ObuPut {
     // the place behind what was written
@@ -41,11 +42,7 @@ fn head_len(extension: Extension, size: usize) -> usize
 pub fn obu_len(extension: Extension, size: usize) -> usize
     ensures { λ r. ⌜ r ≡ min (obuLength (extensionSays extension) size) (2 ^ 64 - 1) ⌝ }
 {
-    let head = head_len(extension, size);
-    if 0xffff_ffff_ffff_ffff - head < size {
-        return 0xffff_ffff_ffff_ffff;
-    }
-    head + size
+    plus(head_len(extension, size), size)
 }
 
 // Copies all of src to `at`, where its room is known: the hot path of every writer, for crates that have measured.
@@ -58,18 +55,25 @@ pub fn put_bytes(out: &mut [u8], at: usize, src: &[u8]) -> usize
     end
 }
 
-// The header byte and the extension, where their room is known.
-fn put_header(out: &mut [u8], at: usize, obu_type: u8, extension: Extension) -> usize
-    requires { ⌜ («obu_type» < 16) × (at + (1 + length (extBytes (extensionSays extension))) ≤ length (now out)) ⌝ }
-    ensures { λ r. ⌜ (r ≡ at + (1 + length (extBytes (extensionSays extension)))) × (now (out .exit) ≡ pasted (now (out .entry)) at (header 2 «obu_type» (extensionSays extension))) ⌝ }
+// The header byte, its size flag 2 if a size follows and else 0, and the extension, where their room is known: for crates
+// that have measured.
+pub fn put_header(
+    out: &mut [u8],
+    at: usize,
+    obu_type: u8,
+    extension: Extension,
+    size_flag: u8,
+) -> usize
+    requires { ⌜ («obu_type» < 16) × («size_flag» < 4) × (at + (1 + length (extBytes (extensionSays extension))) ≤ length (now out)) ⌝ }
+    ensures { λ r. ⌜ (r ≡ at + (1 + length (extBytes (extensionSays extension)))) × (now (out .exit) ≡ pasted (now (out .entry)) at (header «size_flag» «obu_type» (extensionSays extension))) ⌝ }
 {
     match extension {
         Extension::Absent => {
-            out[at] = obu_type * 8 + 2;
+            out[at] = obu_type * 8 + size_flag;
             at + 1
         }
         Extension::Byte(e) => {
-            out[at] = obu_type * 8 + 6;
+            out[at] = obu_type * 8 + 4 + size_flag;
             let next = at + 1;
             out[next] = e;
             next + 1
@@ -88,7 +92,7 @@ pub fn put_measured(
     requires { ⌜ (passes «obu_type» ≡ true) × (at + obuLength (extensionSays extension) (length (now payload)) ≤ length (now out)) ⌝ }
     ensures { λ r. ⌜ (r ≡ at + obuLength (extensionSays extension) (length (now (payload .entry)))) × (now (out .exit) ≡ pasted (now (out .entry)) at (obuBytes (obu «obu_type» (extensionSays extension) (now (payload .entry))))) ⌝ }
 {
-    let p = put_header(out, at, obu_type, extension);
+    let p = put_header(out, at, obu_type, extension, 2);
     let q = bitio::leb128::put_leb128(out, p, payload.len() as u64);
     put_bytes(out, q, payload)
 }

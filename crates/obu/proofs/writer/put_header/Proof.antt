@@ -15,7 +15,7 @@ room : (c : tie.After-known-told) → c .before .before .before .args .at + 1 < 
 room c =
     let b = c .before .before .before in
     let h : length (extBytes (extensionSays (b .args .extension))) ≡ 1 = ap (λ x. length (extBytes (extensionSays x))) (c .before .extension .given .1) in
-    omega (arith, b .pre .1)
+    omega (arith, b .pre .2)
 
 enum-told : tie.Need-enum-told
 enum-told c = search needs
@@ -41,6 +41,9 @@ mul-out-2 c = search needs
 add-out-2 : tie.Need-add-out-2
 add-out-2 c = search needs
 
+add-out-3 : tie.Need-add-out-3
+add-out-3 c = search needs
+
 slice-write-out-2 : tie.Need-slice-write-out-2
 slice-write-out-2 c = search needs
 
@@ -60,7 +63,7 @@ returns : tie.Need-returns
 returns c =
     let a = c .before .before .args in
     let e = c .enum-told .given .1 in
-    rw e (omega arith, header-plain (now (a .out)) (a .at) (a .«obu-type») (omega (arith, c .before .before .pre .1)))
+    rw e (omega arith, header-plain (now (a .out)) (a .at) (a .«obu-type») (a .«size-flag») (omega (arith, c .before .before .pre .2)))
 
 same-length-2 : tie.Need-same-length-2
 same-length-2 c = search needs
@@ -69,7 +72,7 @@ returns-2 : tie.Need-returns-2
 returns-2 c =
     let a = c .before .before .before .args in
     let e = c .before .extension .given .1 in
-    rw e (omega arith, header-ext (now (a .out)) (a .at) (a .«obu-type») _ (room c))
+    rw e (omega arith, header-ext (now (a .out)) (a .at) (a .«obu-type») (a .«size-flag») _ (room c))
 
 pub put-header-spec : {M : Type 1} → statement M
 put-header-spec =
@@ -83,6 +86,7 @@ put-header-spec =
     enum-known-extension
     mul-out-2
     add-out-2
+    add-out-3
     slice-write-out-2
     add-next
     slice-write-out-3
