@@ -1,3 +1,4 @@
+pub mod LimitedLaws
 pub mod ReadLaws
 pub mod PointLaws
 pub mod WithinLaws
