@@ -34,7 +34,7 @@ fn points_refusal(x: PointsAnswer) -> u64
     }
 }
 
-fn no_sequence(k: u64) -> SequenceRead
+pub(crate) fn no_sequence(k: u64) -> SequenceRead
     ensures { λ r. ⌜ r ≡ sequenceRead (refused k) ⌝ }
 {
     let list = read_points::no_points();
