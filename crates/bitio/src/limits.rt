@@ -1,2 +1,2 @@
-// The most bytes that any operation takes or gives.
+// The most bytes that an operation takes, else 34, or gives, else 35.
 pub const LIMIT: usize = 4_000_000_000;

@@ -21,6 +21,7 @@ use Rattle.header.specs.Fields.{readFlag, readOr, flagOr, uvlcOr}
 use Rattle.header.specs.SequenceOpening.{timingInfo, decoderModelInfo, opening}
 use Rattle.header.specs.SequencePoints.{operatingPoint, operatingPoints}
 use Rattle.header.specs.SequenceCoding.{frameSize, frameIds, codingTools, screenTools, filters, colorDescription, colorSampling, coding}
+use Rattle.header.specs.Limited.{limited}
 use Rattle.header.specs.Sequence.{Sequence, sequenceHeader, parseSequence}
 use Rattle.header.specs.Timed.{retimed, withTiming, timed}
 use Rattle.emittable.specs.PutFields.{put, putOr, putFlag, putFlagOr, putUvlcOr, fits, fitsOr, flagFitsOr, uvlcFitsOr}
@@ -86,7 +87,7 @@ after (accepted a) f = f a
 -- a sequence header's payload timed and emitted
 abbrev timedPayload : ℕ → ℕ → List ℕ → Answer (List (List ℕ))
 timedPayload num den s =
-    after (parseSequence s) (λ q.
+    after (limited s (parseSequence s)) (λ q.
     after (timed num den (q .header)) (λ h.
     answer (λ bs. bs ∷ []) (emitted (record { header = h; points = q .points }))))
 
@@ -96,7 +97,7 @@ numbers (Existing slot) = 1 ∷ slot ∷ []
 numbers (Frame f) = 0 ∷ f .«frame_type» ∷ boolByte (f .«show_frame») ∷ boolByte (f .«showable_frame») ∷ f .«refresh_frame_flags» ∷ f .«order_hint» ∷ []
 
 abbrev frame : List ℕ → List ℕ → Answer (List (List ℕ))
-frame s f = answer (λ x. numbers x ∷ []) (parseFrameFrom s f)
+frame s f = answer (λ x. numbers x ∷ []) (limited f (limited s (parseFrameFrom s f)))
 
 -- the sequence header of 01's unit K
 abbrev payloadK : List ℕ
@@ -149,5 +150,5 @@ rows =
     ∷ []
 
 pub cases : check rows ≡ true
-unfolding check many manyF readLeb lebRead lebBytes lebWrite sized framed passes headObuOf obusOf obuBytes unitBytes flatMap isType count cut group others join behind joined units streamUnits flat streamBytes innerObu lengthObu frameUnit temporalUnit annexbUnits annexbUnit annexbBytes read write bitAt bitsAt bitsWithin readBits leadingZeros uvlcSuffix uvlc bitsOf halvings uvlcZeros readFlag readOr flagOr uvlcOr timingInfo decoderModelInfo opening operatingPoint operatingPoints frameSize frameIds codingTools screenTools filters colorDescription colorSampling coding sequenceHeader parseSequence retimed withTiming timed put putOr putFlag putFlagOr putUvlcOr fits fitsOr flagFitsOr uvlcFitsOr putTiming putModel putOpening putPoint putPoints putSize putIds putTools putScreen putFilters putColor putSampling putCoding putSequence timingFits modelFits openingFits pointFits pointsFit sizeFits idsFit toolsFit screenFits colorFits samplingFits codingFits emittable ofBits packN pack trailed sequenceBytes emitted showExisting frameStart orderHint removalTimes bufferRemoval frameInfo frameBits frameHeader parseFrameFrom parseFrame andNext has lastPayload part support blocks layout positions total segmentAt segmentsFrom segmentsOf firstOf sent firstFrame lowest prepare andAlso inSegment overall noneEmpty sizes readHeader sameBytes sameHeaders prepareAll endsFrom fitsRoom assembled assemble
+unfolding check many manyF readLeb lebRead lebBytes lebWrite sized framed passes headObuOf obusOf obuBytes unitBytes flatMap isType count cut group others join behind joined units streamUnits flat streamBytes innerObu lengthObu frameUnit temporalUnit annexbUnits annexbUnit annexbBytes read write bitAt bitsAt bitsWithin readBits leadingZeros uvlcSuffix uvlc bitsOf halvings uvlcZeros readFlag readOr flagOr uvlcOr timingInfo decoderModelInfo opening operatingPoint operatingPoints frameSize frameIds codingTools screenTools filters colorDescription colorSampling coding sequenceHeader parseSequence limited retimed withTiming timed put putOr putFlag putFlagOr putUvlcOr fits fitsOr flagFitsOr uvlcFitsOr putTiming putModel putOpening putPoint putPoints putSize putIds putTools putScreen putFilters putColor putSampling putCoding putSequence timingFits modelFits openingFits pointFits pointsFit sizeFits idsFit toolsFit screenFits colorFits samplingFits codingFits emittable ofBits packN pack trailed sequenceBytes emitted showExisting frameStart orderHint removalTimes bufferRemoval frameInfo frameBits frameHeader parseFrameFrom parseFrame andNext has lastPayload part support blocks layout positions total segmentAt segmentsFrom segmentsOf firstOf sent firstFrame lowest prepare andAlso inSegment overall noneEmpty sizes readHeader sameBytes sameHeaders prepareAll endsFrom fitsRoom assembled assemble
 cases = refl

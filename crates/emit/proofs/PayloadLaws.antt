@@ -1,21 +1,20 @@
 -- A payload that was written field by field is the one that the fields have. Assumes nothing.
-use mathlib.Core.Path.{_≡_, refl, sym, ap, _∙_}
+use mathlib.Core.Path.{_≡_, refl, sym, ap, ap₂, _∙_}
 use Prim.Native.Nat.{ℕ, _+_, _*_, _-_, _/_, _%_, _^_, _≤_, _<_}
 use native.Mathlib.Omega.{arith}
 use native.Mathlib.Decide.{decLt}
-use native.Mathlib.Numerals.{add-one}
 use mathlib.Core.List.{List, [], _++_, append-nil, append-assoc}
 use mathlib.Core.Bool.{Bool, true, false, not}
 use lib.Dec.{leb, eqb}
-use lib.ListN.{length, getD, take, drop, set, length-take, take-append-drop, List·getD-eq-default}
-use lib.Seq.{getD-take, length-take-le, take-at, paste, paste-suc}
+use lib.ListN.{length, getD, take, drop, length-take, take-append-drop, List·getD-eq-default}
+use lib.Seq.{getD-take, getD-drop, length-take-le, take-at, drop-at}
 use borrow.Author.Tests.{ltb-true, eqb-true}
 use Rattle.bitio.specs.Parse.{refused, accepted}
 use Rattle.bitio.specs.Bits.{Bytes}
 use Rattle.bitio.specs.Lent.{pasted}
 use Rattle.bitio.specs.Write.{bitsOf, unpack, trailingWidth, trailingBits}
 use Rattle.bitio.proofs.LentLaws.{placed-room, placed-full, lent-room, lent-full}
-use Rattle.bitio.proofs.UnpackLaws.{length-unpack, unpack-append}
+use Rattle.bitio.proofs.UnpackLaws.{length-unpack, unpack-append, unpack-same}
 use Rattle.emittable.specs.PutFields.{put, flagFitsOr, uvlcFitsOr}
 use Rattle.emittable.specs.PutSequence.{putOpening, putPoints, putCoding, putSequence}
 use Rattle.header.specs.SequencePoints.{delayBits, pointCount}
@@ -81,27 +80,37 @@ widths q g =
 
 -- ---- the payload
 
--- the bits of the first n bytes
-take-unpack : (n : ℕ) (s : List ℕ) → n ≤ length s → take (8 * n) (unpack s) ≡ unpack (take n s)
-take-unpack n s h =
-    let e = length-unpack (take n s) in
-    let t = length-take-le n s h in
-    ap (λ x. take (8 * n) (unpack x)) (sym (take-append-drop n s)) ∙ ap (take (8 * n)) (unpack-append (take n s) (drop n s))
-    ∙ take-at (unpack (take n s)) (unpack (drop n s)) (8 * n) (omega arith)
+-- the bits of the first n bytes, and of the others
+module _ (n : ℕ) (s : List ℕ) (h : n ≤ length s) where
+  split : unpack s ≡ unpack (take n s) ++ unpack (drop n s)
+  split = ap unpack (sym (take-append-drop n s)) ∙ unpack-append (take n s) (drop n s)
 
--- the first n of bytes are bytes
-take-bytes : (n : ℕ) (s : List ℕ) → Bytes s → Bytes (take n s)
-take-bytes n s b i =
-    elim (decLt i n) [
-      | yes l ↦ rw (getD-take n s i 0 l) (b i)
-      | no l ↦
-          let t = length-take n s in
-          let e : getD (take n s) i 0 ≡ 0 = List·getD-eq-default (take n s) 0 (omega arith) in
-          omega arith
-    ]
+  eight : length (unpack (take n s)) ≡ 8 * n
+  eight = let t = length-take-le n s h in length-unpack (take n s) ∙ omega arith
+
+  take-unpack : take (8 * n) (unpack s) ≡ unpack (take n s)
+  take-unpack = ap (take (8 * n)) split ∙ take-at (unpack (take n s)) (unpack (drop n s)) (8 * n) eight
+
+  drop-unpack : drop (8 * n) (unpack s) ≡ unpack (drop n s)
+  drop-unpack = ap (drop (8 * n)) split ∙ drop-at (unpack (take n s)) (unpack (drop n s)) (8 * n) eight
+
+-- the first n of bytes are bytes, and the others
+module _ (n : ℕ) (s : List ℕ) (b : Bytes s) where
+  take-bytes : Bytes (take n s)
+  take-bytes i =
+      elim (decLt i n) [
+        | yes l ↦ rw (getD-take n s i 0 l) (b i)
+        | no l ↦
+            let t = length-take n s in
+            let e : getD (take n s) i 0 ≡ 0 = List·getD-eq-default (take n s) 0 (omega arith) in
+            omega arith
+      ]
+
+  drop-bytes : Bytes (drop n s)
+  drop-bytes i = rw (getD-drop n s i 0) (b (n + i))
 
 module _ (q : Sequence) {d e f : List ℕ} {p r : ℕ} (room : 400 ≤ length d) (a : Wrote d 0 e p 3141 (putSequence q))
-    (b : Wrote e p f r 8 (put (trailingWidth p) (trailingBits p))) (small : Bytes f) where
+    (b : Wrote e p f r 8 (put (trailingWidth p) (trailingBits p))) (was : Bytes d) (is : Bytes f) where
   fields-bits : take p (unpack e) ≡ putSequence q []
   fields-bits = sym (append-nil (take p (unpack e))) ∙ a .adds []
 
@@ -123,36 +132,43 @@ module _ (q : Sequence) {d e f : List ℕ} {p r : ℕ} (room : 400 ≤ length d)
       sym (length-take-le r (unpack f) (omega (arith, a .near, a .len, b .near, b .len))) ∙ ap length all-bits ∙ length-trailed (putSequence q [])
       ∙ ap (λ j. j + (8 - j % 8)) fields-length
 
-  -- the payload lies within, in whole bytes
-  pub payload-within : r / 8 ≤ length f
-  payload-within = omega (arith, a .near, a .len, b .near, b .len)
+  -- in whole bytes
+  whole : r ≡ 8 * (r / 8)
+  whole = let n = all-length in omega arith
 
-  -- and is the one that the fields have
-  pub payload-written : take (r / 8) f ≡ sequenceBytes q
+  within : r / 8 ≤ length f
+  within = omega (arith, a .near, a .len, b .near, b .len)
+
+  front : take (r / 8) f ≡ sequenceBytes q
   unfolding sequenceBytes
+  front =
+      sym (pack-unpack (take (r / 8) f) (take-bytes (r / 8) f is))
+      ∙ ap pack (sym (take-unpack (r / 8) f within) ∙ ap (λ j. take j (unpack f)) (sym whole) ∙ all-bits)
+
+  behind : drop (r / 8) f ≡ drop (r / 8) d
+  behind =
+      let n : length f ≡ length d = b .len ∙ a .len in
+      unpack-same (drop (r / 8) f) (drop (r / 8) d) (drop-bytes (r / 8) f is) (drop-bytes (r / 8) d was)
+      (sym (drop-unpack (r / 8) f within) ∙ rw whole at (wrote-then a b .rest) ∙ drop-unpack (r / 8) d (omega (arith, within)))
+
+  -- the payload that the fields have was put at the start, and nothing else
+  pub payload-written : (r / 8 ≡ length (sequenceBytes q)) × (f ≡ pasted d 0 (sequenceBytes q))
+  unfolding pasted
   payload-written =
-      let w : r ≡ 8 * (r / 8) = let n = all-length in omega arith in
-      sym (pack-unpack (take (r / 8) f) (take-bytes (r / 8) f small))
-      ∙ ap pack (sym (take-unpack (r / 8) f payload-within) ∙ ap (λ j. take j (unpack f)) (sym w) ∙ all-bits)
+      let n : r / 8 ≡ length (sequenceBytes q) = sym (length-take-le (r / 8) f within) ∙ ap length front in
+      let z : r / 8 ≡ 0 + length (sequenceBytes q) = omega arith in
+      (n, sym (take-append-drop (r / 8) f) ∙ ap₂ _++_ front behind ∙ ap (λ j. sequenceBytes q ++ drop j d) z)
+
+-- and is found there
+pub payload-part : (z xs : List ℕ) {s : List ℕ} {n : ℕ} → n ≡ length xs → s ≡ pasted z 0 xs → take (n - 0) s ≡ xs
+unfolding pasted
+payload-part z xs {n = n} e p = ap (take (n - 0)) p ∙ take-at xs (drop (0 + length xs) z) (n - 0) (omega arith)
 
 -- the sections, one after the other
 pub sections : (q : Sequence) {d e f g : List ℕ} {p₁ p₂ p₃ : ℕ} → Wrote d 0 e p₁ 190 (putOpening (q .header .opening)) → Wrote e p₁ f p₂ 2848 (putPoints (q .header .opening) (q .points))
     → Wrote f p₂ g p₃ 103 (putCoding (q .header .opening .«seq_profile») (not (q .header .opening .«reduced_still_picture_header»)) (q .header .coding)) → Wrote d 0 g p₃ 3141 (putSequence q)
 unfolding putSequence
 sections q a b c = wrote-as 3141 (omega arith) (λ l. refl) (wrote-then (wrote-then a b) c)
-
--- ---- a copy
-
--- one byte more
-pub copy-turn : (d : List ℕ) (w : ℕ) (s : List ℕ) (i : ℕ) {o : List ℕ} → w + i < length d → i < length s → o ≡ paste d w s i → set o (w + i) (getD s i 0) ≡ paste d w s (i + 1)
-copy-turn d w s i h k e = rw (e, add-one i) (paste-suc d w s i 0 h k)
-
--- all of them
-pub copy-done : (d : List ℕ) (w : ℕ) (s : List ℕ) (i n : ℕ) {o : List ℕ} → i ≡ n → n ≤ length s → o ≡ paste d w s i → o ≡ pasted d w (take n s)
-unfolding pasted
-copy-done d w s i n e h q =
-    let l = length-take-le n s h in
-    q ∙ ap (paste d w s) e ∙ append-assoc (take w d) (take n s) (drop (w + n) d) ∙ ap (λ j. take w d ++ (take n s ++ drop (w + j) d)) (sym l)
 
 -- ---- the answer
 
@@ -167,30 +183,23 @@ module _ (d : List ℕ) (w : ℕ) (q : Sequence) where
     unfolding emitLent
     unreadable-lent = rw no
 
-  module _ (yes : emittable q ≡ true) (s : List ℕ) (n : ℕ) (fits : n ≤ length s) (is : take n s ≡ sequenceBytes q) where
-    payload-size : length (sequenceBytes q) ≡ n
-    payload-size = sym (ap length is) ∙ length-take-le n s fits
-
+  module _ (yes : emittable q ≡ true) {n : ℕ} (e : n ≡ length (sequenceBytes q)) where
     -- no room
     module _ (full : length d < w + n) where
       pub full-says : refused 35 ≡ emitPlaced d w q
       unfolding emitPlaced
-      full-says = let e = payload-size in rw yes (sym (placed-full d w (sequenceBytes q) (omega arith)))
+      full-says = rw yes (sym (placed-full d w (sequenceBytes q) (omega arith)))
 
       pub full-lent : d ≡ emitLent d w q
       unfolding emitLent
-      full-lent = let e = payload-size in rw yes (sym (lent-full d w (sequenceBytes q) (omega arith)))
+      full-lent = rw yes (sym (lent-full d w (sequenceBytes q) (omega arith)))
 
     -- written
-    module _ (room : w + n ≤ length d) where
-      pub next-says : accepted (w + n) ≡ emitPlaced d w q
+    module _ (room : w + n ≤ length d) {s : List ℕ} (is : s ≡ sequenceBytes q) where
+      pub next-says : {r : ℕ} → r ≡ w + length s → accepted r ≡ emitPlaced d w q
       unfolding emitPlaced
-      next-says =
-          let e = payload-size in
-          rw yes (ap (λ j. accepted (w + j)) (sym e) ∙ sym (placed-room d w (sequenceBytes q) (omega arith)))
+      next-says t = rw yes (ap (λ j. accepted j) t ∙ ap (λ x. accepted (w + length x)) is ∙ sym (placed-room d w (sequenceBytes q) (omega arith)))
 
-      pub next-lent : {o : List ℕ} → o ≡ pasted d w (take n s) → o ≡ emitLent d w q
+      pub next-lent : {o : List ℕ} → o ≡ pasted d w s → o ≡ emitLent d w q
       unfolding emitLent
-      next-lent t =
-          let e = payload-size in
-          rw yes (t ∙ ap (pasted d w) is ∙ sym (lent-room d w (sequenceBytes q) (omega arith)))
+      next-lent t = rw yes (t ∙ ap (pasted d w) is ∙ sym (lent-room d w (sequenceBytes q) (omega arith)))

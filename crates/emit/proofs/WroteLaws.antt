@@ -1,17 +1,17 @@
 -- Laws of bits written one field after the other. Assumes nothing.
-use mathlib.Core.Path.{_≡_, refl, sym, ap, _∙_}
-use Prim.Native.Nat.{ℕ, _+_, _*_, _≤_, _<_}
+use mathlib.Core.Path.{_≡_, refl, sym, ap, ap₂, _∙_}
+use Prim.Native.Nat.{ℕ, _+_, _*_, _-_, _≤_, _<_}
 use native.Mathlib.Omega.{arith}
 use mathlib.Core.List.{List, [], _∷_, _++_, append-assoc}
 use mathlib.Core.Bool.{Bool, true, false}
 use native.Mathlib.Numerals.{add-one}
-use lib.ListN.{length, getD, take}
-use lib.Seq.{take-suc}
+use lib.ListN.{length, getD, take, drop}
+use lib.Seq.{take-suc, drop-drop}
 use Rattle.bitio.specs.Parse.{refused, accepted}
 use Rattle.bitio.specs.Bits.{bitsIn}
 use Rattle.bitio.specs.Lent.{pasted}
 use Rattle.bitio.specs.Write.{bitsOf, unpack, putBits, bitsPlaced, bitsLent, uvlcWidth, trailingWidth, trailingBits}
-use Rattle.bitio.proofs.LentLaws.{pasted-take-end}
+use Rattle.bitio.proofs.LentLaws.{pasted-take-end, pasted-drop}
 use Rattle.bitio.proofs.UnpackLaws.{length-bits, length-unpack}
 use Rattle.bitio.proofs.UvlcFormLaws.{uvlc-most}
 use Rattle.bitio.proofs.WriteLaws.{put-length, unpack-put, placed-there, lent-there}
@@ -23,15 +23,29 @@ use Rattle.header.specs.declared.seq_header.OperatingPoint.{OperatingPoint}
 
 -- nothing
 pub wrote-none : (d : List ℕ) (p n : ℕ) → Wrote d p d p n (λ l. l)
-wrote-none d p n = record { len = refl; near = omega arith; adds = λ l. refl }
+wrote-none d p n = record { len = refl; on = omega arith; near = omega arith; adds = λ l. refl; rest = refl }
+
+-- what is the same from q on is the same from r on
+later : (x y : List ℕ) {q r : ℕ} → q ≤ r → drop q x ≡ drop q y → drop r x ≡ drop r y
+later x y {q} {r} h e =
+    let k : q + (r - q) ≡ r = omega arith in
+    ap (λ j. drop j x) (sym k) ∙ sym (drop-drop (r - q) q x) ∙ ap (drop (r - q)) e ∙ drop-drop (r - q) q y ∙ ap (λ j. drop j y) k
 
 -- one field after the other
 pub wrote-then : {d e g : List ℕ} {p q r a b : ℕ} {f h : List ℕ → List ℕ} → Wrote d p e q a f → Wrote e q g r b h → Wrote d p g r (a + b) (λ l. f (h l))
-wrote-then {h = h} x y = record { len = y .len ∙ x .len; near = omega (arith, x .near, y .near); adds = λ l. y .adds l ∙ x .adds (h l) }
+wrote-then {d} {e} {h = h} x y =
+    record {
+      len = y .len ∙ x .len;
+      on = omega (arith, x .on, y .on);
+      near = omega (arith, x .near, y .near);
+      adds = λ l. y .adds l ∙ x .adds (h l);
+      rest = y .rest ∙ later (unpack e) (unpack d) (y .on) (x .rest);
+    }
 
 -- as many bits or more, said another way
 pub wrote-as : {d e : List ℕ} {p q a : ℕ} (b : ℕ) {f g : List ℕ → List ℕ} → a ≤ b → ((l : List ℕ) → f l ≡ g l) → Wrote d p e q a f → Wrote d p e q b g
-wrote-as {d} {p = p} b h e x = record { len = x .len; near = omega (arith, x .near); adds = λ l. x .adds l ∙ ap (λ y. take p (unpack d) ++ y) (e l) }
+wrote-as {d} {p = p} b h e x =
+    record { len = x .len; on = x .on; near = omega (arith, x .near); adds = λ l. x .adds l ∙ ap (λ y. take p (unpack d) ++ y) (e l); rest = x .rest }
 
 -- what was written so far, its ends and its bits left for antt to find
 abbrev pub Run : Type 0
@@ -53,11 +67,16 @@ module _ (d : List ℕ) (p n : ℕ) (room : p + n ≤ bitsIn (length d)) where
       let w : e ≡ putBits d p v n = t ∙ lent-there d p v n room in
       let k = length-bits n v in
       let u = length-unpack d in
-      let b : take q (unpack e) ≡ take p (unpack d) ++ bitsOf n v =
-      ap (λ x. take q (unpack x)) w ∙ ap (take q) (unpack-put d p v n (omega arith))
-      ∙ ap (λ j. take j (pasted (unpack d) p (bitsOf n v))) (at ∙ ap (λ j. p + j) (sym k))
-      ∙ pasted-take-end (unpack d) p (bitsOf n v) (omega arith) in
-      record { len = ap length w ∙ put-length d p v n; near = omega arith; adds = λ l. ap (λ x. x ++ l) b ∙ append-assoc (take p (unpack d)) (bitsOf n v) l }
+      let x : unpack e ≡ pasted (unpack d) p (bitsOf n v) = ap unpack w ∙ unpack-put d p v n (omega arith) in
+      let j : q ≡ p + length (bitsOf n v) = at ∙ ap (λ j. p + j) (sym k) in
+      let b : take q (unpack e) ≡ take p (unpack d) ++ bitsOf n v = ap₂ take j x ∙ pasted-take-end (unpack d) p (bitsOf n v) (omega arith) in
+      record {
+        len = ap length w ∙ put-length d p v n;
+        on = omega arith;
+        near = omega arith;
+        adds = λ l. ap (λ x. x ++ l) b ∙ append-assoc (take p (unpack d)) (bitsOf n v) l;
+        rest = ap₂ drop j x ∙ pasted-drop (unpack d) p (bitsOf n v) (omega arith) ∙ ap (λ j. drop j (unpack d)) (sym j);
+      }
 
 -- a uvlc
 module _ (d : List ℕ) (p v : ℕ) (room : p + 65 ≤ bitsIn (length d)) where

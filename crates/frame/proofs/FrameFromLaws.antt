@@ -3,12 +3,15 @@ use Prim.Native.Nat.{ℕ, _-_}
 use native.Mathlib.Omega.{arith}
 use mathlib.Core.Path.{_≡_, refl, sym, ap, _∙_}
 use mathlib.Core.List.{List}
-use mathlib.Core.Bool.{not}
+use mathlib.Core.Bool.{Bool, true, false, not, cond as pick}
+use lib.Dec.{ltb}
 use lib.ListN.{length, take, replicate}
 use lib.Seq.{take-append-seam}
+use Rattle.bitio.specs.Limits.{limit}
 use Rattle.bitio.specs.Parse.{Answer, refused, accepted}
 use Rattle.bitio.specs.Bits.{Reading, fails, reads, andThen}
 use Rattle.header.specs.Fields.{answerOf}
+use Rattle.header.specs.Limited.{limited}
 use Rattle.header.specs.SequenceRules.{Rules, ours}
 use Rattle.header.specs.SequenceOpening.{opening}
 use Rattle.header.specs.SequencePoints.{operatingPoints, pointCount, padded, noPoint}
@@ -18,28 +21,31 @@ use Rattle.frame.specs.Frame.{readFrame, parseFrame, parseFrameFrom}
 use Rattle.header.specs.declared.seq_header.SequenceHeader.{SequenceHeader}
 use Rattle.header.specs.declared.seq_header.SequenceAnswer.the-variants.{Header, Refused}
 use Rattle.header.specs.declared.seq_header.SequenceRead.{SequenceRead}
+use Rattle.header.proofs.LimitedLaws.{limited-read}
 use Rattle.header.proofs.ReadLaws.{Holds, then-holds, then-any}
 use Rattle.header.proofs.PointLaws.{points-count}
 use Rattle.frame.proofs.FrameLaws.{answered}
 
 module _ (s f : List ℕ) where
   -- the sequence header reads as q: the frame is read under q
-  pub from-read : (q : Sequence) → parseSequence s ≡ accepted q → parseFrameFrom s f ≡ parseFrame q f
-  unfolding parseSequence parseFrame parseFrameFrom
-  from-read q e = go (readSequence s) e
+  pub from-read : (q : Sequence) → limited s (parseSequence s) ≡ accepted q → limited s (parseFrameFrom s f) ≡ parseFrame q f
+  unfolding limited parseSequence parseFrame parseFrameFrom
+  from-read q e = go (ltb limit (length s)) (readSequence s) e
     where
-      go : (x : Reading Sequence) → answerOf x ≡ accepted q → answerOf (andThen x (λ q p. readFrame q f)) ≡ answerOf (readFrame q f)
-      go (fails k) e = let z : _≡_ {A = ℕ} 0 1 = cc in absurd (omega arith)
-      go (reads r p) e = let i : r ≡ q = cc in ap (λ y. answerOf (readFrame y f)) i
+      go : (t : Bool) (x : Reading Sequence) → pick t (refused 34) (answerOf x) ≡ accepted q → pick t (refused 34) (answerOf (andThen x (λ q p. readFrame q f))) ≡ answerOf (readFrame q f)
+      go true x e = let z : _≡_ {A = ℕ} 0 1 = cc in absurd (omega arith)
+      go false (fails k) e = let z : _≡_ {A = ℕ} 0 1 = cc in absurd (omega arith)
+      go false (reads r p) e = let i : r ≡ q = cc in ap (λ y. answerOf (readFrame y f)) i
 
   -- the sequence header is refused: so is the frame
-  pub from-refused : (k : ℕ) → parseSequence s ≡ refused k → parseFrameFrom s f ≡ refused k
-  unfolding parseSequence parseFrameFrom
-  from-refused k e = go (readSequence s) e
+  pub from-refused : (k : ℕ) → limited s (parseSequence s) ≡ refused k → limited s (parseFrameFrom s f) ≡ refused k
+  unfolding limited parseSequence parseFrameFrom
+  from-refused k e = go (ltb limit (length s)) (readSequence s) e
     where
-      go : (x : Reading Sequence) → answerOf x ≡ refused k → answerOf (andThen x (λ q p. readFrame q f)) ≡ refused k
-      go (fails j) e = let i : j ≡ k = cc in ap (λ y. refused y) i
-      go (reads r p) e = let z : _≡_ {A = ℕ} 0 1 = cc in absurd (omega arith)
+      go : (t : Bool) (x : Reading Sequence) → pick t (refused 34) (answerOf x) ≡ refused k → pick t (refused 34) (answerOf (andThen x (λ q p. readFrame q f))) ≡ refused k
+      go true x e = let i : 34 ≡ k = cc in ap (λ y. refused y) i
+      go false (fails j) e = let i : j ≡ k = cc in ap (λ y. refused y) i
+      go false (reads r p) e = let z : _≡_ {A = ℕ} 0 1 = cc in absurd (omega arith)
 
 -- it has as many operating points as it says
 abbrev pub Counted : Sequence → Type 0
@@ -68,10 +74,10 @@ read-whole s q e = array-whole q (answered Counted (readSequence s) (sequence-co
 -- what the code answers for a sequence payload, and what a frame payload then reads as
 module _ (s : List ℕ) (r : SequenceRead) (f : List ℕ) where
   -- a header: the frame is read under it and the array beside it
-  pub beside-read : (h : SequenceHeader) → r ≡ sequenceRead (parseSequence s) → r .answer ≡ Header h → parseFrame (sequenceOf h (r .«operating_points»)) f ≡ parseFrameFrom s f
-  beside-read h = go (parseSequence s) refl
+  pub beside-read : (h : SequenceHeader) → r ≡ sequenceRead (limited s (parseSequence s)) → r .answer ≡ Header h → parseFrame (sequenceOf h (r .«operating_points»)) f ≡ limited s (parseFrameFrom s f)
+  beside-read h = go (limited s (parseSequence s)) refl
     where
-      go : (x : Answer Sequence) → parseSequence s ≡ x → r ≡ sequenceRead x → r .answer ≡ Header h → parseFrame (sequenceOf h (r .«operating_points»)) f ≡ parseFrameFrom s f
+      go : (x : Answer Sequence) → limited s (parseSequence s) ≡ x → r ≡ sequenceRead x → r .answer ≡ Header h → parseFrame (sequenceOf h (r .«operating_points»)) f ≡ limited s (parseFrameFrom s f)
       go (refused k) e p a = let z : Refused k ≡ Header h = sym (ap (λ y. y .answer) p) ∙ a in let w : _≡_ {A = ℕ} 0 1 = cc in absurd (omega arith)
       go (accepted q) e p a =
           let z : Header (q .header) ≡ Header h = sym (ap (λ y. y .answer) p) ∙ a in
@@ -79,14 +85,14 @@ module _ (s : List ℕ) (r : SequenceRead) (f : List ℕ) where
           let j : r .«operating_points» ≡ padded (q .points) = ap (λ y. y .«operating_points») p in
           ap (λ y. parseFrame (sequenceOf y (r .«operating_points»)) f) i
           ∙ ap (λ y. parseFrame (sequenceOf (q .header) y) f) j
-          ∙ ap (λ y. parseFrame y f) (read-whole s q e)
+          ∙ ap (λ y. parseFrame y f) (read-whole s q (limited-read s (parseSequence s) e))
           ∙ sym (from-read s f q e)
 
   -- a refusal: the same of the frame
-  pub beside-refused : (k : ℕ) → r ≡ sequenceRead (parseSequence s) → r .answer ≡ Refused k → refused k ≡ parseFrameFrom s f
-  beside-refused k = go (parseSequence s) refl
+  pub beside-refused : (k : ℕ) → r ≡ sequenceRead (limited s (parseSequence s)) → r .answer ≡ Refused k → refused k ≡ limited s (parseFrameFrom s f)
+  beside-refused k = go (limited s (parseSequence s)) refl
     where
-      go : (x : Answer Sequence) → parseSequence s ≡ x → r ≡ sequenceRead x → r .answer ≡ Refused k → refused k ≡ parseFrameFrom s f
+      go : (x : Answer Sequence) → limited s (parseSequence s) ≡ x → r ≡ sequenceRead x → r .answer ≡ Refused k → refused k ≡ limited s (parseFrameFrom s f)
       go (refused j) e p a =
           let z : Refused j ≡ Refused k = sym (ap (λ y. y .answer) p) ∙ a in
           let i : k ≡ j = cc in

@@ -136,11 +136,11 @@ readFrame q f = frameHeader modelled f 0 q
 abbrev pub specFrame : ℕ → ℕ → Sequence → List ℕ → Reading FrameHeaderInfo
 specFrame temporal spatial q f = frameHeader (layered temporal spatial) f 0 q
 
--- parse_frame_header_info, under a header that was read
+-- parse_frame_header_info within the limit, under a header that was read
 unfoldable pub parseFrame : Sequence → List ℕ → Answer FrameHeaderInfo
 parseFrame q f = answerOf (readFrame q f)
 
--- parse_frame_header_info, from both payloads: 14 to 16 of the sequence header come first
+-- parse_frame_header_info within the limit, from both payloads: 14 to 16 of the sequence header come first
 unfoldable pub parseFrameFrom : List ℕ → List ℕ → Answer FrameHeaderInfo
 parseFrameFrom s f = answerOf (andThen (readSequence s) (λ q _. readFrame q f))
 

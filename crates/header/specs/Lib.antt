@@ -1,3 +1,4 @@
+pub mod Limited
 pub mod Fields
 pub mod SequenceRules
 pub mod SequenceOpening

@@ -37,7 +37,7 @@ readSequence s = sequenceHeader ours s 0
 abbrev pub specSequence : List ℕ → Reading Sequence
 specSequence s = sequenceHeader (av1 s) s 0
 
--- parse_sequence_header: the fields, or 14 to 16
+-- parse_sequence_header within the limit: the fields, or 14 to 16
 unfoldable pub parseSequence : List ℕ → Answer Sequence
 parseSequence s = answerOf (readSequence s)
 

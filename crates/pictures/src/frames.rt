@@ -12,7 +12,7 @@ use crate::slot::lowest_refreshed_slot;
 use frame::frame_header::FrameAnswer;
 use frame::frame_header::FrameHeaderInfo;
 use frame::frame_header::KEY_FRAME;
-use frame::frame_header::read::frame_header_info;
+use frame::frame_header::read::read_frame_header;
 use header::seq_header::OperatingPoint;
 use header::seq_header::SequenceHeader;
 use obu::unit::Counted;
@@ -36,7 +36,7 @@ pub fn first_frame(unit: &[u8], header: SequenceHeader, points: [OperatingPoint;
             if n == 0 {
                 return FrameAnswer::Refused(28);
             }
-            frame_header_info(header, points, first_payload(unit, Kind::Frame))
+            read_frame_header(header, points, first_payload(unit, Kind::Frame))
         }
     }
 }

@@ -13,7 +13,7 @@ use header::seq_header::SequenceAnswer;
 use header::seq_header::SequenceRead;
 use header::seq_header::Support;
 use header::seq_header::check::check_supported;
-use header::seq_header::read::parse_sequence_header;
+use header::seq_header::read::read_sequence;
 use obu::reader::Obu;
 use obu::reader::ObuAt;
 use obu::reader::obu_at;
@@ -57,7 +57,7 @@ pub fn first_sequence(unit: &[u8]) -> FoundObu
 pub fn read_supported(payload: &[u8]) -> SequenceRead
     ensures { λ r. ⌜ readSays r ≡ readHeader (now (payload .entry)) ⌝ }
 {
-    let read = parse_sequence_header(payload);
+    let read = read_sequence(payload);
     let answer = read.answer;
     let points = read.operating_points;
     match answer {

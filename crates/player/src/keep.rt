@@ -8,7 +8,7 @@ use header::seq_header::SequenceAnswer;
 use header::seq_header::SequenceHeader;
 use header::seq_header::Support;
 use header::seq_header::check::check_supported;
-use header::seq_header::read::parse_sequence_header;
+use header::seq_header::read::read_sequence;
 use obu::reader::ObuAt;
 use obu::reader::obu_at;
 use obu::reader::payload;
@@ -54,7 +54,7 @@ fn obu_refusal(found: ObuAt) -> u64
 fn read_header(kept: Kept, s: &[u8]) -> Keeping
     ensures { λ r. ⌜ r ≡ keeping kept (headerKept (now (s .entry))) ⌝ }
 {
-    let read = parse_sequence_header(s);
+    let read = read_sequence(s);
     let answer = read.answer;
     let points = read.operating_points;
     match answer {

@@ -14,7 +14,7 @@ use crate::slots::Answer;
 use crate::slots::Slot;
 use crate::slots::play_frame;
 use frame::frame_header::FrameAnswer;
-use frame::frame_header::read::frame_header_info;
+use frame::frame_header::read::read_frame_header;
 use header::seq_header::OperatingPoint;
 use header::seq_header::SequenceHeader;
 use obu::unit::Counted;
@@ -55,7 +55,7 @@ fn read_frame(header: SequenceHeader, points: [OperatingPoint; 32], unit: &[u8])
             if n > 1 {
                 return FrameAnswer::Refused(39);
             }
-            frame_header_info(header, points, first_payload(unit, Kind::Frame))
+            read_frame_header(header, points, first_payload(unit, Kind::Frame))
         }
     }
 }

@@ -1,8 +1,8 @@
 // A sequence header as a payload in lent memory: measured first, then written.
 ghost use mathlib.Core.Path.{_≡_};
 ghost use mathlib.Core.Bool.{true};
-ghost use Prim.Native.Nat.{_+_, _≤_};
-ghost use lib.ListN.{length, take};
+ghost use Prim.Native.Nat.{_≤_};
+ghost use lib.ListN.{length};
 ghost use Rattle.bitio.specs.Lent.{pasted};
 ghost use Rattle.header.specs.Sequence.{sequenceOf};
 ghost use Rattle.emittable.specs.Emittable.{emittable};
@@ -16,11 +16,12 @@ use emittable::seq_header::emit_fits::is_emittable;
 use header::seq_header::Emitted;
 use header::seq_header::OperatingPoint;
 use header::seq_header::SequenceHeader;
+use obu::writer::put_bytes;
 
 // Writes the payload at the start of out, which holds every one, and returns its length.
 fn put_sequence(h: SequenceHeader, points: [OperatingPoint; 32], out: &mut [u8]) -> usize
     requires { ⌜ (emittable (sequenceOf h points) ≡ true) × (400 ≤ length (now out)) ⌝ }
-    ensures { λ r. ⌜ (r ≤ length (now (out .exit))) × (take r (now (out .exit)) ≡ sequenceBytes (sequenceOf h points)) ⌝ }
+    ensures { λ r. ⌜ (r ≡ length (sequenceBytes (sequenceOf h points))) × (now (out .exit) ≡ pasted (now (out .entry)) 0 (sequenceBytes (sequenceOf h points))) ⌝ }
 {
     let o = h.opening;
     let count = o.operating_points_cnt_minus_1 as usize + 1;
@@ -36,18 +37,6 @@ fn put_sequence(h: SequenceHeader, points: [OperatingPoint; 32], out: &mut [u8])
     );
     let w = put_trailing(w, out);
     w.pos / 8
-}
-
-// Puts the first n bytes of src into out at `at`.
-fn copy_at(out: &mut [u8], at: usize, src: &[u8], n: usize)
-    requires { ⌜ (at + n ≤ length (now out)) × (n ≤ length (now src)) ⌝ }
-    ensures { λ _. ⌜ now (out .exit) ≡ pasted (now (out .entry)) at (take n (now (src .entry))) ⌝ }
-{
-    let mut i: usize = 0;
-    while i < n {
-        out[at + i] = src[i];
-        i += 1;
-    }
 }
 
 // The payload of these fields, put into out at `at`, or nothing if no payload reads as them or it has no room there.
@@ -72,6 +61,5 @@ pub fn emit_sequence_header(
     if len - at < n {
         return Emitted::Full;
     }
-    copy_at(out, at, &payload, n);
-    Emitted::Next(at + n)
+    Emitted::Next(put_bytes(out, at, &payload[0..n]))
 }

@@ -1,6 +1,7 @@
 // Reading a frame header (AV1 5.9.2) up to refresh_frame_flags.
 ghost use mathlib.Core.Path.{_≡_};
 ghost use Rattle.header.specs.Fields.{answerOf};
+ghost use Rattle.header.specs.Limited.{limited};
 ghost use Rattle.header.specs.Sequence.{sequenceOf};
 ghost use Rattle.header.specs.Support.{hasPointInfo};
 ghost use Rattle.frame.specs.Frame.{modelled, showExisting, frameInfo, frameBits, parseFrame, parseFrameFrom, frameSays};
@@ -11,6 +12,7 @@ use crate::frame_header::FrameInfo;
 use crate::frame_header::sections;
 use crate::frame_header::sections::RemovalAt;
 use crate::frame_header::sections::StartAt;
+use bitio::limits::LIMIT;
 use bitio::reader::BitReader;
 use bitio::reader::Bits;
 use header::fields;
@@ -99,8 +101,8 @@ fn frame_bits(
     frame_info(b, s, header, points)
 }
 
-// parse_frame_header_info under a header that was read, for callers that read many frames under one.
-pub fn frame_header_info(
+// A frame header under a sequence header that was read. For crates that read the frames of a unit within the limit.
+pub fn read_frame_header(
     header: SequenceHeader,
     points: [OperatingPoint; 32],
     payload: &[u8],
@@ -116,10 +118,27 @@ pub fn frame_header_info(
     frame_bits(BitReader { pos: 0 }, payload, header, points)
 }
 
-// parse_frame_header_info from both payloads, the frame's and the sequence header's.
-pub fn parse_frame_header_info(payload: &[u8], sequence: &[u8]) -> FrameAnswer
-    ensures { λ r. ⌜ frameSays r ≡ parseFrameFrom (now (sequence .entry)) (now (payload .entry)) ⌝ }
+// parse_frame_header_info under a header that was read, for callers that read many frames under one; 34 leads.
+pub fn frame_header_info(
+    header: SequenceHeader,
+    points: [OperatingPoint; 32],
+    payload: &[u8],
+) -> FrameAnswer
+    ensures { λ r. ⌜ frameSays r ≡ limited (now (payload .entry)) (parseFrame (sequenceOf header points) (now (payload .entry))) ⌝ }
 {
+    if payload.len() > LIMIT {
+        return FrameAnswer::Refused(34);
+    }
+    read_frame_header(header, points, payload)
+}
+
+// parse_frame_header_info from both payloads, the frame's and the sequence header's: 34 of either leads.
+pub fn parse_frame_header_info(payload: &[u8], sequence: &[u8]) -> FrameAnswer
+    ensures { λ r. ⌜ frameSays r ≡ limited (now (payload .entry)) (limited (now (sequence .entry)) (parseFrameFrom (now (sequence .entry)) (now (payload .entry)))) ⌝ }
+{
+    if payload.len() > LIMIT {
+        return FrameAnswer::Refused(34);
+    }
     let read = seq_header::read::parse_sequence_header(sequence);
     let answer = read.answer;
     let points = read.operating_points;

@@ -1,6 +1,7 @@
 // Reading a sequence header's payload (AV1 5.5).
 ghost use mathlib.Core.Path.{_≡_};
 ghost use Rattle.bitio.specs.Parse.{refused};
+ghost use Rattle.header.specs.Limited.{limited};
 ghost use Rattle.header.specs.Sequence.{parseSequence, sequenceRead};
 ghost use Rattle.header.specs.ReadSays.{refusalOf, openingSays, pointsRefusal};
 use crate::seq_header::SequenceAnswer;
@@ -12,6 +13,7 @@ use crate::seq_header::read_opening;
 use crate::seq_header::read_opening::OpeningAt;
 use crate::seq_header::read_points;
 use crate::seq_header::read_points::PointsAnswer;
+use bitio::limits::LIMIT;
 use bitio::reader::BitReader;
 
 fn opening_refusal(x: OpeningAt) -> u64
@@ -32,7 +34,7 @@ fn points_refusal(x: PointsAnswer) -> u64
     }
 }
 
-fn no_sequence(k: u64) -> SequenceRead
+pub(crate) fn no_sequence(k: u64) -> SequenceRead
     ensures { λ r. ⌜ r ≡ sequenceRead (refused k) ⌝ }
 {
     let list = read_points::no_points();
@@ -42,8 +44,9 @@ fn no_sequence(k: u64) -> SequenceRead
     }
 }
 
-// The fields of a payload; bytes behind the last field are not looked at.
-pub fn parse_sequence_header(payload: &[u8]) -> SequenceRead
+// The fields of a payload; bytes behind the last field are not looked at. For crates that read the payloads of a unit
+// within the limit.
+pub fn read_sequence(payload: &[u8]) -> SequenceRead
     ensures { λ r. ⌜ r ≡ sequenceRead (parseSequence (now (payload .entry))) ⌝ }
 {
     let o = read_opening::read_opening(BitReader { pos: 0 }, payload);
@@ -69,4 +72,14 @@ pub fn parse_sequence_header(payload: &[u8]) -> SequenceRead
         answer: SequenceAnswer::Header(header),
         operating_points: list,
     }
+}
+
+// The fields of any bytes; 34 leads.
+pub fn parse_sequence_header(payload: &[u8]) -> SequenceRead
+    ensures { λ r. ⌜ r ≡ sequenceRead (limited (now (payload .entry)) (parseSequence (now (payload .entry)))) ⌝ }
+{
+    if payload.len() > LIMIT {
+        return no_sequence(34);
+    }
+    read_sequence(payload)
 }

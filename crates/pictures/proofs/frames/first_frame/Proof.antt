@@ -27,8 +27,8 @@ returns c =
 first-payload-requires : tie.Need-first-payload-requires
 first-payload-requires c κs = search needs
 
-frame-header-info-requires : tie.Need-frame-header-info-requires
-frame-header-info-requires c κs = search needs
+read-frame-header-requires : tie.Need-read-frame-header-requires
+read-frame-header-requires c κs = search needs
 
 returns-2 : tie.Need-returns-2
 returns-2 c =
@@ -39,7 +39,7 @@ returns-3 : tie.Need-returns-3
 returns-3 c =
     let b = c .before .before in
     let n = b .before .before in
-    c .frame-header-info .ensures
+    c .read-frame-header .ensures
     ∙ frame-some _ _ _ (sym (ap countedSays (n .n .given .1)) ∙ n .before .before .count-obus .ensures) _ (b .if1 .left) (c .before .first-payload .ensures)
 
 pub first-frame-spec : {M : Type 1} → statement M
@@ -52,6 +52,6 @@ first-frame-spec =
     enum-known-n
     returns
     first-payload-requires
-    frame-header-info-requires
+    read-frame-header-requires
     returns-2
     returns-3)

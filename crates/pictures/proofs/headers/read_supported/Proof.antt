@@ -8,8 +8,8 @@ use Rattle.pictures.proofs.HeaderLaws.{read-refused, read-some}
 use Rattle.pictures.proofs.headers.read_supported.Statement.{statement}
 use Rattle.pictures.proofs.headers.read_supported.Tie as tie
 
-parse-sequence-header-requires : tie.Need-parse-sequence-header-requires
-parse-sequence-header-requires c κs = search needs
+read-sequence-requires : tie.Need-read-sequence-requires
+read-sequence-requires c κs = search needs
 
 enum-told : tie.Need-enum-told
 enum-told c = search needs
@@ -27,14 +27,14 @@ enum-told-2 : tie.Need-enum-told-2
 enum-told-2 c = search needs
 
 returns : tie.Need-returns
-returns c = let p = c .before .before .before .parse-sequence-header in read-refused _ (p .result) (p .ensures) _ (c .enum-told .given .1)
+returns c = let p = c .before .before .before .read-sequence in read-refused _ (p .result) (p .ensures) _ (c .enum-told .given .1)
 
 returns-2 : tie.Need-returns-2
 unfolding andNext
 returns-2 c =
     let k = c .before .before .before in
     let a = k .before .before in
-    let p = a .before .before .before .parse-sequence-header in
+    let p = a .before .before .before .read-sequence in
     let e = sym (k .check-supported .ensures) ∙ ap supportSays (c .before .k .given .1) in
     sym (read-some _ (p .result) (p .ensures) _ (a .answer .given .1) ∙ rw e)
 
@@ -43,7 +43,7 @@ unfolding andNext
 returns-3 c =
     let k = c .before .before in
     let a = k .before .before in
-    let p = a .before .before .before .parse-sequence-header in
+    let p = a .before .before .before .read-sequence in
     let e = sym (k .check-supported .ensures) ∙ ap supportSays (c .enum-told2 .given .1) in
     sym (read-some _ (p .result) (p .ensures) _ (a .answer .given .1) ∙ rw e)
 
@@ -51,7 +51,7 @@ pub read-supported-spec : {M : Type 1} → statement M
 read-supported-spec =
     tie.close
     (tie.spec
-    parse-sequence-header-requires
+    read-sequence-requires
     enum-told
     enum-known-answer
     check-supported-requires

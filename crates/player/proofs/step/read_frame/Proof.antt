@@ -31,8 +31,8 @@ returns-2 c =
 first-payload-requires : tie.Need-first-payload-requires
 first-payload-requires c κs = search needs
 
-frame-header-info-requires : tie.Need-frame-header-info-requires
-frame-header-info-requires c κs = search needs
+read-frame-header-requires : tie.Need-read-frame-header-requires
+read-frame-header-requires c κs = search needs
 
 returns-3 : tie.Need-returns-3
 returns-3 c =
@@ -43,7 +43,7 @@ returns-4 : tie.Need-returns-4
 returns-4 c =
     let b = c .before .before in
     let n = b .before .before .before in
-    c .frame-header-info .ensures
+    c .read-frame-header .ensures
     ∙ frame-one _ _ _ (sym (ap countedSays (n .n .given .1)) ∙ n .before .before .count-obus .ensures) _ (b .before .if1 .left) (omega arith) (c .before .first-payload .ensures)
 
 pub read-frame-spec : {M : Type 1} → statement M
@@ -57,6 +57,6 @@ read-frame-spec =
     returns
     returns-2
     first-payload-requires
-    frame-header-info-requires
+    read-frame-header-requires
     returns-3
     returns-4)

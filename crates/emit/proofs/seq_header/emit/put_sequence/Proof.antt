@@ -2,7 +2,7 @@ use borrow.Author.Needs.{needs}
 use native.Mathlib.Omega.{arith}
 use Rattle.emit.proofs.seq_header.emit.put_sequence.Statement.{statement}
 use Rattle.emit.proofs.seq_header.emit.put_sequence.Tie as tie
-use Rattle.emit.proofs.PayloadLaws.{widths, payload-within, payload-written, sections}
+use Rattle.emit.proofs.PayloadLaws.{widths, payload-written, sections}
 
 add-count : tie.Need-add-count
 add-count c =
@@ -39,11 +39,10 @@ same-length c = search needs
 
 returns : tie.Need-returns
 returns c =
-    let p = c .before .before .before .before .before .before .before .before .before .before .before .before .before .before .before .before .before .before .before .before .pre in
+    let k = c .before .before .before .before .before .before .before .before .before .before .before .before .before .before .before .before .before .before .before in
     let a = sections _ (c .before .before .before .before .before .before .before .before .before .before .before .before .before .before .before .before .put-opening .ensures) (c .before .before .before .before .before .before .before .before .before .before .before .before .put-points .ensures) (c .before .before .before .before .before .before .before .put-coding .ensures) in
     let d = c .before .before .before .put-trailing .ensures in
-    let g = c .before .slice-known5 .given in
-    (payload-within _ (p .1) a d (λ i. omega (arith, g i)), payload-written _ (p .1) a d (λ i. omega (arith, g i)))
+    payload-written _ (k .before .pre .1) a d (λ i. omega (arith, k .slice-known .given i)) (λ i. omega (arith, c .before .slice-known5 .given i))
 
 pub put-sequence-spec : {M : Type 1} → statement M
 put-sequence-spec =

@@ -1,36 +1,17 @@
 use borrow.Author.Needs.{needs}
-use mathlib.Core.Path.{refl, sym, _∙_}
-use denote.Ref.{now}
-use Rattle.bitio.specs.Parse.{Answer}
-use Rattle.header.specs.Fields.{answerOf}
-use Rattle.header.specs.Sequence.{sequenceOf}
-use Rattle.frame.specs.Frame.{frameHeader, parseFrame}
-use Rattle.frame.specs.declared.frame_header.FrameHeaderInfo.{FrameHeaderInfo}
-use Rattle.header.proofs.ReadLaws.{Chain}
-use Rattle.frame.proofs.FrameChain.{at-test-in}
+use mathlib.Core.Path.{sym, _∙_}
+use Rattle.header.proofs.LimitedLaws.{over-limit, within-limit}
 use Rattle.frame.proofs.frame_header.read.frame_header_info.Statement.{statement}
 use Rattle.frame.proofs.frame_header.read.frame_header_info.Tie as tie
 
-abbrev s-neither : tie.Else2 → Chain (Answer FrameHeaderInfo)
-unfolding parseFrame frameHeader
-s-neither c =
-    let a = c .before .before .before .args in
-    (parseFrame (sequenceOf (a .header) (a .points)) (now (a .payload)), _, at-test-in answerOf _ _ (at-test-in answerOf _ _ refl (c .before .if1 .left)) (c .if2 .left))
-
 returns : tie.Need-returns
-unfolding parseFrame frameHeader
-returns c = rw (c .if1 .taken)
+returns c = sym (over-limit _ _ (c .if1 .taken))
+
+read-frame-header-requires : tie.Need-read-frame-header-requires
+read-frame-header-requires c κs = search needs
 
 returns-2 : tie.Need-returns-2
-unfolding parseFrame frameHeader
-returns-2 c = rw (c .before .if1 .left, c .if2 .taken)
-
-frame-bits-requires : tie.Need-frame-bits-requires
-frame-bits-requires c κs = search needs
-
-returns-3 : tie.Need-returns-3
-unfolding parseFrame frameHeader
-returns-3 c = c .frame-bits .ensures ∙ sym (s-neither (c .before) .2)
+returns-2 c = c .read-frame-header .ensures ∙ sym (within-limit _ _ (c .before .if1 .left))
 
 pub frame-header-info-spec : {M : Type 1} → statement M
-frame-header-info-spec = tie.close (tie.spec returns returns-2 frame-bits-requires returns-3)
+frame-header-info-spec = tie.close (tie.spec returns read-frame-header-requires returns-2)

@@ -1,5 +1,7 @@
 use borrow.Author.Needs.{needs}
-use mathlib.Core.Path.{_∙_}
+use mathlib.Core.Path.{sym, ap, _∙_}
+use Rattle.header.specs.Limited.{limited}
+use Rattle.header.proofs.LimitedLaws.{over-limit, within-limit}
 use Rattle.frame.proofs.FrameFromLaws.{beside-read, beside-refused}
 use Rattle.frame.proofs.frame_header.read.parse_frame_header_info.Statement.{statement}
 use Rattle.frame.proofs.frame_header.read.parse_frame_header_info.Tie as tie
@@ -17,22 +19,27 @@ enum-known-answer-2 : tie.Need-enum-known-answer-2
 enum-known-answer-2 c = search needs
 
 returns : tie.Need-returns
-returns c =
-    let p = c .before .before .before .before .before .parse-sequence-header in
-    c .frame-header-info .ensures ∙ beside-read _ (p .result) _ _ (p .ensures) (c .before .before .answer .given .1)
+returns c = sym (over-limit _ _ (c .if1 .taken))
 
 returns-2 : tie.Need-returns-2
 returns-2 c =
-    let p = c .before .before .before .before .parse-sequence-header in
-    beside-refused _ (p .result) _ _ (p .ensures) (c .before .answer2 .given .1)
+    let p = c .before .before .before .before .before .parse-sequence-header in
+    c .frame-header-info .ensures ∙ ap (limited _) (beside-read _ (p .result) _ _ (p .ensures) (c .before .before .answer .given .1))
+
+returns-3 : tie.Need-returns-3
+returns-3 c =
+    let k = c .before .before .before .before in
+    let p = k .parse-sequence-header in
+    beside-refused _ (p .result) _ _ (p .ensures) (c .before .answer2 .given .1) ∙ sym (within-limit _ _ (k .before .if1 .left))
 
 pub parse-frame-header-info-spec : {M : Type 1} → statement M
 parse-frame-header-info-spec =
     tie.close
     (tie.spec
+    returns
     parse-sequence-header-requires
     enum-known-answer
     frame-header-info-requires
     enum-known-answer-2
-    returns
-    returns-2)
+    returns-2
+    returns-3)
