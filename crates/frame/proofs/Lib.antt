@@ -5,3 +5,4 @@ pub mod FrameShowLaws
 pub mod FrameTimedLaws
 pub mod FrameSpecLaws
 pub mod FrameFromLaws
+pub mod UnitFrameLaws

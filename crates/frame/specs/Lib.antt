@@ -1,3 +1,4 @@
 pub mod Frame
 pub mod FrameSays
 pub mod RemovalFlag
+pub mod UnitFrame

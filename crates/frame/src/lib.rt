@@ -1,2 +1,3 @@
-// The frame header of AV1, up to refresh_frame_flags, read.
+// The frame header of AV1, up to refresh_frame_flags, read from its payload or from the unit that has it.
 pub mod frame_header;
+pub mod unit_frame;
