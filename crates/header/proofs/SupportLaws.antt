@@ -32,3 +32,16 @@ module _ (s : List ℕ) (r : SequenceRead) (p : r ≡ sequenceRead (parseSequenc
           let z : Header (q .header) ≡ Header h = sym (ap (λ y. y .answer) p) ∙ a in
           let i : q .header ≡ h = cc in
           ap (λ y. andNext (support y) (λ _. accepted q)) i
+
+-- a supported header is the one read
+pub supported-read : (s : List ℕ) (q : Sequence) → supportedSequence s ≡ accepted q → parseSequence s ≡ accepted q
+unfolding supportedSequence andNext
+supported-read s q e = go (parseSequence s) e
+  where
+    two : (p : Sequence) (x : Answer Unit) → andNext x (λ _. accepted p) ≡ accepted q → accepted p ≡ accepted q
+    two p (refused k) e = let z : _≡_ {A = ℕ} 0 1 = cc in absurd (omega arith)
+    two p (accepted u) e = e
+
+    go : (x : Answer Sequence) → andNext x (λ p. andNext (support (p .header)) (λ _. accepted p)) ≡ accepted q → x ≡ accepted q
+    go (refused k) e = let z : _≡_ {A = ℕ} 0 1 = cc in absurd (omega arith)
+    go (accepted p) e = two p (support (p .header)) e

@@ -9,12 +9,13 @@ use Rattle.bitio.specs.Parse.{Answer, refused, accepted, answer, andNext}
 use Rattle.obu.specs.Obu.{Obu, obus}
 use Rattle.obu.specs.Unit.{isKind}
 use Rattle.obu.specs.declared.unit.Kind.the-variants.{SequenceHeader}
-use Rattle.header.specs.Sequence.{Sequence, parseSequence, sequenceRead}
+use Rattle.header.specs.Sequence.{Sequence, sequenceRead}
 use Rattle.header.specs.SequencePoints.{padded}
-use Rattle.header.specs.Support.{support}
+use Rattle.header.specs.Support.{supportedSequence}
 use Rattle.header.specs.declared.seq_header.SequenceHeader.{SequenceHeader as Header′}
 use Rattle.header.specs.declared.seq_header.SequenceAnswer.the-variants.{Header, Refused}
 use Rattle.header.specs.declared.seq_header.SequenceRead.{SequenceRead}
+use Rattle.header.proofs.SupportLaws.{supported-read}
 use Rattle.frame.proofs.FrameFromLaws.{read-whole}
 use Rattle.player.specs.Player.{keepAs, keep}
 use Rattle.player.specs.Code.{keptOf, keptSays, headersSay, keeping, headerKept, keptBehind}
@@ -24,30 +25,29 @@ use Rattle.player.specs.declared.keep.Headers.the-variants.{Read, Refuse
 use Rattle.player.specs.declared.keep.Keeping.{Keeping}
 
 -- what the code answers for a sequence payload, and what is kept then
-module _ (s : List ℕ) (r : SequenceRead) (p : r ≡ sequenceRead (parseSequence s)) where
+module _ (s : List ℕ) (r : SequenceRead) (p : r ≡ sequenceRead (supportedSequence s)) where
   pub header-refused : (k : ℕ) → r .answer ≡ Refused k → refused k ≡ headerKept s
   unfolding headerKept andNext
-  header-refused k a = go (parseSequence s) p
+  header-refused k a = go (supportedSequence s) p
     where
-      go : (x : Answer Sequence) → r ≡ sequenceRead x → refused k ≡ andNext x (λ q. andNext (support (q .header)) (λ _. accepted (keptOf q)))
+      go : (x : Answer Sequence) → r ≡ sequenceRead x → refused k ≡ andNext x (λ q. accepted (keptOf q))
       go (refused j) p =
           let z : Refused j ≡ Refused k = sym (ap (λ y. y .answer) p) ∙ a in
           let i : k ≡ j = cc in
           ap (λ y. refused y) i
       go (accepted q) p = let z : Header (q .header) ≡ Refused k = sym (ap (λ y. y .answer) p) ∙ a in let w : _≡_ {A = ℕ} 0 1 = cc in absurd (omega arith)
 
-  pub header-read : (h : Header′) → r .answer ≡ Header h → headerKept s ≡ andNext (support h) (λ _. accepted (record { last = Keeps h; points = r .«operating_points» }))
+  pub header-read : (h : Header′) → r .answer ≡ Header h → accepted (record { last = Keeps h; points = r .«operating_points» }) ≡ headerKept s
   unfolding headerKept andNext
-  header-read h a = go (parseSequence s) p
+  header-read h a = go (supportedSequence s) p
     where
-      go : (x : Answer Sequence) → r ≡ sequenceRead x
-          → andNext x (λ q. andNext (support (q .header)) (λ _. accepted (keptOf q))) ≡ andNext (support h) (λ _. accepted (record { last = Keeps h; points = r .«operating_points» }))
+      go : (x : Answer Sequence) → r ≡ sequenceRead x → accepted (record { last = Keeps h; points = r .«operating_points» }) ≡ andNext x (λ q. accepted (keptOf q))
       go (refused k) p = let z : Refused k ≡ Header h = sym (ap (λ y. y .answer) p) ∙ a in let w : _≡_ {A = ℕ} 0 1 = cc in absurd (omega arith)
       go (accepted q) p =
           let z : Header (q .header) ≡ Header h = sym (ap (λ y. y .answer) p) ∙ a in
-          let i : q .header ≡ h = cc in
-          let j : padded (q .points) ≡ r .«operating_points» = sym (ap (λ y. y .«operating_points») p) in
-          ap₂ (λ y ps. andNext (support y) (λ _. accepted (record { last = Keeps y; points = ps }))) i j
+          let i : h ≡ q .header = cc in
+          let j : r .«operating_points» ≡ padded (q .points) = ap (λ y. y .«operating_points») p in
+          ap₂ (λ y ps. accepted (record { last = Keeps y; points = ps })) i j
 
 -- ---- one OBU more
 
@@ -60,19 +60,14 @@ module _ (o : Obu) (f : Kept → Answer Kept) (e : (k : Kept) → keepAs keptOf 
   keep-next : (front : List Obu) (k : Kept) → keepAs keptOf k (front ++ (o ∷ [])) ≡ andNext (keepAs keptOf k front) f
   unfolding keepAs andNext
   keep-next [] k = e k
-  keep-next (x ∷ xs) k = go (isKind SequenceHeader x) (parseSequence (x .payload)) (keep-next xs)
+  keep-next (x ∷ xs) k = go (isKind SequenceHeader x) (supportedSequence (x .payload)) (keep-next xs)
     where
-      two : (q : Sequence) (y : Answer Unit) → ((k : Kept) → keepAs keptOf k (xs ++ (o ∷ [])) ≡ andNext (keepAs keptOf k xs) f)
-          → andNext y (λ _. keepAs keptOf (keptOf q) (xs ++ (o ∷ []))) ≡ andNext (andNext y (λ _. keepAs keptOf (keptOf q) xs)) f
-      two q (refused n) ih = refl
-      two q (accepted u) ih = ih (keptOf q)
-
       go : (b : Bool) (a : Answer Sequence) → ((k : Kept) → keepAs keptOf k (xs ++ (o ∷ [])) ≡ andNext (keepAs keptOf k xs) f)
-          → pick b (andNext a (λ q. andNext (support (q .header)) (λ _. keepAs keptOf (keptOf q) (xs ++ (o ∷ []))))) (keepAs keptOf k (xs ++ (o ∷ [])))
-          ≡ andNext (pick b (andNext a (λ q. andNext (support (q .header)) (λ _. keepAs keptOf (keptOf q) xs))) (keepAs keptOf k xs)) f
+          → pick b (andNext a (λ q. keepAs keptOf (keptOf q) (xs ++ (o ∷ [])))) (keepAs keptOf k (xs ++ (o ∷ [])))
+          ≡ andNext (pick b (andNext a (λ q. keepAs keptOf (keptOf q) xs)) (keepAs keptOf k xs)) f
       go false a ih = ih k
       go true (refused n) ih = refl
-      go true (accepted q) ih = two q (support (q .header)) ih
+      go true (accepted q) ih = ih (keptOf q)
 
 module _ (k : Kept) (front : List Obu) (o : Obu) {x : Keeping} (h : x ≡ keeping k (keepAs keptOf k front)) where
   so-far : (a b : Answer Kept) → andNext (headersSay (keeping k a .answer)) (λ _. b) ≡ andNext a (λ _. b)
@@ -103,19 +98,13 @@ module _ (k : Kept) (front : List Obu) (o : Obu) {x : Keeping} (h : x ≡ keepin
 keep-says : (os : List Obu) (k : Kept) → answer keptSays (keepAs keptOf k os) ≡ keep (keptSays k) os
 unfolding keepAs andNext
 keep-says [] k = refl
-keep-says (o ∷ os) k = go (isKind SequenceHeader o) (parseSequence (o .payload)) refl (keep-says os)
+keep-says (o ∷ os) k = go (isKind SequenceHeader o) (supportedSequence (o .payload)) refl (keep-says os)
   where
-    two : (q : Sequence) (y : Answer Unit) → keptSays (keptOf q) ≡ some q → ((k : Kept) → answer keptSays (keepAs keptOf k os) ≡ keep (keptSays k) os)
-        → answer keptSays (andNext y (λ _. keepAs keptOf (keptOf q) os)) ≡ andNext y (λ _. keep (some q) os)
-    two q (refused n) e ih = refl
-    two q (accepted u) e ih = ih (keptOf q) ∙ ap (λ z. keep z os) e
-
-    go : (b : Bool) (a : Answer Sequence) → parseSequence (o .payload) ≡ a → ((k : Kept) → answer keptSays (keepAs keptOf k os) ≡ keep (keptSays k) os)
-        → answer keptSays (pick b (andNext a (λ q. andNext (support (q .header)) (λ _. keepAs keptOf (keptOf q) os))) (keepAs keptOf k os))
-        ≡ pick b (andNext a (λ q. andNext (support (q .header)) (λ _. keep (some q) os))) (keep (keptSays k) os)
+    go : (b : Bool) (a : Answer Sequence) → supportedSequence (o .payload) ≡ a → ((k : Kept) → answer keptSays (keepAs keptOf k os) ≡ keep (keptSays k) os)
+        → answer keptSays (pick b (andNext a (λ q. keepAs keptOf (keptOf q) os)) (keepAs keptOf k os)) ≡ pick b (andNext a (λ q. keep (some q) os)) (keep (keptSays k) os)
     go false a i ih = ih k
     go true (refused n) i ih = refl
-    go true (accepted q) i ih = two q (support (q .header)) (ap (λ y. some y) (read-whole (o .payload) q i)) ih
+    go true (accepted q) i ih = ih (keptOf q) ∙ ap (λ z. keep z os) (ap (λ y. some y) (read-whole (o .payload) q (supported-read (o .payload) q i)))
 
 module _ (k : Kept) (u : List ℕ) where
   abbrev kept : Answer Kept

@@ -1,4 +1,4 @@
--- Laws of a unit played in the code: its only frame, and what is left. Assumes nothing.
+-- Laws of a unit played in the code: what is left. Assumes nothing.
 use Prim.Native.Nat.{ℕ, _≤_, _<_}
 use native.Mathlib.Omega.{arith}
 use mathlib.Core.Path.{_≡_, refl, sym, ap, _∙_}
@@ -7,17 +7,16 @@ use mathlib.Core.Bool.{Bool, true, false, cond as pick}
 use mathlib.Core.Option.{Option, none, some}
 use lib.ListN.{length}
 use lib.Dec.{ltb}
-use borrow.Author.Tests.{lt-ltb, le-ltb, ne-eqb}
-use Rattle.bitio.specs.Parse.{Answer, refused, accepted, answer, andNext}
+use borrow.Author.Tests.{lt-ltb, le-ltb}
+use Rattle.bitio.specs.Parse.{Answer, refused, accepted, andNext}
 use Rattle.bitio.specs.Limits.{limit}
 use Rattle.obu.specs.Obu.{Obu, obus}
-use Rattle.obu.specs.Unit.{isKind, count, firstPayload, ofUnit}
-use Rattle.obu.specs.declared.unit.Kind.the-variants.{Frame as FrameObu}
 use Rattle.header.specs.Sequence.{Sequence, sequenceOf}
 use Rattle.frame.specs.Frame.{parseFrame}
+use Rattle.frame.specs.UnitFrame.{framePayload, unitFrame}
 use Rattle.frame.specs.declared.frame_header.FrameHeaderInfo.{FrameHeaderInfo}
 use Rattle.header.specs.declared.seq_header.SequenceHeader.{SequenceHeader}
-use Rattle.player.specs.Player.{Shown, keep, known, soleFrame, unitFrame, act, State, start, Played, play, leaves}
+use Rattle.player.specs.Player.{Shown, keep, known, act, State, start, Played, play, leaves}
 use Rattle.player.specs.Code.{shows, actedOn, keptSays, keptBehind, stateSays, startState, playedOn, playedBy, leftIn, leftBy, playKept}
 use Rattle.player.specs.declared.slots.Slot.{Slot}
 use Rattle.player.specs.declared.keep.Last.the-variants.{Nothing as NoHeader, Header}
@@ -26,45 +25,6 @@ use Rattle.player.specs.declared.keep.Headers.the-variants.{Read, Refuse
 use Rattle.player.specs.declared.keep.Keeping.{Keeping}
 use Rattle.player.specs.declared.step.State.{State as CodeState}
 use Rattle.player.proofs.KeepLaws.{behind-refused, behind-read, behind-kept}
-
--- ---- the only frame, where the frames are counted
-
-module _ (q : Sequence) (u : List ℕ) where
-  abbrev counted : Answer (List Obu) → Answer ℕ
-  counted x = answer (count (isKind FrameObu)) x
-
-  pub frame-refused : (k : ℕ) → refused k ≡ counted (obus u) → refused k ≡ unitFrame q u
-  unfolding unitFrame andNext
-  frame-refused k e = go (obus u) e
-    where
-      go : (x : Answer (List Obu)) → refused k ≡ counted x → refused k ≡ andNext x (λ os. andNext (soleFrame os) (λ f. parseFrame q f))
-      go (refused j) e = let i : k ≡ j = cc in ap (λ y. refused y) i
-      go (accepted os) e = let z : _≡_ {A = ℕ} 0 1 = cc in absurd (omega arith)
-
-  module _ (n : ℕ) (e : accepted n ≡ counted (obus u)) where
-    pub frame-none : n ≡ 0 → refused 28 ≡ unitFrame q u
-    unfolding unitFrame andNext soleFrame
-    frame-none h = go (obus u) e
-      where
-        go : (x : Answer (List Obu)) → accepted n ≡ counted x → refused 28 ≡ andNext x (λ os. andNext (soleFrame os) (λ f. parseFrame q f))
-        go (refused j) e = let z : _≡_ {A = ℕ} 0 1 = cc in absurd (omega arith)
-        go (accepted os) e = let i : count (isKind FrameObu) os ≡ n = cc in rw (i, h)
-
-    pub frame-many : 1 < n → refused 39 ≡ unitFrame q u
-    unfolding unitFrame andNext soleFrame
-    frame-many h = go (obus u) e
-      where
-        go : (x : Answer (List Obu)) → accepted n ≡ counted x → refused 39 ≡ andNext x (λ os. andNext (soleFrame os) (λ f. parseFrame q f))
-        go (refused j) e = let z : _≡_ {A = ℕ} 0 1 = cc in absurd (omega arith)
-        go (accepted os) e = let i : count (isKind FrameObu) os ≡ n = cc in rw (i, ne-eqb n 0 (λ z. omega arith), lt-ltb 1 n h)
-
-    pub frame-one : (p : List ℕ) → (n ≡ 0 → ⊥) → n ≤ 1 → p ≡ ofUnit [] (firstPayload (isKind FrameObu)) (obus u) → parseFrame q p ≡ unitFrame q u
-    unfolding unitFrame andNext soleFrame
-    frame-one p some-one h g = go (obus u) e g
-      where
-        go : (x : Answer (List Obu)) → accepted n ≡ counted x → p ≡ ofUnit [] (firstPayload (isKind FrameObu)) x → parseFrame q p ≡ andNext x (λ os. andNext (soleFrame os) (λ f. parseFrame q f))
-        go (refused j) e g = let z : _≡_ {A = ℕ} 0 1 = cc in absurd (omega arith)
-        go (accepted os) e g = let i : count (isKind FrameObu) os ≡ n = cc in rw (i, ne-eqb n 0 some-one, le-ltb 1 n h) (ap (parseFrame q) g)
 
 -- ---- the whole unit, by what its sequence headers are
 
@@ -80,7 +40,7 @@ module _ (st : State) (p : ℕ) (u : List ℕ) where
 
   -- play behind the OBUs and the sequence headers
   abbrev rest : List Obu → Option Sequence → Answer Played
-  rest os k = andNext (known k) (λ q. andNext (soleFrame os) (λ f. andNext (parseFrame q f) (λ x. leftBy (some q) (act (st .slots) p x))))
+  rest os k = andNext (known k) (λ q. andNext (framePayload true os) (λ f. andNext (parseFrame q f) (λ x. leftBy (some q) (act (st .slots) p x))))
 
   abbrev whole : Answer (List Obu) → Answer Played
   whole x = andNext x (λ os. andNext (keep (st .kept) os) (rest os))
@@ -106,10 +66,10 @@ module _ (st : State) (p : ℕ) (u : List ℕ) where
     play-kept k e = go (obus u) e k refl ∙ sym short
       where
         go : (x : Answer (List Obu)) → accepted k ≡ andNext x (keep (st .kept)) → (j : Option Sequence) → j ≡ k
-            → andNext (known j) (λ q. andNext (andNext x (λ os. andNext (soleFrame os) (λ f. parseFrame q f))) (λ x. leftBy (some q) (act (st .slots) p x))) ≡ whole x
+            → andNext (known j) (λ q. andNext (andNext x (λ os. andNext (framePayload true os) (λ f. parseFrame q f))) (λ x. leftBy (some q) (act (st .slots) p x))) ≡ whole x
         go (refused n) e j i = let z : _≡_ {A = ℕ} 0 1 = cc in absurd (omega arith)
         go (accepted os) e none i = rw (← e, ← i)
-        go (accepted os) e (some q) i = rw (← e, ← i) (sym (next-next (soleFrame os) (λ f. parseFrame q f) (λ x. leftBy (some q) (act (st .slots) p x))))
+        go (accepted os) e (some q) i = rw (← e, ← i) (sym (next-next (framePayload true os) (λ f. parseFrame q f) (λ x. leftBy (some q) (act (st .slots) p x))))
 
 -- ---- an accepted chain was accepted at each link
 
@@ -123,7 +83,7 @@ module _ (st : State) (p : ℕ) (u : List ℕ) (r : Played) where
   unfolding andNext
   rest-keeps os none e = let z : _≡_ {A = ℕ} 0 1 = cc in absurd (omega arith)
   rest-keeps os (some q) e =
-      link (soleFrame os) _ r e (λ f i e. link (parseFrame q f) _ r e (λ x i e. link (act (st .slots) p x) _ r e (λ y i e.
+      link (framePayload true os) _ r e (λ f i e. link (parseFrame q f) _ r e (λ x i e. link (act (st .slots) p x) _ r e (λ y i e.
       let w : record { shown = y .shown; state = record { slots = y .slots; kept = some q } } ≡ r = cc in
       ap (λ z. z .state .kept) w)))
 
@@ -191,10 +151,10 @@ module _ (slots : List Slot) (p : ℕ) (u : List ℕ) (k : Kept) where
   kept-none e = rw e
 
   module _ (h : SequenceHeader) (e : k .last ≡ Header h) where
-    pub kept-refused : (n : ℕ) → unitFrame (sequenceOf h (k .points)) u ≡ refused n → refused n ≡ plays
+    pub kept-refused : (n : ℕ) → unitFrame true (sequenceOf h (k .points)) u ≡ refused n → refused n ≡ plays
     unfolding playKept andNext
     kept-refused n i = rw (e, i)
 
-    pub kept-frame : (x : FrameHeaderInfo) → unitFrame (sequenceOf h (k .points)) u ≡ accepted x → leftBy (keptSays k) (act slots p x) ≡ plays
+    pub kept-frame : (x : FrameHeaderInfo) → unitFrame true (sequenceOf h (k .points)) u ≡ accepted x → leftBy (keptSays k) (act slots p x) ≡ plays
     unfolding playKept andNext
     kept-frame x i = rw (e, i)

@@ -16,9 +16,10 @@ use Rattle.header.specs.SequenceOpening.{timingInfo, decoderModelInfo, opening}
 use Rattle.header.specs.SequencePoints.{operatingPoint, operatingPoints}
 use Rattle.header.specs.SequenceCoding.{frameSize, frameIds, codingTools, screenTools, filters, colorDescription, colorSampling, coding}
 use Rattle.header.specs.Sequence.{sequenceHeader, parseSequence}
-use Rattle.header.specs.Support.{support}
+use Rattle.header.specs.Support.{support, supportedSequence}
 use Rattle.frame.specs.Frame.{showExisting, frameStart, orderHint, removalTimes, bufferRemoval, frameInfo, frameBits, frameHeader, parseFrame}
-use Rattle.player.specs.Player.{empty, filled, refresh, State, start, keepAs, soleFrame, play, leaves}
+use Rattle.frame.specs.UnitFrame.{framePayload}
+use Rattle.player.specs.Player.{empty, filled, refresh, State, start, keepAs, play, leaves}
 use Rattle.player.specs.declared.slots.Slot.{Slot}
 
 -- a sequence header OBU; frame OBUs: a shown key, a shown frame that refreshes slot 3, a hidden showable key and a hidden frame not showable for slot 1
@@ -98,7 +99,7 @@ answers
     ∷ refused 37
     ∷ refused 38
     ∷ [])
-unfolding many manyF andNext bitAt bitsAt bitsWithin readBits leadingZeros uvlcSuffix uvlc lebRead readLeb sized passes headObuOf obusOf isType count firstPayload readFlag readOr flagOr uvlcOr timingInfo decoderModelInfo opening operatingPoint operatingPoints frameSize frameIds codingTools screenTools filters colorDescription colorSampling coding sequenceHeader parseSequence support showExisting frameStart orderHint removalTimes bufferRemoval frameInfo frameBits frameHeader parseFrame refresh keepAs soleFrame play
+unfolding many manyF andNext bitAt bitsAt bitsWithin readBits leadingZeros uvlcSuffix uvlc lebRead readLeb sized passes headObuOf obusOf isType count firstPayload readFlag readOr flagOr uvlcOr timingInfo decoderModelInfo opening operatingPoint operatingPoints frameSize frameIds codingTools screenTools filters colorDescription colorSampling coding sequenceHeader parseSequence support supportedSequence showExisting frameStart orderHint removalTimes bufferRemoval frameInfo frameBits frameHeader parseFrame refresh keepAs framePayload play
 answers = refl
 
 -- a shown key fills all eight, not showable; a golden fills its slot; a key shown again fills all eight, marks kept
@@ -115,5 +116,5 @@ slots
     ∷ (empty ∷ filled 5 true true ∷ replicate 6 empty)
     ∷ replicate 8 (filled 5 true true)
     ∷ [])
-unfolding many manyF andNext bitAt bitsAt bitsWithin readBits leadingZeros uvlcSuffix uvlc lebRead readLeb sized passes headObuOf obusOf isType count firstPayload readFlag readOr flagOr uvlcOr timingInfo decoderModelInfo opening operatingPoint operatingPoints frameSize frameIds codingTools screenTools filters colorDescription colorSampling coding sequenceHeader parseSequence support showExisting frameStart orderHint removalTimes bufferRemoval frameInfo frameBits frameHeader parseFrame refresh keepAs soleFrame play
+unfolding many manyF andNext bitAt bitsAt bitsWithin readBits leadingZeros uvlcSuffix uvlc lebRead readLeb sized passes headObuOf obusOf isType count firstPayload readFlag readOr flagOr uvlcOr timingInfo decoderModelInfo opening operatingPoint operatingPoints frameSize frameIds codingTools screenTools filters colorDescription colorSampling coding sequenceHeader parseSequence support supportedSequence showExisting frameStart orderHint removalTimes bufferRemoval frameInfo frameBits frameHeader parseFrame refresh keepAs framePayload play
 slots = refl

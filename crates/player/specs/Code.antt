@@ -2,14 +2,16 @@
 use Prim.Native.Nat.{ℕ}
 use mathlib.Core.List.{List, []}
 use mathlib.Core.Option.{Option, none, some}
+use mathlib.Core.Bool.{true}
 use lib.ListN.{replicate}
 use Rattle.bitio.specs.Parse.{Answer, refused, accepted, andNext}
-use Rattle.header.specs.Sequence.{Sequence, sequenceOf, parseSequence}
+use Rattle.header.specs.Sequence.{Sequence, sequenceOf}
 use Rattle.header.specs.SequencePoints.{padded}
-use Rattle.header.specs.Support.{support}
+use Rattle.header.specs.Support.{supportedSequence}
 use Rattle.header.specs.declared.seq_header.OperatingPoint.{OperatingPoint}
+use Rattle.frame.specs.UnitFrame.{unitFrame}
 use Rattle.obu.specs.Obu.{obus}
-use Rattle.player.specs.Player.{empty, Shown, act, State, keepAs, known, unitFrame, Played, play}
+use Rattle.player.specs.Player.{empty, Shown, act, State, keepAs, known, Played, play}
 use Rattle.player.specs.declared.slots.Slot.{Slot}
 use Rattle.player.specs.declared.slots.Answer.{Answer as CodeAnswer}
 use Rattle.player.specs.declared.slots.Answer.the-variants.{Shown as ShowsOne, Nothing, Refused}
@@ -59,7 +61,7 @@ keeping k (accepted j) = record { answer = Read; kept = j }
 
 -- one sequence payload of a unit: 14 to 16, 17 to 20, or the header that is kept from it on
 unfoldable pub headerKept : List ℕ → Answer Kept
-headerKept s = andNext (parseSequence s) (λ q. andNext (support (q .header)) (λ _. accepted (keptOf q)))
+headerKept s = andNext (supportedSequence s) (λ q. accepted (keptOf q))
 
 -- what is kept behind the unit u; one whose OBUs or headers are refused leaves k
 unfoldable pub keptBehind : Kept → List ℕ → Keeping
@@ -99,4 +101,4 @@ leftIn st k a = record { answer = a .answer; state = unlessRefused (a .answer) s
 
 -- play, from where the sequence headers are read: 26 and on
 unfoldable pub playKept : List Slot → ℕ → List ℕ → Option Sequence → Answer Played
-playKept slots p u k = andNext (known k) (λ q. andNext (unitFrame q u) (λ x. leftBy (some q) (act slots p x)))
+playKept slots p u k = andNext (known k) (λ q. andNext (unitFrame true q u) (λ x. leftBy (some q) (act slots p x)))

@@ -8,11 +8,12 @@ use lib.Dec.{eqb, ltb}
 use Rattle.bitio.specs.Parse.{Answer, refused, accepted, andNext}
 use Rattle.bitio.specs.Limits.{limit}
 use Rattle.obu.specs.Obu.{Obu, obus}
-use Rattle.obu.specs.Unit.{isKind, count, firstPayload}
-use Rattle.obu.specs.declared.unit.Kind.the-variants.{SequenceHeader, Frame as FrameObu}
-use Rattle.header.specs.Sequence.{Sequence, parseSequence}
-use Rattle.header.specs.Support.{support}
+use Rattle.obu.specs.Unit.{isKind}
+use Rattle.obu.specs.declared.unit.Kind.the-variants.{SequenceHeader}
+use Rattle.header.specs.Sequence.{Sequence}
+use Rattle.header.specs.Support.{supportedSequence}
 use Rattle.frame.specs.Frame.{keyFrame, parseFrame}
+use Rattle.frame.specs.UnitFrame.{framePayload}
 use Rattle.frame.specs.declared.frame_header.FrameHeaderInfo.{FrameHeaderInfo}
 use Rattle.frame.specs.declared.frame_header.FrameHeaderInfo.the-variants.{Existing, Frame}
 use Rattle.player.specs.declared.slots.Slot.{Slot}
@@ -67,7 +68,7 @@ unfoldable pub keepAs : {K : Type 0} → (Sequence → K) → K → List Obu →
 keepAs f k [] = accepted k
 keepAs f k (o ∷ os) =
     pick (isKind SequenceHeader o)
-    (andNext (parseSequence (o .payload)) (λ q. andNext (support (q .header)) (λ _. keepAs f (f q) os)))
+    (andNext (supportedSequence (o .payload)) (λ q. keepAs f (f q) os))
     (keepAs f k os)
 
 abbrev pub keep : Option Sequence → List Obu → Answer (Option Sequence)
@@ -77,16 +78,6 @@ keep k os = keepAs (λ q. some q) k os
 abbrev pub known : Option Sequence → Answer Sequence
 known none = refused 26
 known (some q) = accepted q
-
--- the payload of a unit's frame: 28 no frame, 39 more than one
-unfoldable pub soleFrame : List Obu → Answer (List ℕ)
-soleFrame os =
-    pick (eqb (count (isKind FrameObu) os) 0) (refused 28) (
-    pick (ltb 1 (count (isKind FrameObu) os)) (refused 39) (accepted (firstPayload (isKind FrameObu) os)))
-
--- the header of a unit's frame under the sequence header q: 1 to 5; 28; 39; 14
-unfoldable pub unitFrame : Sequence → List ℕ → Answer FrameHeaderInfo
-unitFrame q u = andNext (obus u) (λ os. andNext (soleFrame os) (λ f. parseFrame q f))
 
 pub record Played : Type 0 where
   pub shown : Option ℕ
@@ -99,7 +90,7 @@ play st p u =
     andNext (obus u) (λ os.
     andNext (keep (st .kept) os) (λ k.
     andNext (known k) (λ q.
-    andNext (soleFrame os) (λ f.
+    andNext (framePayload true os) (λ f.
     andNext (parseFrame q f) (λ x.
     andNext (act (st .slots) p x) (λ r.
     accepted (record { shown = r .shown; state = record { slots = r .slots; kept = some q } }))))))))

@@ -1,17 +1,15 @@
 // The sequence header that is kept from unit to unit.
 ghost use mathlib.Core.Path.{_≡_};
 ghost use Rattle.bitio.specs.Parse.{andNext};
-ghost use Rattle.obu.specs.Place.{obuSays, refusalOf};
 ghost use Rattle.player.specs.Code.{headersSay, keeping, headerKept, keptBehind};
 use header::seq_header::OperatingPoint;
 use header::seq_header::SequenceAnswer;
 use header::seq_header::SequenceHeader;
-use header::seq_header::Support;
-use header::seq_header::check::check_supported;
-use header::seq_header::read::read_sequence;
+use header::seq_header::check::read_supported;
 use obu::reader::ObuAt;
 use obu::reader::obu_at;
 use obu::reader::payload;
+use obu::reader::refusal;
 use obu::unit::Kind;
 use obu::unit::is_type;
 
@@ -39,22 +37,11 @@ pub struct Keeping {
     pub kept: Kept,
 }
 
-// The number of a refusal, 0 where there is none.
-fn obu_refusal(found: ObuAt) -> u64
-    ensures { λ r. ⌜ r ≡ refusalOf (obuSays found) ⌝ }
-{
-    match found {
-        ObuAt::Refused(k) => k as u64,
-        ObuAt::End => 0,
-        ObuAt::Found(_) => 0,
-    }
-}
-
 // The header of a payload in place of the one kept.
 fn read_header(kept: Kept, s: &[u8]) -> Keeping
     ensures { λ r. ⌜ r ≡ keeping kept (headerKept (now (s .entry))) ⌝ }
 {
-    let read = read_sequence(s);
+    let read = read_supported(s);
     let answer = read.answer;
     let points = read.operating_points;
     match answer {
@@ -62,17 +49,11 @@ fn read_header(kept: Kept, s: &[u8]) -> Keeping
             answer: Headers::Refused(k),
             kept: kept,
         },
-        SequenceAnswer::Header(header) => match check_supported(header) {
-            Support::Refused(k) => Keeping {
-                answer: Headers::Refused(k),
-                kept: kept,
-            },
-            Support::Supported => Keeping {
-                answer: Headers::Read,
-                kept: Kept {
-                    last: Last::Header(header),
-                    points: points,
-                },
+        SequenceAnswer::Header(header) => Keeping {
+            answer: Headers::Read,
+            kept: Kept {
+                last: Last::Header(header),
+                points: points,
             },
         },
     }
@@ -104,7 +85,7 @@ pub(crate) fn keep_headers(kept: Kept, unit: &[u8]) -> Keeping
         let found = obu_at(unit, at);
         let ObuAt::Found(o) = found else {
             return Keeping {
-                answer: Headers::Refused(obu_refusal(found)),
+                answer: Headers::Refused(refusal(found) as u64),
                 kept: kept,
             };
         };

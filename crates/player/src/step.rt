@@ -1,9 +1,6 @@
 // A unit, played: the state goes in by value and comes back beside the answer.
 ghost use mathlib.Core.Path.{_≡_};
 ghost use Rattle.bitio.specs.Parse.{refused};
-ghost use Rattle.header.specs.Sequence.{sequenceOf};
-ghost use Rattle.frame.specs.Frame.{frameSays};
-ghost use Rattle.player.specs.Player.{unitFrame};
 ghost use Rattle.player.specs.Code.{keptSays, leftIn, playedOn, playedBy, playKept};
 use crate::keep::Headers;
 use crate::keep::Kept;
@@ -13,14 +10,9 @@ use crate::slots::Acted;
 use crate::slots::Answer;
 use crate::slots::Slot;
 use crate::slots::play_frame;
+use bitio::limits::LIMIT;
 use frame::frame_header::FrameAnswer;
-use frame::frame_header::read::read_frame_header;
-use header::seq_header::OperatingPoint;
-use header::seq_header::SequenceHeader;
-use obu::unit::Counted;
-use obu::unit::Kind;
-use obu::unit::count_obus;
-use obu::unit::first_payload;
+use frame::unit_frame::unit_frame;
 
 pub struct State {
     pub slots: [Slot; 8],
@@ -39,24 +31,6 @@ fn refuse(state: State, k: u64) -> Played
     Played {
         answer: Answer::Refused(k),
         state: state,
-    }
-}
-
-// The header of a unit's only frame, under a sequence header.
-fn read_frame(header: SequenceHeader, points: [OperatingPoint; 32], unit: &[u8]) -> FrameAnswer
-    ensures { λ r. ⌜ frameSays r ≡ unitFrame (sequenceOf header points) (now (unit .entry)) ⌝ }
-{
-    match count_obus(unit, Kind::Frame) {
-        Counted::Refused(k) => FrameAnswer::Refused(k as u64),
-        Counted::Count(n) => {
-            if n == 0 {
-                return FrameAnswer::Refused(28);
-            }
-            if n > 1 {
-                return FrameAnswer::Refused(39);
-            }
-            read_frame_header(header, points, first_payload(unit, Kind::Frame))
-        }
     }
 }
 
@@ -92,7 +66,7 @@ fn step_frame(state: State, kept: Kept, position: u64, unit: &[u8]) -> Played
     let slots = state.slots;
     match last {
         Last::Nothing => refuse(state, 26),
-        Last::Header(header) => match read_frame(header, points, unit) {
+        Last::Header(header) => match unit_frame(unit, header, points, true) {
             FrameAnswer::Refused(k) => refuse(state, k),
             FrameAnswer::Header(info) => { leave(state, kept, play_frame(slots, position, info)) }
         },
@@ -103,7 +77,7 @@ fn step_frame(state: State, kept: Kept, position: u64, unit: &[u8]) -> Played
 pub fn step(state: State, position: u64, unit: &[u8]) -> Played
     ensures { λ r. ⌜ r ≡ playedBy state position (now (unit .entry)) ⌝ }
 {
-    if unit.len() > 4_000_000_000 {
+    if unit.len() > LIMIT {
         return refuse(state, 34);
     }
     let all = keep_headers(state.kept, unit);

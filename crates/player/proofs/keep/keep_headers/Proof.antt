@@ -40,15 +40,15 @@ obu-at-requires c κs = search needs
 enum-known-found : tie.Need-enum-known-found Inv-loop μ-loop
 enum-known-found c = search needs
 
-obu-refusal-requires : tie.Need-obu-refusal-requires Inv-loop μ-loop
-obu-refusal-requires c κs = search needs
+refusal-requires : tie.Need-refusal-requires Inv-loop μ-loop
+refusal-requires c κs = search needs
 
 returns : tie.Need-returns Inv-loop μ-loop
 unfolding keptBehind andNext
 returns c =
     let k = c .before in
     let l = k .before .before .before .loop in
-    rw (c .obu-refusal .ensures, walk-stop (l .inv .1) _ (not-found _ _ (k .before .obu-at .result) (k .match .keys2) (k .before .before .loop-test .taken) (k .before .obu-at .ensures)))
+    rw (c .refusal .ensures, walk-stop (l .inv .1) _ (not-found _ _ (k .before .obu-at .result) (k .match .keys2) (k .before .before .loop-test .taken) (k .before .obu-at .ensures)))
 
 is-type-requires : tie.Need-is-type-requires Inv-loop μ-loop
 is-type-requires c κs = search needs
@@ -98,7 +98,8 @@ keep-headers-spec =
     loop-holds
     obu-at-requires
     enum-known-found
-    obu-refusal-requires
+    refusal-requires
+    (λ c. search needs)
     returns
     is-type-requires
     payload-requires

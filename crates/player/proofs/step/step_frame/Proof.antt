@@ -17,8 +17,8 @@ refuse-requires c κs = search needs
 enum-known-last : tie.Need-enum-known-last
 enum-known-last c = search needs
 
-read-frame-requires : tie.Need-read-frame-requires
-read-frame-requires c κs = search needs
+unit-frame-requires : tie.Need-unit-frame-requires
+unit-frame-requires c κs = search needs
 
 enum-known-k : tie.Need-enum-known-k
 enum-known-k c = search needs
@@ -46,7 +46,7 @@ returns-2 c =
     let t = f .before .before in
     let a = t .before .before .before .before .before .args in
     c .refuse2 .ensures
-    ∙ ap (playedOn (a .state) (a .kept)) (kept-refused (a .state .slots) (a .position) (now (a .unit)) (a .kept) _ (t .last .given .1) _ (sym (f .read-frame .ensures) ∙ ap frameSays (c .before .before .k .given .1)))
+    ∙ ap (playedOn (a .state) (a .kept)) (kept-refused (a .state .slots) (a .position) (now (a .unit)) (a .kept) _ (t .last .given .1) _ (sym (f .unit-frame .ensures) ∙ ap frameSays (c .before .before .k .given .1)))
 
 returns-3 : tie.Need-returns-3
 returns-3 c =
@@ -55,7 +55,7 @@ returns-3 c =
     let a = t .before .before .before .before .before .args in
     let i = c .before .before .before .info .given in
     c .leave .ensures ∙ ap (leftIn (a .state) (a .kept)) (c .before .play-frame .ensures) ∙ frame-left (a .state) (a .kept) (keptSays (a .kept)) (act (a .state .slots) (a .position) (i .0 .0))
-    ∙ ap (playedOn (a .state) (a .kept)) (kept-frame (a .state .slots) (a .position) (now (a .unit)) (a .kept) _ (t .last .given .1) _ (sym (f .read-frame .ensures) ∙ ap frameSays (i .1)))
+    ∙ ap (playedOn (a .state) (a .kept)) (kept-frame (a .state .slots) (a .position) (now (a .unit)) (a .kept) _ (t .last .given .1) _ (sym (f .unit-frame .ensures) ∙ ap frameSays (i .1)))
 
 pub step-frame-spec : {M : Type 1} → statement M
 step-frame-spec =
@@ -64,7 +64,7 @@ step-frame-spec =
     enum-told
     refuse-requires
     enum-known-last
-    read-frame-requires
+    unit-frame-requires
     enum-known-k
     refuse-requires-2
     enum-known-info
