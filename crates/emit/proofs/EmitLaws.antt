@@ -7,6 +7,7 @@ use mathlib.Core.Bool.{Bool, true, not}
 use lib.Dec.{eqb}
 use lib.ListN.{length, drop, length-append, length-drop}
 use borrow.Author.Tests.{ltb-true, eqb-true}
+use Rattle.bitio.specs.Limits.{limit}
 use Rattle.bitio.specs.Parse.{accepted}
 use Rattle.bitio.specs.Bits.{Bytes, Reading, fails, reads}
 use Rattle.bitio.specs.Write.{bitsOf, unpack, trailingWidth, trailingBits}
@@ -15,6 +16,7 @@ use Rattle.bitio.proofs.UnpackLaws.{length-bits, unpack-append}
 use Rattle.header.specs.Fields.{answerOf}
 use Rattle.emittable.specs.PutFields.{fits}
 use Rattle.header.specs.SequencePoints.{pointCount}
+use Rattle.header.specs.Limited.{limited}
 use Rattle.header.specs.Sequence.{Sequence, readSequence, parseSequence}
 use Rattle.emittable.specs.PutSequence.{putSequence}
 use Rattle.emittable.specs.Emittable.{openingFits, sizeFits, codingFits, emittable}
@@ -23,6 +25,7 @@ use Rattle.header.specs.declared.seq_header.FrameSize.{FrameSize}
 use Rattle.header.specs.declared.seq_header.Coding.{Coding}
 use Rattle.emit.proofs.PackLaws.{AreBits, are-append, are-bits, unpack-pack, length-pack, pack-bytes, pack-unpack}
 use Rattle.emit.proofs.PutLaws.{Puts, sequence-puts}
+use Rattle.header.proofs.LimitedLaws.{within-limit}
 use Rattle.emittable.proofs.BackFields.{both}
 use Rattle.emittable.proofs.BackSequence.{opening-delay, opening-count, sequence-back}
 use Rattle.emit.proofs.FormFields.{holds}
@@ -114,6 +117,10 @@ module _ (q : Sequence) (g : emittable q ≡ true) where
   pub parse-emitted : (rest : List ℕ) → 8 * length (sequenceBytes q ++ rest) < 2 ^ 64 → parseSequence (sequenceBytes q ++ rest) ≡ accepted q
   unfolding parseSequence
   parse-emitted rest small = ap answerOf (sequence-back q _ g (payload-sees rest small) .eq)
+
+  -- and so does parse_sequence_header, within the limit
+  pub emitted-back : (rest : List ℕ) → length (sequenceBytes q ++ rest) ≤ limit → limited (sequenceBytes q ++ rest) (parseSequence (sequenceBytes q ++ rest)) ≡ accepted q
+  emitted-back rest h = within-limit _ _ h ∙ parse-emitted rest (omega arith)
 
 -- ---- what is read
 

@@ -1,3 +1,3 @@
-// The sequence header and the frame header of AV1: read, checked, timed and emitted.
+// The sequence header of AV1: read, checked and timed.
 pub mod fields;
 pub mod seq_header;
