@@ -6,7 +6,8 @@ use lib.ListN.{length}
 use Rattle.bitio.specs.Parse.{Answer, refused, accepted, andNext}
 use Rattle.container.specs.Stream.{streamUnits, streamBytes}
 use Rattle.container.specs.AnnexB.{annexbUnits, annexbBytes}
-use Rattle.container.specs.Limits.{led34, Room, fitBytes, fitUnits}
+use Rattle.container.specs.Limits.{Room, fitBytes, fitUnits}
+use Rattle.bitio.specs.Limits.{led34}
 use Rattle.container.specs.Units.{unitsAt}
 
 pub data Container : Type 0 where

@@ -8,10 +8,6 @@ use Rattle.bitio.specs.Limits.{limit}
 use Rattle.bitio.specs.Parse.{Answer, refused, accepted}
 use Rattle.container.specs.Stream.{streamBytes}
 
--- 01: 34, an input over the limit, leads everywhere
-abbrev pub led34 : {A : Type 0} → ℕ → Answer A → Answer A
-led34 n a = pick (leb n limit) a (refused 34)
-
 -- room for bytes, and for the ends of units
 pub record Room : Type 0 where
   pub bytes : ℕ

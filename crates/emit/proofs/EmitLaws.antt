@@ -7,7 +7,7 @@ use mathlib.Core.Bool.{Bool, true, not}
 use lib.Dec.{eqb}
 use lib.ListN.{length, drop, length-append, length-drop}
 use borrow.Author.Tests.{ltb-true, eqb-true}
-use Rattle.bitio.specs.Limits.{limit}
+use Rattle.bitio.specs.Limits.{limit, limited}
 use Rattle.bitio.specs.Parse.{accepted}
 use Rattle.bitio.specs.Bits.{Bytes, Reading, fails, reads}
 use Rattle.bitio.specs.Write.{bitsOf, unpack, trailingWidth, trailingBits}
@@ -16,7 +16,6 @@ use Rattle.bitio.proofs.UnpackLaws.{length-bits, unpack-append}
 use Rattle.header.specs.Fields.{answerOf}
 use Rattle.emittable.specs.PutFields.{fits}
 use Rattle.header.specs.SequencePoints.{pointCount}
-use Rattle.header.specs.Limited.{limited}
 use Rattle.header.specs.Sequence.{Sequence, readSequence, parseSequence}
 use Rattle.emittable.specs.PutSequence.{putSequence}
 use Rattle.emittable.specs.Emittable.{openingFits, sizeFits, codingFits, emittable}

@@ -4,14 +4,13 @@ use native.Mathlib.Omega.{arith}
 use mathlib.Core.Path.{_≡_, refl, sym, ap, _∙_}
 use mathlib.Core.List.{List}
 use mathlib.Core.Bool.{Bool, true, false, not, cond as pick}
-use lib.Dec.{ltb}
+use lib.Dec.{leb}
 use lib.ListN.{length, take, replicate}
 use lib.Seq.{take-append-seam}
-use Rattle.bitio.specs.Limits.{limit}
+use Rattle.bitio.specs.Limits.{limit, limited}
 use Rattle.bitio.specs.Parse.{Answer, refused, accepted}
 use Rattle.bitio.specs.Bits.{Reading, fails, reads, andThen}
 use Rattle.header.specs.Fields.{answerOf}
-use Rattle.header.specs.Limited.{limited}
 use Rattle.header.specs.SequenceRules.{Rules, ours}
 use Rattle.header.specs.SequenceOpening.{opening}
 use Rattle.header.specs.SequencePoints.{operatingPoints, pointCount, padded, noPoint}
@@ -30,22 +29,22 @@ module _ (s f : List ℕ) where
   -- the sequence header reads as q: the frame is read under q
   pub from-read : (q : Sequence) → limited s (parseSequence s) ≡ accepted q → limited s (parseFrameFrom s f) ≡ parseFrame q f
   unfolding limited parseSequence parseFrame parseFrameFrom
-  from-read q e = go (ltb limit (length s)) (readSequence s) e
+  from-read q e = go (leb (length s) limit) (readSequence s) e
     where
-      go : (t : Bool) (x : Reading Sequence) → pick t (refused 34) (answerOf x) ≡ accepted q → pick t (refused 34) (answerOf (andThen x (λ q p. readFrame q f))) ≡ answerOf (readFrame q f)
-      go true x e = let z : _≡_ {A = ℕ} 0 1 = cc in absurd (omega arith)
-      go false (fails k) e = let z : _≡_ {A = ℕ} 0 1 = cc in absurd (omega arith)
-      go false (reads r p) e = let i : r ≡ q = cc in ap (λ y. answerOf (readFrame y f)) i
+      go : (t : Bool) (x : Reading Sequence) → pick t (answerOf x) (refused 34) ≡ accepted q → pick t (answerOf (andThen x (λ q p. readFrame q f))) (refused 34) ≡ answerOf (readFrame q f)
+      go false x e = let z : _≡_ {A = ℕ} 0 1 = cc in absurd (omega arith)
+      go true (fails k) e = let z : _≡_ {A = ℕ} 0 1 = cc in absurd (omega arith)
+      go true (reads r p) e = let i : r ≡ q = cc in ap (λ y. answerOf (readFrame y f)) i
 
   -- the sequence header is refused: so is the frame
   pub from-refused : (k : ℕ) → limited s (parseSequence s) ≡ refused k → limited s (parseFrameFrom s f) ≡ refused k
   unfolding limited parseSequence parseFrameFrom
-  from-refused k e = go (ltb limit (length s)) (readSequence s) e
+  from-refused k e = go (leb (length s) limit) (readSequence s) e
     where
-      go : (t : Bool) (x : Reading Sequence) → pick t (refused 34) (answerOf x) ≡ refused k → pick t (refused 34) (answerOf (andThen x (λ q p. readFrame q f))) ≡ refused k
-      go true x e = let i : 34 ≡ k = cc in ap (λ y. refused y) i
-      go false (fails j) e = let i : j ≡ k = cc in ap (λ y. refused y) i
-      go false (reads r p) e = let z : _≡_ {A = ℕ} 0 1 = cc in absurd (omega arith)
+      go : (t : Bool) (x : Reading Sequence) → pick t (answerOf x) (refused 34) ≡ refused k → pick t (answerOf (andThen x (λ q p. readFrame q f))) (refused 34) ≡ refused k
+      go false x e = let i : 34 ≡ k = cc in ap (λ y. refused y) i
+      go true (fails j) e = let i : j ≡ k = cc in ap (λ y. refused y) i
+      go true (reads r p) e = let z : _≡_ {A = ℕ} 0 1 = cc in absurd (omega arith)
 
 -- it has as many operating points as it says
 abbrev pub Counted : Sequence → Type 0

@@ -1,4 +1,3 @@
-pub mod Limited
 pub mod Fields
 pub mod SequenceRules
 pub mod SequenceOpening

@@ -9,7 +9,7 @@ use Rattle.bitio.specs.Lent.{pasted}
 use Rattle.container.specs.Stream.{streamBytes}
 use Rattle.packets.specs.Packets.{Packet, mergePackets}
 use Rattle.bitio.specs.Limits.{limit}
-use Rattle.container.specs.Limits.{led34}
+use Rattle.bitio.specs.Limits.{led34}
 use Rattle.container.specs.Units.{unitsAt, Sizes}
 use Rattle.packets.specs.declared.packets.Merged.{Merged}
 use Rattle.packets.specs.declared.packets.Merged.the-variants.{Packets, Refused}

@@ -8,7 +8,8 @@ use Rattle.bitio.specs.Parse.{Answer, refused, accepted}
 use Rattle.obu.specs.Obu.{Obu, obus, unitBytes}
 use Rattle.obu.specs.Unit.{count}
 use Rattle.container.specs.Stream.{isDelimiter, hasFrame, others, join}
-use Rattle.container.specs.Limits.{led34, Room, fitBytes}
+use Rattle.container.specs.Limits.{Room, fitBytes}
+use Rattle.bitio.specs.Limits.{led34}
 
 pub record Packet : Type 0 where
   pub time : ℕ

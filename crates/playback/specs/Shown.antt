@@ -8,7 +8,7 @@ use lib.ListN.{length, getD, drop}
 use lib.Dec.{leb}
 use Rattle.bitio.specs.Parse.{Answer, refused, accepted, answer, andNext}
 use Rattle.obu.specs.Place.{part}
-use Rattle.container.specs.Limits.{led34}
+use Rattle.bitio.specs.Limits.{led34}
 use Rattle.container.specs.Units.{unitsAt}
 use Rattle.player.specs.Player.{State, start, Played, play, leaves}
 use Rattle.player.specs.declared.slots.Answer.{Answer as CodeAnswer}

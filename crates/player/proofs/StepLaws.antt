@@ -6,8 +6,8 @@ use mathlib.Core.List.{List, []}
 use mathlib.Core.Bool.{Bool, true, false, cond as pick}
 use mathlib.Core.Option.{Option, none, some}
 use lib.ListN.{length}
-use lib.Dec.{ltb}
-use borrow.Author.Tests.{lt-ltb, le-ltb}
+use lib.Dec.{leb}
+use borrow.Author.Tests.{lt-leb, le-leb}
 use Rattle.bitio.specs.Parse.{Answer, refused, accepted, andNext}
 use Rattle.bitio.specs.Limits.{limit}
 use Rattle.obu.specs.Obu.{Obu, obus}
@@ -36,7 +36,7 @@ next-next (accepted a) f g = refl
 module _ (st : State) (p : ℕ) (u : List ℕ) where
   pub play-long : limit < length u → refused 34 ≡ play st p u
   unfolding play
-  play-long h = rw (lt-ltb limit (length u) h)
+  play-long h = rw (lt-leb (length u) limit h)
 
   -- play behind the OBUs and the sequence headers
   abbrev rest : List Obu → Option Sequence → Answer Played
@@ -48,7 +48,7 @@ module _ (st : State) (p : ℕ) (u : List ℕ) where
   module _ (h : length u ≤ limit) where
     short : play st p u ≡ whole (obus u)
     unfolding play
-    short = rw (le-ltb limit (length u) h)
+    short = rw (le-leb (length u) limit h)
 
     pub play-headers : (n : ℕ) → refused n ≡ andNext (obus u) (keep (st .kept)) → refused n ≡ play st p u
     unfolding andNext
@@ -90,11 +90,11 @@ module _ (st : State) (p : ℕ) (u : List ℕ) (r : Played) where
   -- the header that an accepted unit leaves
   pub play-keeps : play st p u ≡ accepted r → andNext (obus u) (keep (st .kept)) ≡ accepted (r .state .kept)
   unfolding play andNext
-  play-keeps e = go (ltb limit (length u)) e
+  play-keeps e = go (leb (length u) limit) e
     where
-      go : (b : Bool) → pick b (refused 34) (whole st p u (obus u)) ≡ accepted r → andNext (obus u) (keep (st .kept)) ≡ accepted (r .state .kept)
-      go true e = let z : _≡_ {A = ℕ} 0 1 = cc in absurd (omega arith)
-      go false e = link (obus u) _ r e (λ os i e. link (keep (st .kept) os) _ r e (λ k j e. rw i (j ∙ ap (λ y. accepted y) (rest-keeps os k e))))
+      go : (b : Bool) → pick b (whole st p u (obus u)) (refused 34) ≡ accepted r → andNext (obus u) (keep (st .kept)) ≡ accepted (r .state .kept)
+      go false e = let z : _≡_ {A = ℕ} 0 1 = cc in absurd (omega arith)
+      go true e = link (obus u) _ r e (λ os i e. link (keep (st .kept) os) _ r e (λ k j e. rw i (j ∙ ap (λ y. accepted y) (rest-keeps os k e))))
 
 -- ---- the unit played in the code
 

@@ -4,9 +4,9 @@ use mathlib.Core.List.{List, [], _∷_}
 use mathlib.Core.Bool.{Bool, true, false, cond as pick}
 use mathlib.Core.Option.{Option, none, some}
 use lib.ListN.{length, getD, replicate}
-use lib.Dec.{eqb, ltb}
+use lib.Dec.{eqb}
 use Rattle.bitio.specs.Parse.{Answer, refused, accepted, andNext}
-use Rattle.bitio.specs.Limits.{limit}
+use Rattle.bitio.specs.Limits.{led34}
 use Rattle.obu.specs.Obu.{Obu, obus}
 use Rattle.obu.specs.Unit.{isKind}
 use Rattle.obu.specs.declared.unit.Kind.the-variants.{SequenceHeader}
@@ -86,7 +86,7 @@ pub record Played : Type 0 where
 -- the unit u, played under position p: 34; 1 to 5; 14 to 20; 26; 28; 39; 14; 37; 38
 unfoldable pub play : State → ℕ → List ℕ → Answer Played
 play st p u =
-    pick (ltb limit (length u)) (refused 34) (
+    led34 (length u) (
     andNext (obus u) (λ os.
     andNext (keep (st .kept) os) (λ k.
     andNext (known k) (λ q.

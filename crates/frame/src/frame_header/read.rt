@@ -1,7 +1,7 @@
 // Reading a frame header (AV1 5.9.2) up to refresh_frame_flags.
 ghost use mathlib.Core.Path.{_≡_};
 ghost use Rattle.header.specs.Fields.{answerOf};
-ghost use Rattle.header.specs.Limited.{limited};
+ghost use Rattle.bitio.specs.Limits.{limited};
 ghost use Rattle.header.specs.Sequence.{sequenceOf};
 ghost use Rattle.header.specs.Support.{hasPointInfo};
 ghost use Rattle.frame.specs.Frame.{modelled, showExisting, frameInfo, frameBits, parseFrame, parseFrameFrom, frameSays};

@@ -1,7 +1,7 @@
 // Reading a sequence header's payload (AV1 5.5).
 ghost use mathlib.Core.Path.{_≡_};
 ghost use Rattle.bitio.specs.Parse.{refused};
-ghost use Rattle.header.specs.Limited.{limited};
+ghost use Rattle.bitio.specs.Limits.{limited};
 ghost use Rattle.header.specs.Sequence.{parseSequence, sequenceRead};
 ghost use Rattle.header.specs.ReadSays.{refusalOf, openingSays, pointsRefusal};
 use crate::seq_header::SequenceAnswer;

@@ -1,6 +1,6 @@
 use borrow.Author.Needs.{needs}
 use mathlib.Core.Path.{sym, ap, _∙_}
-use Rattle.header.specs.Limited.{limited}
+use Rattle.bitio.specs.Limits.{limited}
 use Rattle.header.proofs.LimitedLaws.{over-limit, within-limit}
 use Rattle.frame.proofs.FrameFromLaws.{beside-read, beside-refused}
 use Rattle.frame.proofs.frame_header.read.parse_frame_header_info.Statement.{statement}
