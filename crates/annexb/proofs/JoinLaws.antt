@@ -5,14 +5,13 @@ use mathlib.Core.Path.{_≡_, refl, sym, ap, _∙_}
 use mathlib.Core.List.{List, [], _∷_, _++_, flatMap, append-assoc, append-nil}
 use mathlib.Core.Option.{Option, none, some}
 use mathlib.Core.Bool.{true}
-use lib.ListN.{length, getD, set, drop, length-append, length-drop}
+use lib.ListN.{length, getD, drop, length-append, length-drop}
 use lib.Seq.{take-all}
 use native.Mathlib.Decide.{decLt}
 use borrow.Author.Tests.{lt-ltb}
 use Rattle.bitio.specs.Parse.{Answer, refused, accepted, answer, Head, stop, item, many}
 use Rattle.bitio.specs.Leb.{lebBytes, framed}
 use Rattle.bitio.proofs.LebLaws.{bytes-most}
-use Rattle.bitio.proofs.LentLaws.{pasted-one, pasted-set}
 use Rattle.obu.specs.Obu.{Obu, passes, extBytes, header, headObu, obusOf, obus}
 use Rattle.obu.specs.Place.{wrong, placeOf, obuPlace}
 use Rattle.obu.specs.Write.{obu}
@@ -248,16 +247,7 @@ module _ (s es : List ℕ) (a : accepts (unitsAt s es) ≡ true) {at i n : ℕ} 
   pub totalling-end : length es ≤ i → accepted n ≡ all
   totalling-end l = rw (cut-done s es (t .cut) l a, t .made) (ap accepted (t .bytes-are))
 
--- ---- writing a header, an OBU, a unit
-
-pub inner-plain : (d : List ℕ) (at t : ℕ) → at < length d → Laid d at (header 0 t none) (set d at (t * 8)) (at + 1)
-inner-plain d at t l = let e : t * 8 ≡ 8 * t + 0 + 0 = omega arith in record { next = refl; out = rw e (pasted-one d at (8 * t + 0 + 0) l) }
-
-pub inner-ext : (d : List ℕ) (at t e : ℕ) → at + 1 < length d → Laid d at (header 0 t (some e)) (set (set d at (t * 8 + 4)) (at + 1) e) (at + 1 + 1)
-inner-ext d at t e l =
-    let q : t * 8 + 4 ≡ 8 * t + 4 + 0 = omega arith in
-    let h = 8 * t + 4 + 0 in
-    record { next = omega arith; out = rw (q, pasted-one d at h (omega arith)) (pasted-set d at (h ∷ []) e l) }
+-- ---- writing an OBU, a unit
 
 module _ {d : List ℕ} {w : ℕ} (l : w ≤ length d) {d₁ d₂ d₃ : List ℕ} {w₁ w₂ w₃ : ℕ} where
   -- the length, the header and the extension, the payload

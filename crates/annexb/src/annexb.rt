@@ -3,6 +3,7 @@ ghost use mathlib.Core.Path.{_≡_};
 ghost use lib.ListN.{length};
 ghost use Rattle.container.specs.Container.{annexb, read, writeAt};
 ghost use Rattle.container.specs.Units.{splitSays, sizesOf, bytesAfter, endsAfter, joinedSays, countOf, outAfter};
+use bitio::limits::LIMIT;
 use container::lists::check_ends;
 use container::room::has_room;
 use container::units::Joined;
@@ -20,7 +21,7 @@ pub fn split_annexb(data: &[u8], out: &mut [u8], ends: &mut [u32]) -> Split
     ensures { λ _. ⌜ now (out .exit) ≡ bytesAfter (read annexb (record { bytes = length (now (out .entry)); ends = length (now (ends .entry)) }) (now («data» .entry))) (now (out .entry)) ⌝ }
     ensures { λ _. ⌜ now (ends .exit) ≡ endsAfter (read annexb (record { bytes = length (now (out .entry)); ends = length (now (ends .entry)) }) (now («data» .entry))) (now (ends .entry)) ⌝ }
 {
-    if data.len() > 4_000_000_000 {
+    if data.len() > LIMIT {
         return Split::Refused(34);
     }
     if data.len() == 0 {
@@ -42,7 +43,7 @@ pub fn write_annexb(units: &[u8], unit_ends: &[u32], out: &mut [u8]) -> Joined
     ensures { λ r. ⌜ joinedSays r ≡ countOf (writeAt annexb (record { bytes = length (now (out .entry)); ends = 0 }) (now (units .entry)) (now («unit_ends» .entry))) ⌝ }
     ensures { λ _. ⌜ now (out .exit) ≡ outAfter (writeAt annexb (record { bytes = length (now (out .entry)); ends = 0 }) (now (units .entry)) (now («unit_ends» .entry))) (now (out .entry)) ⌝ }
 {
-    if units.len() > 4_000_000_000 {
+    if units.len() > LIMIT {
         return Joined::Refused(34);
     }
     if !check_ends(units, unit_ends) {

@@ -20,6 +20,7 @@ use crate::survey::Seen;
 use crate::survey::survey;
 use crate::units::Joined;
 use crate::units::Split;
+use bitio::limits::LIMIT;
 use obu::writer::put_bytes;
 
 struct Size {
@@ -115,7 +116,7 @@ pub fn split_obu_stream(data: &[u8], out: &mut [u8], ends: &mut [u32]) -> Split
     ensures { λ _. ⌜ now (ends .exit) ≡ endsAfter (read stream (record { bytes = length (now (out .entry)); ends = length (now (ends .entry)) }) (now («data» .entry))) (now (ends .entry)) ⌝ }
 {
     let input = data.len();
-    if input > 4_000_000_000 {
+    if input > LIMIT {
         return Split::Refused(34);
     }
     match survey(data) {
@@ -136,7 +137,7 @@ pub fn write_obu_stream(units: &[u8], unit_ends: &[u32], out: &mut [u8]) -> Join
     ensures { λ _. ⌜ now (out .exit) ≡ outAfter (writeAt stream (record { bytes = length (now (out .entry)); ends = 0 }) (now (units .entry)) (now («unit_ends» .entry))) (now (out .entry)) ⌝ }
 {
     let len = units.len();
-    if len > 4_000_000_000 {
+    if len > LIMIT {
         return Joined::Refused(34);
     }
     if !check_ends(units, unit_ends) {

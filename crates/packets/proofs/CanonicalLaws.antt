@@ -7,18 +7,14 @@ use mathlib.Core.Bool.{true, false}
 use lib.ListN.{length, drop}
 use lib.Dec.{eqb}
 use borrow.Author.Tests.{le-leb, lt-leb, leb-true, leb-false, eq-eqb, ne-eqb}
-use types.Run.{OneOf}
-use denote.Enum.Declared.{tagOf}
 use Rattle.bitio.specs.Parse.{Answer, refused, accepted, onto}
 use Rattle.bitio.specs.Lent.{pasted}
 use Rattle.obu.specs.Obu.{Obu, obus}
 use Rattle.obu.specs.Unit.{count, has, strayIn, ofUnit}
 use Rattle.obu.proofs.UnitLaws.{has-count}
-use Rattle.obu.proofs.ObuLaws.{obus-nil, obus-item}
-use Rattle.obu.proofs.reader.ObuAt.{the-type}
-use Rattle.obu.specs.declared.reader.ObuAt.{ObuAt}
-use Rattle.obu.specs.Place.{obuPlace, obuSays}
-use Rattle.obu.proofs.PlaceLaws.{Placed, walk-start, walk-stop, not-found}
+use Rattle.obu.proofs.ObuLaws.{obus-item}
+use Rattle.obu.specs.Place.{Place, nothing, wrong, placed, obuPlace}
+use Rattle.obu.proofs.PlaceLaws.{Placed, is-placed, walk-start, walk-end, walk-stop}
 use Rattle.container.specs.Stream.{isDelimiter, others}
 use Rattle.packets.specs.Packets.{canonical, canonicalOf}
 use Rattle.bitio.specs.Limits.{limit}
@@ -28,22 +24,15 @@ use Rattle.packets.specs.Packets.{canonicalAt}
 use Rattle.container.specs.Ranges.{keptBytes, Range}
 use Rattle.container.proofs.StreamLaws.{bytes-append}
 use Rattle.container.proofs.RangeLaws.{placed-step, range-one, range-from}
-use Rattle.packets.specs.Canonical.{Split}
+use Rattle.packets.specs.Canonical.{endOf}
 
 -- ---- the first OBU
 
-some-bytes : (s : List ℕ) (o : Obu) (os : List Obu) → obus s ≡ accepted (o ∷ os) → 0 < length s
-some-bytes [] o os e = let z : _≡_ {A = ℕ} 0 1 = cc obus-nil in absurd (omega arith)
-some-bytes (b ∷ s) o os e = omega arith
+-- m is where the first OBU ends, if the unit parses and has one
+abbrev Split : List ℕ → ℕ → Type 0
+Split u m = (o : Obu) (os : List Obu) → obus u ≡ accepted (o ∷ os) → Range u 0 m (o ∷ []) × Range u m (length u) os
 
--- a unit that parses and has an OBU has one at its start
-pub split-none : (s : List ℕ) (r : ObuAt) → OneOf (1 ∷ 2 ∷ []) (tagOf the-type r) → obuSays r ≡ obuPlace s 0 → Split s 0
-split-none s r k e o os q =
-    let w = walk-stop (walk-start s) _ (not-found s 0 r k (some-bytes s o os q) e) in
-    let z : _≡_ {A = ℕ} 0 1 = cc in
-    absurd (omega arith)
-
-pub split-at : {s : List ℕ} {o : Obu} {a b : ℕ} → Placed s 0 o a b → Split s b
+split-at : {s : List ℕ} {o : Obu} {a b : ℕ} → Placed s 0 o a b → Split s b
 split-at {s} {o} {a} {b} p x os q = go (obus (drop b s)) refl (sym (obus-item s o (drop b s) (p .head)) ∙ q)
   where
     go : (y : Answer (List Obu)) → obus (drop b s) ≡ y → onto o y ≡ accepted (x ∷ os) → Range s 0 b (x ∷ []) × Range s b (length s) os
@@ -52,6 +41,18 @@ split-at {s} {o} {a} {b} p x os q = go (obus (drop b s)) refl (sym (obus-item s 
         let i : o ≡ x = cc in
         let j : l ≡ os = cc in
         (rw (← i) (range-one (placed-step p)), range-from s (p .within) (e ∙ ap accepted j))
+
+-- a unit that parses and has an OBU has one at its start
+pub split-first : (s : List ℕ) → Split s (endOf (obuPlace s 0))
+split-first s = go (obuPlace s 0) refl
+  where
+    none : (x : Answer (List Obu)) → obus s ≡ x → ((o : Obu) (os : List Obu) → x ≡ accepted (o ∷ os) → ⊥) → Split s 0
+    none x e n o os q = absurd (n o os (sym e ∙ q))
+
+    go : (x : Place) → obuPlace s 0 ≡ x → Split s (endOf x)
+    go nothing e = none (accepted []) (walk-end (walk-start s) e) (λ o os q. let z : _≡_ {A = ℕ} 0 1 = cc in omega arith)
+    go (wrong k) e = none (refused k) (walk-stop (walk-start s) k e) (λ o os q. let z : _≡_ {A = ℕ} 0 1 = cc in omega arith)
+    go (placed t x a b) e = split-at (is-placed s 0 e .placed)
 
 -- ---- a clean unit, and one with a stray delimiter
 

@@ -52,14 +52,14 @@ record Fits (n u : ℕ) (room : PacketRoom) : Type 0 where
 
 fits-all : (n u : ℕ) (room : PacketRoom) → fitsPackets n u room ≡ true → Fits n u room
 fits-all n u room e =
-    let p = both (leb n limit) (leb n (room .bytes) && (leb u (room .ends) && leb u (room .times))) e in
-    let q = both (leb n (room .bytes)) (leb u (room .ends) && leb u (room .times)) (p .1) in
-    let r = both (leb u (room .ends)) (leb u (room .times)) (q .1) in
+    let p = both (leb n limit && (leb n (room .bytes) && leb u (room .ends))) (leb u (room .times)) e in
+    let q = both (leb n limit) (leb n (room .bytes) && leb u (room .ends)) (p .0) in
+    let r = both (leb n (room .bytes)) (leb u (room .ends)) (q .1) in
     record {
-      small = leb-true n limit (p .0);
-      bytes = leb-true n (room .bytes) (q .0);
-      ends = leb-true u (room .ends) (r .0);
-      times = leb-true u (room .times) (r .1);
+      small = leb-true n limit (q .0);
+      bytes = leb-true n (room .bytes) (r .0);
+      ends = leb-true u (room .ends) (r .1);
+      times = leb-true u (room .times) (p .1);
     }
 
 -- ---- the outcomes

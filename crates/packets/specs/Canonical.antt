@@ -1,18 +1,19 @@
 -- What the code of canonicalize_tu asks of a unit. Assumes nothing.
 use Prim.Native.Nat.{ℕ, _≤_}
 use mathlib.Core.Path.{_≡_}
-use mathlib.Core.List.{List, [], _∷_}
+use mathlib.Core.List.{List}
 use mathlib.Core.Bool.{false}
 use lib.ListN.{length}
-use Rattle.bitio.specs.Parse.{accepted}
-use Rattle.obu.specs.Obu.{Obu, obus}
+use Rattle.obu.specs.Obu.{obus}
+use Rattle.obu.specs.Place.{Place, nothing, wrong, placed}
 use Rattle.obu.specs.Unit.{strayIn, ofUnit}
 use Rattle.bitio.specs.Limits.{limit}
-use Rattle.container.specs.Ranges.{Range}
 
--- m is where the first OBU ends, if the unit parses and has one
-abbrev pub Split : List ℕ → ℕ → Type 0
-Split u m = (o : Obu) (os : List Obu) → obus u ≡ accepted (o ∷ os) → Range u 0 m (o ∷ []) × Range u m (length u) os
+-- where the OBU ends that stands there, 0 if there is none
+abbrev pub endOf : Place → ℕ
+endOf nothing = 0
+endOf (wrong k) = 0
+endOf (placed t e a b) = b
 
 -- a unit that is copied
 pub record Clean (u : List ℕ) : Type 0 where

@@ -8,8 +8,8 @@ use Rattle.bitio.specs.Parse.{Answer, refused, accepted, answer, andNext}
 use Rattle.bitio.specs.Lent.{pasted}
 use Rattle.container.specs.Stream.{streamBytes}
 use Rattle.packets.specs.Packets.{Packet, mergePackets}
-use Rattle.bitio.specs.Limits.{limit}
 use Rattle.bitio.specs.Limits.{led34}
+use Rattle.container.specs.Limits.{fits}
 use Rattle.container.specs.Units.{unitsAt, Sizes}
 use Rattle.packets.specs.declared.packets.Merged.{Merged}
 use Rattle.packets.specs.declared.packets.Merged.the-variants.{Packets, Refused}
@@ -43,7 +43,7 @@ roomOf o e t = record { bytes = length o; ends = length e; times = length t }
 
 -- n bytes, and the ends and times of u packets, have room
 abbrev pub fitsPackets : ℕ → ℕ → PacketRoom → Bool
-fitsPackets n u room = leb n limit && (leb n (room .bytes) && (leb u (room .ends) && leb u (room .times)))
+fitsPackets n u room = fits n u (record { bytes = room .bytes; ends = room .ends }) && leb u (room .times)
 
 -- 01: 35 comes last, if lent room or the limit cannot hold the result
 abbrev pub fitPackets : PacketRoom → List Packet → Answer (List Packet)

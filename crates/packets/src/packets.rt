@@ -10,6 +10,7 @@ use crate::packets::canonical::copy_unit;
 use crate::packets::lists::next_close;
 use crate::packets::merge::merge_none;
 use crate::packets::merge::merge_some;
+use bitio::limits::LIMIT;
 use container::lists::check_ends;
 use container::units::Joined;
 use obu::unit::has_stray_delimiter;
@@ -42,7 +43,7 @@ pub fn merge_frameless_packets(
     ensures ends { λ _. ⌜ now («out_ends» .exit) ≡ endsAfter (answer bytesOf (mergedAt (roomOf (now (out .entry)) (now («out_ends» .entry)) (now («out_times» .entry))) (now (packets .entry)) (now («packet_ends» .entry)) (now (times .entry)))) (now («out_ends» .entry)) ⌝ }
     ensures times { λ _. ⌜ now («out_times» .exit) ≡ timesAfter (mergedAt (roomOf (now (out .entry)) (now («out_ends» .entry)) (now («out_times» .entry))) (now (packets .entry)) (now («packet_ends» .entry)) (now (times .entry))) (now («out_times» .entry)) ⌝ }
 {
-    if packets.len() > 4_000_000_000 {
+    if packets.len() > LIMIT {
         return Merged::Refused(34);
     }
     if packet_ends.len() != times.len() {
@@ -64,7 +65,7 @@ pub fn canonicalize_tu(unit: &[u8], out: &mut [u8]) -> Joined
     ensures answer { λ r. ⌜ joinedSays r ≡ countOf (canonicalAt (record { bytes = length (now (out .entry)); ends = 0 }) (now (unit .entry))) ⌝ }
     ensures out { λ _. ⌜ now (out .exit) ≡ outAfter (canonicalAt (record { bytes = length (now (out .entry)); ends = 0 }) (now (unit .entry))) (now (out .entry)) ⌝ }
 {
-    if unit.len() > 4_000_000_000 {
+    if unit.len() > LIMIT {
         return Joined::Refused(34);
     }
     if has_stray_delimiter(unit) {

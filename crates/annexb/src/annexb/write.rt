@@ -2,9 +2,9 @@
 ghost use mathlib.Core.Path.{_≡_};
 ghost use mathlib.Core.List.{flatMap};
 ghost use mathlib.Core.Bool.{true};
-ghost use Prim.Native.Nat.{_+_, _-_, _≤_, _<_};
+ghost use Prim.Native.Nat.{_+_, _-_, _≤_};
 ghost use lib.ListN.{length};
-ghost use Rattle.obu.specs.Obu.{obus, passes, header};
+ghost use Rattle.obu.specs.Obu.{obus, passes};
 ghost use Rattle.obu.specs.Place.{extensionSays};
 ghost use Rattle.obu.specs.Write.{obu};
 ghost use Rattle.container.specs.AnnexB.{innerBytes, annexbUnit, annexbBytes};
@@ -18,29 +18,11 @@ use crate::annexb::count::framed_len;
 use crate::annexb::count::inner_len;
 use bitio::leb128::put_leb128;
 use container::units::Joined;
-use obu::reader::Extension;
 use obu::reader::Obu;
 use obu::reader::ObuAt;
 use obu::reader::obu_at;
-
-// The header byte, without size, and the extension, where their room is known.
-fn put_inner_header(out: &mut [u8], at: usize, obu_type: u8, extension: Extension) -> usize
-    requires { ⌜ («obu_type» < 16) × (at + length (header 0 «obu_type» (extensionSays extension)) ≤ length (now out)) ⌝ }
-    ensures { λ r. ⌜ Laid (now (out .entry)) at (header 0 «obu_type» (extensionSays extension)) (now (out .exit)) r ⌝ }
-{
-    match extension {
-        Extension::Absent => {
-            out[at] = obu_type * 8;
-            at + 1
-        }
-        Extension::Byte(e) => {
-            out[at] = obu_type * 8 + 4;
-            let next = at + 1;
-            out[next] = e;
-            next + 1
-        }
-    }
-}
+use obu::writer::put_bytes;
+use obu::writer::put_header;
 
 // One OBU of u with its length at w.
 fn put_length_obu(u: &[u8], o: Obu, out: &mut [u8], w: usize) -> usize
@@ -52,8 +34,8 @@ fn put_length_obu(u: &[u8], o: Obu, out: &mut [u8], w: usize) -> usize
     let start = o.start;
     let end = o.end;
     let p = put_leb128(out, w, inner_len(extension, end - start) as u64);
-    let q = put_inner_header(out, p, o.obu_type, extension);
-    obu::writer::put_bytes(out, q, &u[start..end])
+    let q = put_header(out, p, o.obu_type, extension, 0);
+    put_bytes(out, q, &u[start..end])
 }
 
 // The OBUs of a unit.

@@ -4,12 +4,14 @@ ghost use mathlib.Core.Bool.{true, false};
 ghost use Prim.Native.Nat.{_≤_};
 ghost use lib.ListN.{length};
 ghost use Rattle.obu.specs.Obu.{obus};
+ghost use Rattle.obu.specs.Place.{obuPlace};
 ghost use Rattle.obu.specs.Unit.{strayIn, ofUnit};
 ghost use Rattle.bitio.specs.Limits.{limit};
 ghost use Rattle.container.specs.Units.{countOf, outAfter, joinedSays};
 ghost use Rattle.packets.specs.Packets.{canonicalAt};
-ghost use Rattle.packets.specs.Canonical.{Split, Clean};
-use crate::packets::runs::add;
+ghost use Rattle.packets.specs.Canonical.{endOf, Clean};
+use bitio::limits::LIMIT;
+use bitio::numbers::plus;
 use container::ranges::put_written;
 use container::ranges::written_len;
 use container::units::Joined;
@@ -17,14 +19,15 @@ use obu::reader::ObuAt;
 use obu::reader::obu_at;
 use obu::writer::put_bytes;
 
-// Where the first OBU of a unit that parses ends.
+// Where the first OBU ends, 0 if there is none.
 fn first_end(s: &[u8]) -> usize
-    ensures { λ r. ⌜ Split (now (s .entry)) r ⌝ }
+    ensures { λ r. ⌜ r ≡ endOf (obuPlace (now (s .entry)) 0) ⌝ }
 {
-    let ObuAt::Found(o) = obu_at(s, 0) else {
-        return 0;
-    };
-    o.end
+    match obu_at(s, 0) {
+        ObuAt::Found(o) => o.end,
+        ObuAt::End => 0,
+        ObuAt::Refused(_) => 0,
+    }
 }
 
 // The unit as it is, if it has room.
@@ -47,11 +50,11 @@ pub(crate) fn clean_unit(unit: &[u8], out: &mut [u8]) -> Joined
 {
     let mid = first_end(unit);
     let end = unit.len();
-    let len = add(
+    let len = plus(
         written_len(unit, 0, mid, true),
         written_len(unit, mid, end, false),
     );
-    if len > 4_000_000_000 {
+    if len > LIMIT {
         return Joined::Refused(35);
     }
     if len > out.len() {

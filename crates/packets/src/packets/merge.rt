@@ -10,9 +10,10 @@ use crate::packets::lists::first_full;
 use crate::packets::lists::next_close;
 use crate::packets::pieces::piece_len;
 use crate::packets::pieces::put_piece;
-use crate::packets::runs::add;
 use crate::packets::runs::put_run;
 use crate::packets::runs::run_len;
+use bitio::numbers::plus;
+use container::room::has_room;
 
 struct Total {
     bytes: usize,
@@ -30,10 +31,11 @@ fn stop_at(c: usize, next: usize, n: usize) -> usize
     n
 }
 
-fn has_room(n: usize, u: usize, bytes: usize, ends: usize, times: usize) -> bool
+// Whether n bytes, and the ends and times of u packets, have room.
+fn has_packet_room(n: usize, u: usize, bytes: usize, ends: usize, times: usize) -> bool
     ensures { λ r. ⌜ r ≡ fitsPackets n u (record { bytes = bytes; ends = ends; times = times }) ⌝ }
 {
-    (n <= 4_000_000_000) & ((n <= bytes) & ((u <= ends) & (u <= times)))
+    has_room(n, u, bytes, ends) & (u <= times)
 }
 
 // How many bytes and packets go out, the first that closes being c.
@@ -49,7 +51,7 @@ fn measure(packets: &[u8], ends: &[u32], times: &[u64], c: usize) -> Total
     while first < n {
         let next = next_close(packets, ends, at + 1);
         let stop = stop_at(at, next, n);
-        bytes = add(bytes, piece_len(packets, ends, first, at, stop));
+        bytes = plus(bytes, piece_len(packets, ends, first, at, stop));
         count += 1;
         first = stop;
         at = next;
@@ -104,7 +106,7 @@ pub(crate) fn merge_some(
     ensures { λ r. ⌜ Outcome (now (packets .entry)) (now (ends .entry)) (now (times .entry)) (now (out .entry)) (now («out_ends» .entry)) (now («out_times» .entry)) r (now (out .exit)) (now («out_ends» .exit)) (now («out_times» .exit)) ⌝ }
 {
     let total = measure(packets, ends, times, c);
-    if !has_room(
+    if !has_packet_room(
         total.bytes,
         total.packets,
         out.len(),
@@ -135,7 +137,7 @@ pub(crate) fn merge_none(
         return Merged::Packets(0, 0);
     }
     let len = run_len(packets, ends, 0, n, true);
-    if !has_room(len, 1, out.len(), out_ends.len(), out_times.len()) {
+    if !has_packet_room(len, 1, out.len(), out_ends.len(), out_times.len()) {
         return Merged::Refused(35);
     }
     put_run(packets, ends, 0, n, true, out, 0);

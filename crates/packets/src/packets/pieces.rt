@@ -8,10 +8,10 @@ ghost use Rattle.container.specs.Stream.{lead, either};
 ghost use Rattle.packets.specs.PacketRuns.{listed, unitOf, held, parsed, leadOf, piece, parsesUnit, most, Run, Piece, Joins, PieceRoom, JoinsRoom};
 use crate::packets::lists::first_full;
 use crate::packets::lists::packet;
-use crate::packets::runs::add;
 use crate::packets::runs::lead_end;
 use crate::packets::runs::put_run;
 use crate::packets::runs::run_len;
+use bitio::numbers::plus;
 use container::ranges::put_written;
 use container::ranges::written_len;
 use obu::unit::Counted;
@@ -62,7 +62,7 @@ fn joined_len(packets: &[u8], ends: &[u32], a: usize, c: usize, b: usize) -> usi
 {
     let u = packet(packets, ends, lead_of(packets, ends, a, c, b));
     let head = written_len(u, 0, lead_end(u), true);
-    add(head, run_len(packets, ends, a, b, false))
+    plus(head, run_len(packets, ends, a, b, false))
 }
 
 // How many bytes the output packet has.
@@ -74,8 +74,8 @@ pub(crate) fn piece_len(packets: &[u8], ends: &[u32], a: usize, c: usize, b: usi
     if parses(u) {
         return joined_len(packets, ends, a, c, b);
     }
-    let front = add(run_len(packets, ends, a, c, true), u.len());
-    add(front, run_len(packets, ends, c + 1, b, true))
+    let front = plus(run_len(packets, ends, a, c, true), u.len());
+    plus(front, run_len(packets, ends, c + 1, b, true))
 }
 
 // Writes the output packet at `to`, where the one at c parses and the room is known.

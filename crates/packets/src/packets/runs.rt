@@ -1,27 +1,18 @@
 // Runs of packets: how many bytes their OBUs have, written one behind the other, and the writing.
 ghost use mathlib.Core.Path.{_≡_};
-ghost use Prim.Native.Nat.{_+_, min};
+ghost use Prim.Native.Nat.{min};
 ghost use lib.ListN.{length};
 ghost use lib.Seq.{slice};
 ghost use Rattle.container.specs.Ranges.{keptBytes, Range, Wrote};
 ghost use Rattle.packets.specs.PacketRuns.{listed, held, leadOf, most, Run, RunRoom};
 use crate::packets::lists::packet;
+use bitio::numbers::plus;
 use container::ranges::put_written;
 use container::ranges::written_len;
 use obu::reader::ObuAt;
 use obu::reader::obu_at;
 use obu::unit::Kind;
 use obu::unit::is_type;
-
-// A sum, as far as a usize counts.
-pub(crate) fn add(a: usize, b: usize) -> usize
-    ensures { λ r. ⌜ r ≡ min (a + b) most ⌝ }
-{
-    if 0xffff_ffff_ffff_ffff - a < b {
-        return 0xffff_ffff_ffff_ffff;
-    }
-    a + b
-}
 
 // Where the delimiter at the head of a packet ends, 0 if there is none.
 pub(crate) fn lead_end(s: &[u8]) -> usize
@@ -45,7 +36,7 @@ pub(crate) fn run_len(packets: &[u8], ends: &[u32], a: usize, b: usize, keep: bo
     let mut n: usize = 0;
     while i < b {
         let u = packet(packets, ends, i);
-        n = add(n, written_len(u, 0, u.len(), keep));
+        n = plus(n, written_len(u, 0, u.len(), keep));
         i += 1;
     }
     n

@@ -52,11 +52,11 @@ put-leb128-requires c κs =
     let b = c .before .before .before .before in
     rw (c .inner-len .ensures) (omega (arith, b .pre .1 .1))
 
-put-inner-header-requires : tie.Need-put-inner-header-requires
-put-inner-header-requires c κs =
+put-header-requires : tie.Need-put-header-requires
+put-header-requires c κs =
     let l = c .before .before .before in
     let b = l .before .before .before .before .before in
-    (passes-small _ (b .pre .1 .0), omega (arith, room l))
+    (passes-small _ (b .pre .1 .0), omega arith, omega (arith, room l))
 
 sub-put-bytes : tie.Need-sub-put-bytes
 sub-put-bytes c = search needs
@@ -73,7 +73,7 @@ put-bytes-requires c κs =
     let h = c .before .before .before .before in
     let l = h .before .before .before .before in
     let b = l .before .before .before .before .before in
-    omega (arith, room l, h .put-inner-header .ensures .next, size b, h .put-inner-header .kept)
+    omega (arith, room l, h .put-header .ensures .0, size b, h .put-header .kept)
 
 same-length : tie.Need-same-length
 same-length c = search needs
@@ -86,8 +86,9 @@ returns c =
     let l = h .before .before .before .before in
     let b = l .before .before .before .before .before in
     let e = p .put-bytes .ensures in
+    let k = h .put-header .ensures in
     let o = b .args .o in
-    inner-laid (omega (arith, b .pre .1 .1)) (o .«obu_type») (extensionSays (o .extension)) (span (now (b .args .u)) (o .start) (o .end)) (wrote l) (h .put-inner-header .ensures) (record { next = e .0; out = e .1 })
+    inner-laid (omega (arith, b .pre .1 .1)) (o .«obu_type») (extensionSays (o .extension)) (span (now (b .args .u)) (o .start) (o .end)) (wrote l) (record { next = omega (arith, k .0); out = k .1 }) (record { next = e .0; out = e .1 })
 
 pub put-length-obu-spec : {M : Type 1} → statement M
 put-length-obu-spec =
@@ -96,7 +97,7 @@ put-length-obu-spec =
     sub-inner-len
     inner-len-requires
     put-leb128-requires
-    put-inner-header-requires
+    put-header-requires
     sub-put-bytes
     part-put-bytes-start
     part-put-bytes-end

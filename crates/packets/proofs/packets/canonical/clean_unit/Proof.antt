@@ -10,7 +10,7 @@ use Rattle.bitio.specs.Lent.{pasted}
 use Rattle.bitio.proofs.LentLaws.{pasted-more, pasted-length}
 use Rattle.container.specs.Ranges.{Range, keptBytes}
 use Rattle.packets.specs.PacketRuns.{most}
-use Rattle.packets.proofs.CanonicalLaws.{Stray, stray, canon-large, canon-full, canon-there}
+use Rattle.packets.proofs.CanonicalLaws.{split-first, Stray, stray, canon-large, canon-full, canon-there}
 use Rattle.packets.proofs.packets.canonical.clean_unit.Statement.{statement}
 use Rattle.packets.proofs.packets.canonical.clean_unit.Tie as tie
 
@@ -24,8 +24,8 @@ parted : (c : tie.After-first-end) → Parted (now (c .before .before .before .a
 parted c =
     let s = c .before .before .before in
     let t = stray (now (s .args .unit)) (s .pre .1) in
-    let r = c .first-end .ensures (t .o) (t .os) (t .reads) in
-    record { it = t; front = r .0; back = r .1 }
+    let r = split-first (now (s .args .unit)) (t .o) (t .os) (t .reads) in
+    rw (c .first-end .ensures) (record { it = t; front = r .0; back = r .1 })
 
 -- what is written
 abbrev clean : {u : List ℕ} {m : ℕ} → Parted u m → List ℕ
@@ -36,13 +36,13 @@ record Sized (u : List ℕ) (m n : ℕ) : Type 0 where
   parts : Parted u m
   size : n ≡ min (length (clean parts)) most
 
-sized : (c : tie.After-add) → Sized (now (c .before .before .before .before .before .before .args .unit)) (c .before .before .before .first-end .result) (c .add .result)
+sized : (c : tie.After-plus) → Sized (now (c .before .before .before .before .before .before .args .unit)) (c .before .before .before .first-end .result) (c .plus .result)
 sized c =
     let p = parted (c .before .before .before) in
     let x = c .before .before .written-len .ensures (p .it .o ∷ []) (p .front) in
     let y = c .before .written-len2 .ensures (p .it .os) (p .back) in
     let n = length-append (keptBytes true (p .it .o ∷ [])) (keptBytes false (p .it .os)) in
-    record { parts = p; size = omega (arith, c .add .ensures) }
+    record { parts = p; size = omega (arith, c .plus .ensures) }
 
 first-end-requires : tie.Need-first-end-requires
 first-end-requires c κs = search needs
@@ -53,8 +53,8 @@ written-len-requires c κs = let p = parted c in record { short = c .before .bef
 written-len-requires-2 : tie.Need-written-len-requires-2
 written-len-requires-2 c κs = let p = parted (c .before) in record { short = c .before .before .before .before .pre .0; os = p .it .os; range = p .back }
 
-add-requires : tie.Need-add-requires
-add-requires c κs = search needs
+plus-requires : tie.Need-plus-requires
+plus-requires c κs = search needs
 
 returns : tie.Need-returns
 returns c =
@@ -108,7 +108,7 @@ clean-unit-spec =
     first-end-requires
     written-len-requires
     written-len-requires-2
-    add-requires
+    plus-requires
     returns
     returns-2
     put-written-requires

@@ -1,29 +1,27 @@
 use borrow.Author.Needs.{needs}
 use mathlib.Core.Path.{sym, ap, _∙_}
-use denote.Ref.{now}
-use Rattle.obu.specs.Place.{obuSays, extensionSays}
-use Rattle.obu.proofs.PlaceLaws.{IsPlaced, is-placed}
-use Rattle.packets.proofs.CanonicalLaws.{split-none, split-at}
+use Rattle.obu.specs.Place.{obuSays}
+use Rattle.packets.specs.Canonical.{endOf}
 use Rattle.packets.proofs.packets.canonical.first_end.Statement.{statement}
 use Rattle.packets.proofs.packets.canonical.first_end.Tie as tie
 
--- the OBU that obu_at gave
-got : (c : tie.After-o)
-    → (let o = c .o .given .0 .0 in
-    IsPlaced (now (c .before .before .before .before .args .s)) 0 (o .«obu_type») (extensionSays (o .extension)) (o .start) (o .end))
-got c = is-placed _ _ (sym (c .before .before .obu-at .ensures) ∙ ap obuSays (c .o .given .1))
-
-obu-at-requires : tie.Need-obu-at-requires
-obu-at-requires c κs = search needs
-
-enum-known-o : tie.Need-enum-known-o
-enum-known-o c = search needs
-
 returns : tie.Need-returns
-returns c = split-none _ (c .before .obu-at .result) (c .match .keys2) (c .before .obu-at .ensures)
+returns c = ap endOf (sym (ap obuSays (c .before .o .given .1)) ∙ c .before .before .before .obu-at .ensures)
 
 returns-2 : tie.Need-returns-2
-returns-2 c = split-at (got (c .before) .placed)
+returns-2 c = ap endOf (sym (ap obuSays (c .enum-told .given .1)) ∙ c .before .before .obu-at .ensures)
+
+returns-3 : tie.Need-returns-3
+returns-3 c = ap endOf (sym (ap obuSays (c .enum-told2 .given .1)) ∙ c .before .before .obu-at .ensures)
 
 pub first-end-spec : {M : Type 1} → statement M
-first-end-spec = tie.close (tie.spec obu-at-requires enum-known-o returns returns-2)
+first-end-spec =
+    tie.close
+    (tie.spec
+    (λ c κs. search needs)
+    (λ c. search needs)
+    (λ c. search needs)
+    (λ c. search needs)
+    returns
+    returns-2
+    returns-3)

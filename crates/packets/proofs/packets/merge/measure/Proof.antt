@@ -35,8 +35,8 @@ piece-len-requires c κs =
     let k = c .before in
     done-piece (k .before .before .loop .inv .1 .state) (left (k .before)) (k .next-close .ensures) (c .stop-at .ensures)
 
-add-requires : tie.Need-add-requires Inv-loop μ-loop
-add-requires c κs = search needs
+plus-requires : tie.Need-plus-requires Inv-loop μ-loop
+plus-requires c κs = search needs
 
 add-count : tie.Need-add-count Inv-loop μ-loop
 add-count c = let m = c .before .before .before .before .before .loop .inv .1 in omega (arith, m .count, m .state .few, m .state .within)
@@ -51,7 +51,7 @@ loop-again : tie.Need-loop-again Inv-loop μ-loop
 loop-again c =
     let k = c .before .before .before in
     let l = k .before .before .loop in
-    (l .inv .0, measure-next (l .inv .1) (left (k .before)) (k .next-close .ensures) (c .before .before .stop-at .ensures) (c .before .piece-len .ensures) (c .add .ensures))
+    (l .inv .0, measure-next (l .inv .1) (left (k .before)) (k .next-close .ensures) (c .before .before .stop-at .ensures) (c .before .piece-len .ensures) (c .plus .ensures))
 
 returns : tie.Need-returns Inv-loop μ-loop
 returns c = let l = c .before .loop in measure-end (l .inv .1) (omega arith)
@@ -67,7 +67,7 @@ measure-spec =
     next-close-requires
     stop-at-requires
     piece-len-requires
-    add-requires
+    plus-requires
     add-count
     loop-less
     loop-again

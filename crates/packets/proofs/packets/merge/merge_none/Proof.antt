@@ -24,7 +24,7 @@ totals c =
 
 -- it has room
 fits : (c : tie.Else2) → (let a = c .before .before .before .before .before .before .before .before .before .before .before .args in fitsPackets (c .before .before .run-len .result) 1 (roomOf (now (a .out)) (now (a .out-ends)) (now (a .out-times))) ≡ true)
-fits c = sym (c .before .has-room .ensures) ∙ not-false _ (c .if2 .left)
+fits c = sym (c .before .has-packet-room .ensures) ∙ not-false _ (c .if2 .left)
 
 room : (c : tie.Else2) → (let a = c .before .before .before .before .before .before .before .before .before .before .before .args in Roomy (now (a .packets)) (now (a .ends)) (now (a .times)) (now (a .out)) (now (a .out-ends)) (now (a .out-times)))
 room c =
@@ -44,14 +44,14 @@ returns c =
 run-len-requires : tie.Need-run-len-requires
 run-len-requires c κs = let s = c .before .before .before .before .before .before .before .before in let a = s .args in none-run (now (a .packets)) (now (a .ends)) (now (a .times)) (s .pre)
 
-has-room-requires : tie.Need-has-room-requires
-has-room-requires c κs = search needs
+has-packet-room-requires : tie.Need-has-packet-room-requires
+has-packet-room-requires c κs = search needs
 
 returns-2 : tie.Need-returns-2
 returns-2 c =
     let s = c .before .before .before .before .before .before .before .before .before .before .before in
     let a = s .args in
-    out-full (now (a .packets)) (now (a .ends)) (now (a .times)) (now (a .out)) (now (a .out-ends)) (now (a .out-times)) (s .pre .given) _ _ (totals (c .before .before)) (sym (c .before .has-room .ensures) ∙ not-true _ (c .if2 .taken))
+    out-full (now (a .packets)) (now (a .ends)) (now (a .times)) (now (a .out)) (now (a .out-ends)) (now (a .out-times)) (s .pre .given) _ _ (totals (c .before .before)) (sym (c .before .has-packet-room .ensures) ∙ not-true _ (c .if2 .taken))
 
 put-run-requires : tie.Need-put-run-requires
 put-run-requires c κs =
@@ -112,7 +112,7 @@ merge-none-spec =
     first-full-requires
     returns
     run-len-requires
-    has-room-requires
+    has-packet-room-requires
     returns-2
     put-run-requires
     cast-out-ends

@@ -9,14 +9,14 @@ use Rattle.packets.proofs.packets.merge.merge_some.Tie as tie
 measure-requires : tie.Need-measure-requires
 measure-requires c κs = closing (c .before .before .before .before .before .before .pre)
 
-has-room-requires : tie.Need-has-room-requires
-has-room-requires c κs = search needs
+has-packet-room-requires : tie.Need-has-packet-room-requires
+has-packet-room-requires c κs = search needs
 
 returns : tie.Need-returns
 returns c =
     let s = c .before .before .before .before .before .before .before .before .before in
     let a = s .args in
-    out-full (now (a .packets)) (now (a .ends)) (now (a .times)) (now (a .out)) (now (a .out-ends)) (now (a .out-times)) (s .pre .given) _ _ (c .before .before .measure .ensures) (sym (c .before .has-room .ensures) ∙ not-true _ (c .if1 .taken))
+    out-full (now (a .packets)) (now (a .ends)) (now (a .times)) (now (a .out)) (now (a .out-ends)) (now (a .out-times)) (s .pre .given) _ _ (c .before .before .measure .ensures) (sym (c .before .has-packet-room .ensures) ∙ not-true _ (c .if1 .taken))
 
 write-requires : tie.Need-write-requires
 write-requires c κs =
@@ -25,7 +25,7 @@ write-requires c κs =
     let a = s .args in
     record {
       closing = closing (s .pre);
-      room = out-room (now (a .packets)) (now (a .ends)) (now (a .times)) (now (a .out)) (now (a .out-ends)) (now (a .out-times)) (s .pre .given) _ _ (k .before .before .measure .ensures) (sym (k .before .has-room .ensures) ∙ not-false _ (k .if1 .left));
+      room = out-room (now (a .packets)) (now (a .ends)) (now (a .times)) (now (a .out)) (now (a .out-ends)) (now (a .out-times)) (s .pre .given) _ _ (k .before .before .measure .ensures) (sym (k .before .has-packet-room .ensures) ∙ not-false _ (k .if1 .left));
     }
 
 same-length : tie.Need-same-length
@@ -43,14 +43,14 @@ returns-2 c =
     let k = w .before .before .before .before in
     let s = k .before .before .before .before .before .before .before .before .before in
     let a = s .args in
-    out-there (now (a .packets)) (now (a .ends)) (now (a .times)) (now (a .out)) (now (a .out-ends)) (now (a .out-times)) (s .pre .given) _ _ (k .before .before .measure .ensures) (sym (k .before .has-room .ensures) ∙ not-false _ (k .if1 .left)) (w .write .ensures)
+    out-there (now (a .packets)) (now (a .ends)) (now (a .times)) (now (a .out)) (now (a .out-ends)) (now (a .out-times)) (s .pre .given) _ _ (k .before .before .measure .ensures) (sym (k .before .has-packet-room .ensures) ∙ not-false _ (k .if1 .left)) (w .write .ensures)
 
 pub merge-some-spec : {M : Type 1} → statement M
 merge-some-spec =
     tie.close
     (tie.spec
     measure-requires
-    has-room-requires
+    has-packet-room-requires
     returns
     write-requires
     same-length

@@ -22,8 +22,8 @@ written-len-requires c κs =
 run-len-requires : tie.Need-run-len-requires
 run-len-requires c κs = let s = c .before .before .before .before .before .before in whole-run (s .pre .all) (s .pre .mid)
 
-add-requires : tie.Need-add-requires
-add-requires c κs = search needs
+plus-requires : tie.Need-plus-requires
+plus-requires c κs = search needs
 
 returns : tie.Need-returns
 returns c =
@@ -32,7 +32,7 @@ returns c =
     let p = c .before .before .before .before in
     joined-size (now (a .packets)) (now (a .ends)) (a .a) (a .c) (a .b) (s .pre) _ (p .before .lead-of .ensures)
     (head-measured (now (a .packets)) (now (a .ends)) _ (s .pre .all .short) (p .packet .ensures) (c .before .before .before .lead-end .ensures) (c .before .before .written-len .ensures))
-    (c .before .run-len .ensures) (c .add .ensures)
+    (c .before .run-len .ensures) (c .plus .ensures)
 
 pub joined-len-spec : {M : Type 1} → statement M
 joined-len-spec =
@@ -43,5 +43,5 @@ joined-len-spec =
     lead-end-requires
     written-len-requires
     run-len-requires
-    add-requires
+    plus-requires
     returns)

@@ -23,8 +23,8 @@ returns c = search needs
 run-len-requires : tie.Need-run-len-requires
 run-len-requires c κs = front-run (c .before .before .before .before .before .pre)
 
-add-requires : tie.Need-add-requires
-add-requires c κs = search needs
+plus-requires : tie.Need-plus-requires
+plus-requires c κs = search needs
 
 add-run-len : tie.Need-add-run-len
 add-run-len c = let p = c .before .before .before .before .before .before .before .pre in omega (arith, p .after, p .within)
@@ -32,8 +32,8 @@ add-run-len c = let p = c .before .before .before .before .before .before .befor
 run-len-requires-2 : tie.Need-run-len-requires-2
 run-len-requires-2 c κs = back-run (c .before .before .before .before .before .before .before .pre)
 
-add-requires-2 : tie.Need-add-requires-2
-add-requires-2 c κs = search needs
+plus-requires-2 : tie.Need-plus-requires-2
+plus-requires-2 c κs = search needs
 
 returns-2 : tie.Need-returns-2
 returns-2 c =
@@ -41,7 +41,7 @@ returns-2 c =
     let s = e .before .before .before .before .before in
     let a = s .args in
     let n = parses-not _ (ap parsesUnit (sym (e .before .before .packet .ensures)) ∙ sym (e .before .parses .ensures) ∙ e .if1 .left) in
-    apart-size (now (a .packets)) (now (a .ends)) (a .a) (a .c) (a .b) (s .pre) (n .0) (n .1) (c .before .before .before .run-len .ensures) (ap length (e .before .before .packet .ensures)) (c .before .before .add .ensures) (c .before .run-len2 .ensures) (c .add2 .ensures)
+    apart-size (now (a .packets)) (now (a .ends)) (a .a) (a .c) (a .b) (s .pre) (n .0) (n .1) (c .before .before .before .run-len .ensures) (ap length (e .before .before .packet .ensures)) (c .before .before .plus .ensures) (c .before .run-len2 .ensures) (c .plus2 .ensures)
 
 pub piece-len-spec : {M : Type 1} → statement M
 piece-len-spec =
@@ -52,8 +52,8 @@ piece-len-spec =
     joined-len-requires
     returns
     run-len-requires
-    add-requires
+    plus-requires
     add-run-len
     run-len-requires-2
-    add-requires-2
+    plus-requires-2
     returns-2)

@@ -29,8 +29,8 @@ written-len-requires c κs =
     let l = c .before .before .loop in
     run-ranged (c .before .before .before .before .before .pre) (l .i) (l .inv .0) (c .before .loop-test .taken) (c .packet .ensures)
 
-add-requires : tie.Need-add-requires Inv-loop μ-loop
-add-requires c κs = search needs
+plus-requires : tie.Need-plus-requires Inv-loop μ-loop
+plus-requires c κs = search needs
 
 add-i : tie.Need-add-i Inv-loop μ-loop
 add-i c = search needs
@@ -42,7 +42,7 @@ loop-again : tie.Need-loop-again Inv-loop μ-loop
 loop-again c =
     let p = c .before .before in
     let l = p .before .before .loop in
-    (omega (arith, l .inv .0), omega arith, run-turn (p .before .before .before .before .before .pre) (l .i) (l .inv .0) (p .before .loop-test .taken) (p .packet .ensures) (p .before .before .before .before .before .args .keep) (l .inv .2) (c .before .written-len .ensures) (c .add .ensures))
+    (omega (arith, l .inv .0), omega arith, run-turn (p .before .before .before .before .before .pre) (l .i) (l .inv .0) (p .before .loop-test .taken) (p .packet .ensures) (p .before .before .before .before .before .args .keep) (l .inv .2) (c .before .written-len .ensures) (c .plus .ensures))
 
 returns : tie.Need-returns Inv-loop μ-loop
 returns c =
@@ -59,7 +59,7 @@ run-len-spec =
     loop-holds
     packet-requires
     written-len-requires
-    add-requires
+    plus-requires
     add-i
     loop-less
     loop-again
