@@ -17,7 +17,7 @@ use Rattle.container.specs.Stream.{lead, others, either}
 use Rattle.container.specs.Ranges.{Range, here, more, keptBytes, Ranged, Measured, Roomy, Wrote, WroteKept}
 use Rattle.container.proofs.StreamLaws.{bytes-append}
 use Rattle.container.proofs.RangeLaws.{range-end}
-use Rattle.packets.specs.PacketRuns.{listed, unitOf, held, parsed, leadOf, piece, most, Parses, Full, Run, RunRoom, parsesUnit, Piece, Joins}
+use Rattle.packets.specs.PacketRuns.{listed, unitOf, held, parsed, leadOf, piece, most, Parses, Full, Run, RunRoom, HeadAt, found, missing, LeadAt, waiting, closing, behind, parsesUnit, Piece, Joins}
 use Rattle.packets.proofs.SliceLaws.{slice-at, every-join, every-or}
 use Rattle.packets.proofs.PacketListLaws.{listed-length, listed-out, listed-short}
 use Rattle.packets.proofs.PacketSteps.{first-obu, lead-found, lead-missing}
@@ -65,13 +65,17 @@ module _ {s es : List ℕ} {a b i : ℕ} (r : Run s es a b) (f : Full (listed s 
   inside : b ≤ length (listed s es)
   inside = omega (arith, listed-length 0 s es, r .within)
 
-  pub head-found : i < b → leadOf (unitOf s es i) ≡ lead (held (slice a b (listed s es)))
+  head-found : i < b → leadOf (unitOf s es i) ≡ lead (held (slice a b (listed s es)))
   head-found l = lead-found (listed s es) a b i inside f l (r .parse)
 
-  pub head-missing : b ≤ i → leadOf (unitOf s es (length es)) ≡ lead (held (slice a b (listed s es)))
+  head-missing : b ≤ i → leadOf (unitOf s es (length es)) ≡ lead (held (slice a b (listed s es)))
   head-missing l =
       let e : i ≡ b = omega (arith, f .within) in
       rw (listed-out s es (length es) (omega arith), lead-empty, lead-missing (listed s es) a b i inside f e)
+
+head-leads : {s es : List ℕ} {a b r : ℕ} → Run s es a b → HeadAt s es a b r → leadOf (unitOf s es r) ≡ lead (held (slice a b (listed s es)))
+head-leads x (found f l) = head-found x f l
+head-leads x (missing f l) = head-missing x f l
 
 range-nil : {s : List ℕ} {a b : ℕ} {l : List Obu} → Range s a b l → l ≡ [] → a ≡ b
 range-nil (here l) e = refl
@@ -79,12 +83,8 @@ range-nil (more p r) e = let z : _≡_ {A = ℕ} 0 1 = cc in absurd (omega arith
 
 module _ {u v : List ℕ} (q : u ≡ v) {e : ℕ} (r : Range u 0 e (leadOf u)) where
   -- a delimiter stands there
-  pub lead-yes : 0 < e → (x : List Obu) → leadOf v ≡ either (leadOf v) x
-  lead-yes l x = rw (← q) (go (leadOf u) r)
-    where
-      go : (m : List Obu) → Range u 0 e m → m ≡ either m x
-      go [] k = let z = range-nil k refl in absurd (omega arith)
-      go (o ∷ os) k = refl
+  pub lead-yes : 0 < e → leadOf v ≡ [] → ⊥
+  lead-yes l n = let z = range-nil r (ap leadOf q ∙ n) in omega arith
 
   -- none does
   pub lead-no : e ≤ 0 → leadOf v ≡ []
@@ -160,28 +160,24 @@ module _ (s es : List ℕ) (a c b : ℕ) (j : Joins s es a c b) where
   abbrev third : List Obu
   third = lead (held (slice (c + 1) b (listed s es)))
 
-  module _ (i : ℕ) (h : leadOf (unitOf s es i) ≡ first) {u : List ℕ} (q : u ≡ unitOf s es i) {e : ℕ} (r : Range u 0 e (leadOf u)) where
-    pub take-first : 0 < e → leadOf (unitOf s es i) ≡ either first (either second third)
-    take-first l = lead-yes q r l (either second third) ∙ ap (λ y. either y (either second third)) h
+  either-some : (x y : List Obu) → (x ≡ [] → ⊥) → x ≡ either x y
+  either-some [] y n = absurd (n refl)
+  either-some (o ∷ x) y n = refl
 
-    pub none-first : e ≤ 0 → first ≡ []
-    none-first l = sym h ∙ lead-no q r l
-
-  module _ (n : first ≡ []) {u : List ℕ} (q : u ≡ unitOf s es c) {e : ℕ} (r : Range u 0 e (leadOf u)) where
-    pub take-second : 0 < e → leadOf (unitOf s es c) ≡ either first (either second third)
-    take-second l =
-        lead-yes q r l third ∙ ap (λ y. either y third) (lead-parsed (unitOf s es c) (j .mid)) ∙ ap (λ y. either y (either second third)) (sym n)
-
-    pub take-third : e ≤ 0 → (i : ℕ) → leadOf (unitOf s es i) ≡ third → leadOf (unitOf s es i) ≡ either first (either second third)
-    take-third l i h =
-        let k : second ≡ [] = sym (lead-parsed (unitOf s es c) (j .mid)) ∙ lead-no q r l in
-        h ∙ ap (λ y. either y third) (sym k) ∙ ap (λ y. either y (either second third)) (sym n)
+  lead-leads : {r : ℕ} → LeadAt s es a c b r → leadOf (unitOf s es r) ≡ either first (either second third)
+  lead-leads (waiting {i} h n) =
+      either-some (leadOf (unitOf s es i)) (either second third) n ∙ ap (λ y. either y (either second third)) (head-leads (front-run (j .all)) h)
+  lead-leads (closing h n m) =
+      rw (← head-leads (front-run (j .all)) h, n)
+      (either-some (leadOf (unitOf s es c)) third m ∙ ap (λ y. either y third) (lead-parsed (unitOf s es c) (j .mid)))
+  lead-leads (behind h n m k) =
+      rw (← head-leads (front-run (j .all)) h, n, ← lead-parsed (unitOf s es c) (j .mid), m) (head-leads (back-run (j .all)) k)
 
   -- ---- where the packet that closes parses
 
-  module _ (i : ℕ) (h : leadOf (unitOf s es i) ≡ either first (either second third)) where
+  module _ (i : ℕ) (h : LeadAt s es a c b i) where
     split : piece (listed s es) a c b ≡ keptBytes true (leadOf (unitOf s es i)) ++ runBytes false (listed s es) a b
-    split = piece-joined (j .all) (j .mid) (leadOf (unitOf s es i)) h
+    split = piece-joined (j .all) (j .mid) (leadOf (unitOf s es i)) (lead-leads h)
 
     split-length : length (piece (listed s es) a c b) ≡ length (keptBytes true (leadOf (unitOf s es i))) + length (runBytes false (listed s es) a b)
     split-length = ap length split ∙ length-append (keptBytes true (leadOf (unitOf s es i))) (runBytes false (listed s es) a b)

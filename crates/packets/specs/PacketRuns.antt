@@ -104,6 +104,18 @@ pub record RunRoom (s es : List ℕ) (a b : ℕ) (keep : Bool) (d : List ℕ) (t
   pub run : Run s es a b
   pub room : to + length (keptBytes keep (held (slice a b (listed s es)))) ≤ length d
 
+-- r is the packet at the head of those from a to b: the first with bytes, or the number of packets where none has any
+pub data HeadAt (s es : List ℕ) (a b : ℕ) : ℕ → Type 0 where
+  found : {i : ℕ} → Full (listed s es) a b i → i < b → HeadAt s es a b i
+  missing : {i : ℕ} → Full (listed s es) a b i → b ≤ i → HeadAt s es a b (length es)
+
+-- r is the packet whose delimiter moves to the front: the head of those that wait, the one that closes, the head of those
+-- behind it, the first of them that has one
+pub data LeadAt (s es : List ℕ) (a c b : ℕ) : ℕ → Type 0 where
+  waiting : {i : ℕ} → HeadAt s es a c i → (leadOf (unitOf s es i) ≡ [] → ⊥) → LeadAt s es a c b i
+  closing : {i : ℕ} → HeadAt s es a c i → leadOf (unitOf s es i) ≡ [] → (leadOf (unitOf s es c) ≡ [] → ⊥) → LeadAt s es a c b c
+  behind : {i j : ℕ} → HeadAt s es a c i → leadOf (unitOf s es i) ≡ [] → leadOf (unitOf s es c) ≡ [] → HeadAt s es (c + 1) b j → LeadAt s es a c b j
+
 -- whether a unit parses
 abbrev pub parsesUnit : List ℕ → Bool
 parsesUnit u = ofUnit false (λ os. true) (obus u)

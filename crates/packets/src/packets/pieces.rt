@@ -1,11 +1,9 @@
 // One output packet: the packets that wait, from a to c, the one that closes, at c, and those behind it, up to b.
 ghost use mathlib.Core.Path.{_≡_};
-ghost use Prim.Native.Nat.{_+_, min};
+ghost use Prim.Native.Nat.{min};
 ghost use lib.ListN.{length};
-ghost use lib.Seq.{slice};
 ghost use Rattle.container.specs.Ranges.{Wrote};
-ghost use Rattle.container.specs.Stream.{lead, either};
-ghost use Rattle.packets.specs.PacketRuns.{listed, unitOf, held, parsed, leadOf, piece, parsesUnit, most, Run, Piece, Joins, PieceRoom, JoinsRoom};
+ghost use Rattle.packets.specs.PacketRuns.{listed, piece, parsesUnit, most, Run, HeadAt, LeadAt, Piece, Joins, PieceRoom, JoinsRoom};
 use crate::packets::lists::first_full;
 use crate::packets::lists::packet;
 use crate::packets::runs::lead_end;
@@ -28,10 +26,10 @@ fn parses(s: &[u8]) -> bool
     }
 }
 
-// A packet whose head is that of the run from a to b, or the number of packets.
+// The first packet with bytes of the run from a to b, or the number of packets.
 fn head_of(packets: &[u8], ends: &[u32], a: usize, b: usize) -> usize
     requires { ⌜ Run (now packets) (now ends) a b ⌝ }
-    ensures { λ r. ⌜ leadOf (unitOf (now (packets .entry)) (now (ends .entry)) r) ≡ lead (held (slice a b (listed (now (packets .entry)) (now (ends .entry))))) ⌝ }
+    ensures { λ r. ⌜ HeadAt (now (packets .entry)) (now (ends .entry)) a b r ⌝ }
 {
     let i = first_full(packets, ends, a, b);
     if i < b {
@@ -43,7 +41,7 @@ fn head_of(packets: &[u8], ends: &[u32], a: usize, b: usize) -> usize
 // The packet at whose head the delimiter stands that moves to the front, if there is one.
 fn lead_of(packets: &[u8], ends: &[u32], a: usize, c: usize, b: usize) -> usize
     requires { ⌜ Joins (now packets) (now ends) a c b ⌝ }
-    ensures { λ r. ⌜ leadOf (unitOf (now (packets .entry)) (now (ends .entry)) r) ≡ either (lead (held (slice a c (listed (now (packets .entry)) (now (ends .entry)))))) (either (lead (parsed (unitOf (now (packets .entry)) (now (ends .entry)) c))) (lead (held (slice (c + 1) b (listed (now (packets .entry)) (now (ends .entry))))))) ⌝ }
+    ensures { λ r. ⌜ LeadAt (now (packets .entry)) (now (ends .entry)) a c b r ⌝ }
 {
     let i = head_of(packets, ends, a, c);
     if lead_end(packet(packets, ends, i)) > 0 {
