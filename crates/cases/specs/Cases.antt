@@ -21,7 +21,7 @@ use Rattle.header.specs.Fields.{readFlag, readOr, flagOr, uvlcOr}
 use Rattle.header.specs.SequenceOpening.{timingInfo, decoderModelInfo, opening}
 use Rattle.header.specs.SequencePoints.{operatingPoint, operatingPoints}
 use Rattle.header.specs.SequenceCoding.{frameSize, frameIds, codingTools, screenTools, filters, colorDescription, colorSampling, coding}
-use Rattle.header.specs.Sequence.{Sequence, sequenceHeader, parseSequence}
+use Rattle.header.specs.Sequence.{sequenceHeader, parseSequence}
 use Rattle.header.specs.Timed.{retimed, withTiming, timed}
 use Rattle.emittable.specs.PutFields.{put, putOr, putFlag, putFlagOr, putUvlcOr, fits, fitsOr, flagFitsOr, uvlcFitsOr}
 use Rattle.emittable.specs.PutSequence.{putTiming, putModel, putOpening, putPoint, putPoints, putSize, putIds, putTools, putScreen, putFilters, putColor, putSampling, putCoding, putSequence}

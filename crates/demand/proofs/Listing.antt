@@ -191,7 +191,7 @@ abbrev hasModel : Answer Sequence → Bool
 hasModel (refused n) = false
 hasModel (accepted q) = q .header .opening .model .«decoder_model_info_present»
 
--- what is computed of the three lists' headers: that there is no model, and the kinds of the units handed out
+-- the kinds of the units handed out
 abbrev kindsKG : List Kind
 kindsKG = Key ∷ Golden ∷ Show ∷ Show ∷ Key ∷ []
 

@@ -105,7 +105,7 @@ units-cut s es us q = is-cut s es 0 us (omega arith) q
 pub shown-length : (us : List (List ℕ)) (st : State) (p : ℕ) → length (shownFrom st p us) ≡ length us
 unfolding shownFrom
 shown-length [] st p = refl
-shown-length (u ∷ us) st p = ap suc (shown-length us (leaves st (play st p u)) (suc p))
+shown-length (u ∷ us) st p = ap suc (shown-length us _ _)
 
 -- units are played up to number i, from 0, and k numbers written; lent memory was d
 pub record Playing (s es : List ℕ) (cue : ℕ) (d : List ℕ) (st : State) (i k : ℕ) (o : List ℕ) : Type 0 where

@@ -3,7 +3,6 @@ use native.Mathlib.Omega.{arith}
 use mathlib.Core.Path.{refl, ap}
 use mathlib.Core.Option.{none, some}
 use Rattle.assemble.specs.Whole.{assembledSays}
-use Rattle.playback.specs.Walk.{walkedSays}
 use Rattle.container.specs.Container.{stream}
 use Rattle.playback.proofs.WalkLaws.{handed-list, handed-picture, handed-ends, handed-shows, walk-stop, walk-go}
 use Rattle.playback.proofs.walk.walk.Statement.{statement}
