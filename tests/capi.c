@@ -36,21 +36,47 @@ static void run(const struct stream_case *c) {
     failures += !good;
 }
 
-// Document 01's K and G, twice.
-static const uint8_t pictures_in[] = {
-    0x12, 0, 0x0A, 9, 0, 0, 0, 1, 0x9F, 0xF8, 0, 0, 0x10, 0x32, 1, 0x10, 0x12, 0, 0x32, 2, 0x38, 0x10,
-    0x12, 0, 0x0A, 9, 0, 0, 0, 1, 0x9F, 0xF8, 0, 0, 0x10, 0x32, 1, 0x10, 0x12, 0, 0x32, 2, 0x38, 0x10,
+// Two segments as a host gives them, and what is handed out for them: ranges, the units as they go out with their ends, and the rest.
+struct source {
+    uint8_t in[48];
+    size_t in_len;
+    uint64_t ranges[8];
+    uint8_t out[64];
+    size_t out_len;
+    uint32_t ends[4];
+    uint8_t shows[10];
+    uint32_t list[8];
+    size_t units;
 };
 
-// K with its header timed 25/1, and G.
-static const uint8_t pictures_out[] = {
-    0x12, 0, 0x0A, 0x11, 4, 0, 0, 0, 4, 0, 0, 0, 0x67, 0, 0, 0, 0x33, 0xFF, 0, 0, 2, 0x32, 1, 0x10, 0x12, 0, 0x32, 2, 0x38, 0x10,
-    0x12, 0, 0x0A, 0x11, 4, 0, 0, 0, 4, 0, 0, 0, 0x67, 0, 0, 0, 0x33, 0xFF, 0, 0, 2, 0x32, 1, 0x10, 0x12, 0, 0x32, 2, 0x38, 0x10,
+// Document 01's K with its header, and the same timed 25/1.
+#define KEY 0x12, 0, 0x0A, 9, 0, 0, 0, 1, 0x9F, 0xF8, 0, 0, 0x10
+#define TIMED 0x12, 0, 0x0A, 0x11, 4, 0, 0, 0, 4, 0, 0, 0, 0x67, 0, 0, 0, 0x33, 0xFF, 0, 0, 2
+
+// 01's K G K G, frames 4 and 1.
+static const struct source listing = {
+    {KEY, 0x32, 1, 0x10, 0x12, 0, 0x32, 2, 0x38, 0x10, KEY, 0x32, 1, 0x10, 0x12, 0, 0x32, 2, 0x38, 0x10}, 44,
+    {0, 16, 16, 22, 22, 38, 38, 44},
+    {TIMED, 0x32, 1, 0x10, 0x12, 0, 0x32, 2, 0x38, 0x10, TIMED, 0x32, 1, 0x10, 0x12, 0, 0x32, 2, 0x38, 0x10}, 60,
+    {24, 30, 54, 60},
+    {0x12, 0, 0x1A, 1, 0xB8, 0x12, 0, 0x1A, 1, 0xB8},
+    {0, 1, 2, 2, 4}, 5,
+};
+
+// K G and another key and golden, which refreshes slots 5 and 7; frames 4 and 3.
+static const struct source different = {
+    {KEY, 0x32, 1, 0x10, 0x12, 0, 0x32, 2, 0x38, 0x10, KEY, 0x32, 2, 0x10, 0xAB, 0x12, 0, 0x32, 3, 0x39, 0x40, 0xCD}, 46,
+    {0, 16, 16, 22, 22, 39, 39, 46},
+    {TIMED, 0x32, 1, 0x10, 0x12, 0, 0x32, 2, 0x38, 0x10, TIMED, 0x32, 2, 0x10, 0xAB, 0x12, 0, 0x32, 3, 0x39, 0x40, 0xCD}, 62,
+    {24, 30, 55, 62},
+    {0x12, 0, 0x1A, 1, 0xB8, 0x12, 0, 0x1A, 1, 0xD8},
+    {0, 1, 2, 2, 4, 5, 6}, 7,
 };
 
 // An order of two segments: gop_size, frames, where the second golden ends, the rooms, and the answer.
 struct assemble_case {
     const char *name;
+    const struct source *from;
     uint64_t gop_size, frames[2], last_end;
     size_t list, cues, pictures, ends, shows, header;
     uint64_t answer;
@@ -63,30 +89,30 @@ struct handed_out {
     uint64_t slot;
 };
 
-// Document 01's listing, over memory that held 0xA5.
-static void expect_listing(struct handed_out *x) {
-    static const uint32_t list[] = {0, 1, 2, 2, 4}, cues[] = {1, 5}, ends[] = {24, 30, 54, 60};
-    static const uint8_t shows[] = {0x12, 0, 0x1A, 1, 0xB8, 0x12, 0, 0x1A, 1, 0xB8};
-    memcpy(x->list, list, sizeof list);
+// What is handed out, over memory that held 0xA5.
+static void expect(struct handed_out *x, const struct source *s) {
+    static const uint32_t cues[] = {1, 5};
+    memcpy(x->list, s->list, s->units * 4);
     memcpy(x->cues, cues, sizeof cues);
-    memcpy(x->ends, ends, sizeof ends);
-    memcpy(x->pictures, pictures_out, sizeof pictures_out);
-    memcpy(x->shows, shows, sizeof shows);
-    memcpy(x->header, pictures_out + 2, 19);
-    x->units = 5;
+    memcpy(x->ends, s->ends, sizeof s->ends);
+    memcpy(x->pictures, s->out, s->out_len);
+    memcpy(x->shows, s->shows, sizeof s->shows);
+    memcpy(x->header, s->out + 2, 19);
+    x->units = s->units;
     x->cue_count = 2;
-    x->picture_len = 60;
+    x->picture_len = s->out_len;
     x->header_len = 19;
     x->slot = 3;
 }
 
 static void run_assemble(const struct assemble_case *c) {
     struct handed_out got, want;
+    const uint64_t *r = c->from->ranges;
     memset(&got, 0xA5, sizeof got);
     memset(&want, 0xA5, sizeof want);
-    if (!c->answer) expect_listing(&want);
-    const uint64_t segments[] = {0, 16, 16, 22, c->frames[0], 22, 38, 38, c->last_end, c->frames[1]};
-    uint64_t answer = magbelo_assemble(pictures_in, sizeof pictures_in, segments, 10, c->gop_size, 25, 1, got.list, c->list,
+    if (!c->answer) expect(&want, c->from);
+    const uint64_t segments[] = {r[0], r[1], r[2], r[3], c->frames[0], r[4], r[5], r[6], c->last_end, c->frames[1]};
+    uint64_t answer = magbelo_assemble(c->from->in, c->from->in_len, segments, 10, c->gop_size, 25, 1, got.list, c->list,
                                        got.cues, c->cues, got.pictures, c->pictures, got.ends, c->ends, got.shows, c->shows,
                                        got.header, c->header, &got.units, &got.cue_count, &got.picture_len,
                                        &got.header_len, &got.slot);
@@ -97,21 +123,25 @@ static void run_assemble(const struct assemble_case *c) {
 
 int main(void) {
     static const struct assemble_case orders[] = {
-        {"the listing, room to spare", 3, {4, 1}, 44, 16, 16, 128, 16, 32, 64, 0},
-        {"the listing, room just enough", 3, {4, 1}, 44, 5, 2, 60, 4, 10, 19, 0},
-        {"a list entry short", 3, {4, 1}, 44, 4, 2, 60, 4, 10, 19, 35},
-        {"a cue short", 3, {4, 1}, 44, 5, 1, 60, 4, 10, 19, 35},
-        {"a picture byte short", 3, {4, 1}, 44, 5, 2, 59, 4, 10, 19, 35},
-        {"an end short", 3, {4, 1}, 44, 5, 2, 60, 3, 10, 19, 35},
-        {"a show byte short", 3, {4, 1}, 44, 5, 2, 60, 4, 9, 19, 35},
-        {"a header byte short", 3, {4, 1}, 44, 5, 2, 60, 4, 10, 18, 35},
-        {"a range past the end", 3, {4, 1}, 45, 16, 16, 128, 16, 32, 64, 36},
-        {"gop_size 1", 1, {4, 1}, 44, 16, 16, 128, 16, 32, 64, 22},
-        {"one frame in all", 3, {1, 0}, 44, 16, 16, 128, 16, 32, 64, 23},
-        {"no frames in segment 1", 3, {4, 0}, 44, 16, 16, 128, 16, 32, 64, 24 + (2ull << 32)},
-        {"too many frames", 3, {5000000, 1}, 44, 16, 16, 128, 16, 32, 64, 25},
-        {"a golden without a frame in segment 1", 3, {4, 1}, 40, 16, 16, 128, 16, 32, 64, 28 + (2ull << 32)},
-        {"a golden cut in segment 1", 3, {4, 1}, 43, 16, 16, 128, 16, 32, 64, 5 + (2ull << 32)},
+        {"the listing, room to spare", &listing, 3, {4, 1}, 44, 16, 16, 128, 16, 32, 64, 0},
+        {"the listing, room just enough", &listing, 3, {4, 1}, 44, 5, 2, 60, 4, 10, 19, 0},
+        {"a list entry short", &listing, 3, {4, 1}, 44, 4, 2, 60, 4, 10, 19, 35},
+        {"a cue short", &listing, 3, {4, 1}, 44, 5, 1, 60, 4, 10, 19, 35},
+        {"a picture byte short", &listing, 3, {4, 1}, 44, 5, 2, 59, 4, 10, 19, 35},
+        {"an end short", &listing, 3, {4, 1}, 44, 5, 2, 60, 3, 10, 19, 35},
+        {"a show byte short", &listing, 3, {4, 1}, 44, 5, 2, 60, 4, 9, 19, 35},
+        {"a header byte short", &listing, 3, {4, 1}, 44, 5, 2, 60, 4, 10, 18, 35},
+        {"a range past the end", &listing, 3, {4, 1}, 45, 16, 16, 128, 16, 32, 64, 36},
+        {"gop_size 1", &listing, 1, {4, 1}, 44, 16, 16, 128, 16, 32, 64, 22},
+        {"one frame in all", &listing, 3, {1, 0}, 44, 16, 16, 128, 16, 32, 64, 23},
+        {"no frames in segment 1", &listing, 3, {4, 0}, 44, 16, 16, 128, 16, 32, 64, 24 + (2ull << 32)},
+        {"too many frames", &listing, 3, {5000000, 1}, 44, 16, 16, 128, 16, 32, 64, 25},
+        {"a golden without a frame in segment 1", &listing, 3, {4, 1}, 40, 16, 16, 128, 16, 32, 64, 28 + (2ull << 32)},
+        {"a golden cut in segment 1", &listing, 3, {4, 1}, 43, 16, 16, 128, 16, 32, 64, 5 + (2ull << 32)},
+        {"two different segments, room to spare", &different, 3, {4, 3}, 46, 16, 16, 128, 16, 32, 64, 0},
+        {"two different segments, room just enough", &different, 3, {4, 3}, 46, 7, 2, 62, 4, 10, 19, 0},
+        {"two different segments, a picture byte short", &different, 3, {4, 3}, 46, 7, 2, 61, 4, 10, 19, 35},
+        {"two different segments, a golden cut in segment 1", &different, 3, {4, 3}, 45, 16, 16, 128, 16, 32, 64, 5 + (2ull << 32)},
     };
     static const struct stream_case cases[] = {
         {"empty stream", {0}, 0, 0, 0, 0, {0}, 0, {0}, 0},

@@ -1,4 +1,4 @@
--- Worked answers: 01's listing and its sides. Assumes nothing.
+-- Worked answers: 01's listing, a list of two segments that differ, and the sides. Assumes nothing.
 use Prim.Native.Nat.{ℕ, _^_, _-_}
 use mathlib.Core.Path.{_≡_, refl}
 use mathlib.Core.List.{List, [], _∷_, _++_, map, flatMap}
@@ -75,6 +75,51 @@ settingsKG = record { gop = 3; fps = 25; den = 1 }
 pub listing : assemble roomKG settingsKG pictureKG (rangesKG 4 1) ≡ made outputKG
 unfolding many manyF andNext bitAt bitsAt bitsWithin readBits leadingZeros uvlcSuffix uvlc bitsOf halvings uvlcZeros lebRead readLeb lebWrite lebBytes sized framed passes headObuOf obusOf obuBytes unitBytes isType has lastPayload part readFlag readOr flagOr uvlcOr timingInfo decoderModelInfo opening operatingPoint operatingPoints frameSize frameIds codingTools screenTools filters colorDescription colorSampling coding sequenceHeader parseSequence support retimed withTiming put putOr putFlag putFlagOr putUvlcOr putTiming putModel putOpening putPoint putPoints putSize putIds putTools putScreen putFilters putColor putSampling putCoding putSequence ofBits packN pack trailed sequenceBytes showExisting frameStart orderHint removalTimes bufferRemoval frameInfo frameBits frameHeader parseFrame blocks layout positions total segmentAt segmentsFrom segmentsOf firstOf sent firstFrame lowest prepare andAlso inSegment overall noneEmpty sizes readHeader sameBytes sameHeaders prepareAll endsFrom fits assembled assemble flatMap
 listing = refl
+
+-- ---- two segments that differ in every unit
+
+-- another key and golden: bytes behind the frame headers, and a golden that refreshes slots 5 and 7; and that key timed
+abbrev pub otherK : List ℕ
+otherK = 0x12 ∷ 0x00 ∷ 0x0A ∷ 0x09 ∷ 0x00 ∷ 0x00 ∷ 0x00 ∷ 0x01 ∷ 0x9F ∷ 0xF8 ∷ 0x00 ∷ 0x00 ∷ 0x10 ∷ 0x32 ∷ 0x02 ∷ 0x10 ∷ 0xAB ∷ []
+
+abbrev pub otherG : List ℕ
+otherG = 0x12 ∷ 0x00 ∷ 0x32 ∷ 0x03 ∷ 0x39 ∷ 0x40 ∷ 0xCD ∷ []
+
+abbrev pub timedOtherK : List ℕ
+timedOtherK = (0x12 ∷ 0x00 ∷ []) ++ timedHeader ++ (0x32 ∷ 0x02 ∷ 0x10 ∷ 0xAB ∷ [])
+
+-- untimed, and timed already
+abbrev pub pictureTwo : List ℕ
+pictureTwo = unitK ++ unitG ++ otherK ++ otherG
+
+abbrev pub rangesTwo : List ℕ
+rangesTwo = 0 ∷ 16 ∷ 16 ∷ 22 ∷ 4 ∷ 22 ∷ 39 ∷ 39 ∷ 46 ∷ 3 ∷ []
+
+abbrev pub pictureTimed : List ℕ
+pictureTimed = timedK ++ unitG ++ timedOtherK ++ otherG
+
+abbrev pub rangesTimed : List ℕ
+rangesTimed = 0 ∷ 24 ∷ 24 ∷ 30 ∷ 4 ∷ 30 ∷ 55 ∷ 55 ∷ 62 ∷ 3 ∷ []
+
+abbrev pub roomTwo : Room
+roomTwo = record { list = 7; cues = 2; picture = 62; ends = 4; shows = 10; header = 19 }
+
+abbrev pub outputTwo : Output
+outputTwo =
+    record {
+      list = 0 ∷ 1 ∷ 2 ∷ 2 ∷ 4 ∷ 5 ∷ 6 ∷ [];
+      cues = 1 ∷ 5 ∷ [];
+      picture = pictureTimed;
+      ends = 24 ∷ 30 ∷ 55 ∷ 62 ∷ [];
+      shows = showUnit 3 ++ showUnit 5;
+      header = timedHeader;
+      slot = 3;
+    }
+
+-- rewritten or copied, the same is handed out
+pub two : (assemble roomTwo settingsKG pictureTwo rangesTwo ∷ assemble roomTwo settingsKG pictureTimed rangesTimed ∷ []) ≡ made outputTwo ∷ made outputTwo ∷ []
+unfolding many manyF andNext bitAt bitsAt bitsWithin readBits leadingZeros uvlcSuffix uvlc bitsOf halvings uvlcZeros lebRead readLeb lebWrite lebBytes sized framed passes headObuOf obusOf obuBytes unitBytes isType has lastPayload part readFlag readOr flagOr uvlcOr timingInfo decoderModelInfo opening operatingPoint operatingPoints frameSize frameIds codingTools screenTools filters colorDescription colorSampling coding sequenceHeader parseSequence support retimed withTiming put putOr putFlag putFlagOr putUvlcOr putTiming putModel putOpening putPoint putPoints putSize putIds putTools putScreen putFilters putColor putSampling putCoding putSequence ofBits packN pack trailed sequenceBytes showExisting frameStart orderHint removalTimes bufferRemoval frameInfo frameBits frameHeader parseFrame blocks layout positions total segmentAt segmentsFrom segmentsOf firstOf sent firstFrame lowest prepare andAlso inSegment overall noneEmpty sizes readHeader sameBytes sameHeaders prepareAll endsFrom fits assembled assemble flatMap
+two = refl
 
 -- ---- refusals
 

@@ -1,4 +1,4 @@
--- The cases that 01 marks P: a row is an answer that the definitions compute, and what 01 says it is. One table, one check. Assumes nothing.
+-- The cases that 01 marks P, and a list of two different segments: a row is an answer that the definitions compute, and what 01 says it is. One table, one check. Assumes nothing.
 use Prim.Native.Nat.{ℕ}
 use mathlib.Core.Path.{_≡_, refl}
 use mathlib.Core.List.{List, [], _∷_, _++_, flatMap}
@@ -22,7 +22,7 @@ use Rattle.header.specs.SequenceOpening.{timingInfo, decoderModelInfo, opening}
 use Rattle.header.specs.SequencePoints.{operatingPoint, operatingPoints}
 use Rattle.header.specs.SequenceCoding.{frameSize, frameIds, codingTools, screenTools, filters, colorDescription, colorSampling, coding}
 use Rattle.bitio.specs.Limits.{limited}
-use Rattle.header.specs.Sequence.{Sequence, sequenceHeader, parseSequence}
+use Rattle.header.specs.Sequence.{sequenceHeader, parseSequence}
 use Rattle.header.specs.Timed.{retimed, withTiming, timed}
 use Rattle.emittable.specs.PutFields.{put, putOr, putFlag, putFlagOr, putUvlcOr, fits, fitsOr, flagFitsOr, uvlcFitsOr}
 use Rattle.emittable.specs.PutSequence.{putTiming, putModel, putOpening, putPoint, putPoints, putSize, putIds, putTools, putScreen, putFilters, putColor, putSampling, putCoding, putSequence}
@@ -115,6 +115,11 @@ abbrev listed : Outcome Output → Answer (List (List ℕ))
 listed (stopped k i) = refused k
 listed (made o) = accepted (o .list ∷ o .cues ∷ o .shows ∷ [])
 
+-- and all that tells one segment from another: the units that go out, too
+abbrev handed : Outcome Output → Answer (List (List ℕ))
+handed (stopped k i) = refused k
+handed (made o) = accepted (o .list ∷ o .cues ∷ o .shows ∷ o .picture ∷ o .ends ∷ [])
+
 -- K G K G with these frames, and the settings gop_size, 25, 1
 abbrev assembleKG : ℕ → ℕ → ℕ → Answer (List (List ℕ))
 assembleKG gop n m =
@@ -123,6 +128,25 @@ assembleKG gop n m =
     (record { gop = gop; fps = 25; den = 1 })
     (unitK ++ unitG ++ unitK ++ unitG)
     (0 ∷ 16 ∷ 16 ∷ 22 ∷ n ∷ 22 ∷ 38 ∷ 38 ∷ 44 ∷ m ∷ []))
+
+-- two segments that differ in every unit: another key, and a golden that refreshes slots 5 and 7; frames 4 and 3
+abbrev otherK : List ℕ
+otherK = 0x12 ∷ 0x00 ∷ 0x0A ∷ 0x09 ∷ (payloadK ++ (0x32 ∷ 0x02 ∷ 0x10 ∷ 0xAB ∷ []))
+
+abbrev otherG : List ℕ
+otherG = 0x12 ∷ 0x00 ∷ 0x32 ∷ 0x03 ∷ 0x39 ∷ 0x40 ∷ 0xCD ∷ []
+
+abbrev assembleTwo : Answer (List (List ℕ))
+assembleTwo =
+    handed (assemble
+    (record { list = 16; cues = 16; picture = 64; ends = 4; shows = 10; header = 32 })
+    (record { gop = 3; fps = 25; den = 1 })
+    (unitK ++ unitG ++ otherK ++ otherG)
+    (0 ∷ 16 ∷ 16 ∷ 22 ∷ 4 ∷ 22 ∷ 39 ∷ 39 ∷ 46 ∷ 3 ∷ []))
+
+-- a unit with its header timed 25/1, f being what follows that
+abbrev timedUnit : List ℕ → List ℕ
+timedUnit f = 0x12 ∷ 0x00 ∷ 0x0A ∷ 0x11 ∷ (0x04 ∷ 0x00 ∷ 0x00 ∷ 0x00 ∷ 0x04 ∷ 0x00 ∷ 0x00 ∷ 0x00 ∷ 0x67 ∷ 0x00 ∷ 0x00 ∷ 0x00 ∷ 0x33 ∷ 0xFF ∷ 0x00 ∷ 0x00 ∷ 0x02 ∷ []) ++ f
 
 -- ---- the table
 
@@ -147,6 +171,15 @@ rows =
     ∷ (frame payloadK (0xB8 ∷ []), accepted ((1 ∷ 3 ∷ []) ∷ []))
     -- 01, 'Unit list and cue list': the listing's kinds, cues and slots
     ∷ (assembleKG 3 4 1, accepted ((0 ∷ 1 ∷ 2 ∷ 2 ∷ 4 ∷ []) ∷ (1 ∷ 5 ∷ []) ∷ (0x12 ∷ 0x00 ∷ 0x1A ∷ 0x01 ∷ 0xB8 ∷ 0x12 ∷ 0x00 ∷ 0x1A ∷ 0x01 ∷ 0xB8 ∷ []) ∷ []))
+    -- no P of 01: the same of two different segments, with the units as they go out
+    ∷ (
+      assembleTwo,
+      accepted (
+          (0 ∷ 1 ∷ 2 ∷ 2 ∷ 4 ∷ 5 ∷ 6 ∷ []) ∷ (1 ∷ 5 ∷ [])
+          ∷ (0x12 ∷ 0x00 ∷ 0x1A ∷ 0x01 ∷ 0xB8 ∷ 0x12 ∷ 0x00 ∷ 0x1A ∷ 0x01 ∷ 0xD8 ∷ [])
+          ∷ (timedUnit (0x32 ∷ 0x01 ∷ 0x10 ∷ []) ++ unitG ++ timedUnit (0x32 ∷ 0x02 ∷ 0x10 ∷ 0xAB ∷ []) ++ otherG)
+          ∷ (24 ∷ 30 ∷ 55 ∷ 62 ∷ []) ∷ []),
+    )
     ∷ []
 
 pub cases : check rows ≡ true

@@ -29,7 +29,7 @@ use Rattle.pictures.specs.Prepare.{isSequence, isFrame, timedSequence, effectiv
 use Rattle.pictures.specs.declared.settings.Settings.{Settings}
 use Rattle.pictures.specs.Assemble.{Outcome, stopped, made, andAlso, inSegment, overall, noneEmpty, sizes, readHeader, sameBytes, sameHeader, sameHeaders, headerObu, prepareAll, Output, outputOf, Room, fits, assembled, assemble}
 use Rattle.player.proofs.StepLaws.{link}
-use Rattle.player.specs.Player.{unitFrame}
+use Rattle.frame.specs.UnitFrame.{unitFrame}
 use Rattle.demand.specs.Premises.{listHeader, Premise, Formed, InFields}
 use Rattle.demand.proofs.HeaderLaws.{timed-short, timed-back, timed-fine}
 use Rattle.demand.proofs.PlayerLaws.{sole-is}
@@ -106,7 +106,7 @@ pub record Paired (q : Sequence) (new : Option (List ℕ)) (s : List ℕ) (x : S
   -- the golden unit: shown, no key, refreshing something
   pub info : FrameInfo
   pub golden : Says q s (b .golden) (Frame info)
-  pub golden-frame : unitFrame q (x .golden) ≡ accepted (Frame info)
+  pub golden-frame : unitFrame true q (x .golden) ≡ accepted (Frame info)
   pub shown : info .«show_frame» ≡ true
   pub no-key : info .«frame_type» ≡ keyFrame → ⊥
   pub some-slot : 0 < info .«refresh_frame_flags»
@@ -122,7 +122,7 @@ first-reads q s u x w e =
     rw (← z, f .payload) e))
 
 -- is its frame
-frame-is : (q : Sequence) (s u : List ℕ) (x : FrameHeaderInfo) (w : Premise s u) → parseFrame q (firstPayload isFrame (w .held)) ≡ accepted x → unitFrame q u ≡ accepted x
+frame-is : (q : Sequence) (s u : List ℕ) (x : FrameHeaderInfo) (w : Premise s u) → parseFrame q (firstPayload isFrame (w .held)) ≡ accepted x → unitFrame true q u ≡ accepted x
 unfolding unitFrame andNext
 frame-is q s u x w e = rw (w .written .reads, sole-is (w .held) (w .single), e)
 

@@ -9,13 +9,15 @@ use Rattle.bitio.specs.Parse.{accepted}
 use Rattle.bitio.specs.Limits.{limit}
 use Rattle.bitio.specs.Every.{Every}
 use Rattle.bitio.specs.Every.Every.{none as nothing, also}
+use Rattle.container.specs.Limits.{Room}
+use Rattle.container.specs.Container.{Container, read, write}
 use Rattle.container.proofs.RoundTrip.{Whole}
 use Rattle.container.proofs.Carry.{carried}
 use Rattle.blocks.proofs.BlockLaws.{length-layout}
 use Rattle.blocks.specs.Blocks.{Entry, number, layout, total}
 use Rattle.pictures.specs.Segments.{Segment, framesOf, segmentsOf}
 use Rattle.pictures.specs.declared.settings.Settings.{Settings}
-use Rattle.pictures.specs.Assemble.{made, pictureOf, Output, Room, assemble, unitsOf}
+use Rattle.pictures.specs.Assemble.{made, pictureOf, Output, Room as OutputRoom, assemble, unitsOf}
 use Rattle.player.specs.Player.{start}
 use Rattle.demand.specs.Premises.{Premise, Formed, Premises, InFields}
 use Rattle.demand.specs.Courses.{Course, Throughout}
@@ -47,9 +49,12 @@ module _ (set : Settings) (xs : List Segment) (m : Boards set xs) (short : Withi
     some-units : 0 < length vs
     some-units = omega (arith, length-units set xs m short es fit)
 
-    -- the units read back are those of the list
+    -- what was written reads back as the list's units
+    same-units : (c : Container) (room room′ : Room) (bs : List ℕ) (us : List (List ℕ)) → write c room vs ≡ accepted bs → read c room′ bs ≡ accepted us → us ≡ vs
+    same-units c room room′ bs us w r = rw r at (rw w at (carried vs wholes some-units c room room′))
+
     back : (us : List (List ℕ)) → ReadBack vs us → us ≡ vs
-    back us w = rw (w .readBack) at (rw (w .written) at (carried vs wholes some-units (w .container) (w .room) (w .room′)))
+    back us w = same-units (w .container) (w .room) (w .room′) (w .bytes) us (w .written) (w .readBack)
 
     pub demand : Demand set xs es (length es) (givenOut (m .prepared) es)
     demand =
@@ -108,7 +113,7 @@ module _ (set : Settings) (xs : List Segment) (m : Made set xs) (small : length 
 
 -- For all picture bytes and numbers that give the segments xs, whose keys and goldens are in the form that demand 3 asks for, all rooms and all settings:
 -- if assembly accepts and hands out r, then all that demand 3 claims holds of r. A decoder model may be there.
-module _ (room : Room) (set : Settings) (picture numbers : List ℕ) (xs : List Segment) (r : Output)
+module _ (room : OutputRoom) (set : Settings) (picture numbers : List ℕ) (xs : List Segment) (r : Output)
     (fields : InFields set) (segments : segmentsOf picture numbers ≡ accepted xs) (formed : Formed xs) (accepts-it : assemble room set picture numbers ≡ made r) where
   pub demand3-formed : Demand3 set xs r
   demand3-formed =
@@ -123,12 +128,12 @@ module _ (room : Room) (set : Settings) (picture numbers : List ℕ) (xs : List 
       (first-units set xs m (rw (← o) at n))
 
 -- Demand 3 as ordered, with the premise that there is no decoder model.
-pub demand3 : (room : Room) (set : Settings) (picture numbers : List ℕ) (xs : List Segment) (r : Output)
+pub demand3 : (room : OutputRoom) (set : Settings) (picture numbers : List ℕ) (xs : List Segment) (r : Output)
     → InFields set → segmentsOf picture numbers ≡ accepted xs → Premises xs
     → assemble room set picture numbers ≡ made r
     → Demand3 set xs r
 demand3 room set picture numbers xs r fields segments premises = demand3-formed room set picture numbers xs r fields segments (premises .formed)
 
 -- So any segments can be given: their units laid one behind the other, and their numbers.
-pub demand3-laid : (room : Room) (set : Settings) (xs : List Segment) (r : Output) → InFields set → Premises xs → assemble room set (laid xs) (numbersFrom 0 xs) ≡ made r → Demand3 set xs r
+pub demand3-laid : (room : OutputRoom) (set : Settings) (xs : List Segment) (r : Output) → InFields set → Premises xs → assemble room set (laid xs) (numbersFrom 0 xs) ≡ made r → Demand3 set xs r
 demand3-laid room set xs r fields premises accepts-it = demand3 room set (laid xs) (numbersFrom 0 xs) xs r fields (given xs) premises accepts-it

@@ -1,7 +1,7 @@
 -- The unit that a list entry names, in what is handed out, is its segment's own. Assumes nothing.
 use Prim.Native.Nat.{ℕ, zero, suc, _+_, _*_, _-_, _≤_, _<_}
 use native.Mathlib.Omega.{arith}
-use mathlib.Core.Path.{_≡_, sym, ap, _∙_}
+use mathlib.Core.Path.{_≡_, sym}
 use mathlib.Core.List.{List, [], _∷_, _++_, map, flatMap, append-assoc}
 use mathlib.Core.Bool.{cond as pick}
 use lib.ListN.{length, getD, length-append}
@@ -13,7 +13,7 @@ use Rattle.blocks.specs.Blocks.{Kind, Key, Golden, Show, Entry, code, number, c
 use Rattle.pictures.specs.Prepare.{Prepared, showUnit}
 use Rattle.pictures.specs.Assemble.{pictureOf, endsFrom, showsOf, pictureUnit, named}
 use Rattle.demand.specs.Demand.{Given}
-use Rattle.demand.proofs.ListLaws.{getD-map-lt, map-both, number-kind, number-segment}
+use Rattle.demand.proofs.ListLaws.{number-kind, number-segment}
 
 abbrev pub noUnits : Prepared
 noUnits = record { key = []; golden = []; slot = 0 }

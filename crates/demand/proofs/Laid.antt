@@ -2,14 +2,14 @@
 use Prim.Native.Nat.{ℕ, zero, suc, _+_, _-_, _≤_, _<_}
 use native.Mathlib.Omega.{arith}
 use mathlib.Core.Path.{_≡_, refl, sym, ap, subst, _∙_}
-use mathlib.Core.List.{List, [], _∷_, _++_}
+use mathlib.Core.List.{List, [], _∷_}
 use mathlib.Core.Logic.{_⊎_, inl, inr}
 use mathlib.Core.Bool.{Bool, true, false, cond}
 use mathlib.Core.Option.{Option, none, some}
-use lib.ListN.{length, getD, take, length-take, length-append, List·getD-append}
-use lib.Seq.{getD-take, getD-append-seam}
+use lib.ListN.{length, getD, take, length-take}
+use lib.Seq.{getD-take}
 use lib.Dec.{ltb}
-use borrow.Author.Tests.{ltb-true, ltb-false, lt-ltb, le-ltb}
+use borrow.Author.Tests.{ltb-true, ltb-false}
 use Rattle.blocks.specs.Blocks.{Kind, Key, Golden, Show, Entry, total}
 use Rattle.demand.specs.Kinds.{segmentBehind}
 
@@ -56,37 +56,7 @@ laid-take {es} l k =
       order = fits-take none es k (l .order);
     }
 
--- ---- one entry more, as a sequencer gives them
-
-abbrev pub lastOf : Option Entry → List Entry → Option Entry
-lastOf b [] = b
-lastOf b (x ∷ es) = lastOf (some x) es
-
-fits-more : (b : Option Entry) (es : List Entry) (x : Entry) → fits b es → Behind (lastOf b es) (x .segment) (x .kind) → fits b (es ++ x ∷ [])
-unfolding fits
-fits-more b [] x f h = (h, tt)
-fits-more b (y ∷ es) x f h = (f .0, fits-more (some y) es x (f .1) h)
-
-pub laid-none : (ns : List ℕ) → Laid ns []
-unfolding fits
-laid-none ns = record { within = omega arith; segments = λ k h. absurd (omega arith); order = tt }
-
-pub laid-more : {ns : List ℕ} {es : List Entry} → Laid ns es → (x : Entry) → length es < total ns → x .segment ≡ segmentBehind ns (length es)
-    → Behind (lastOf none es) (x .segment) (x .kind) → Laid ns (es ++ x ∷ [])
-laid-more {ns} {es} l x h w f =
-    let n = length-append es (x ∷ []) in
-    record { within = omega arith; segments = λ k b. go k (omega arith) (ltb k (length es)) refl; order = fits-more none es x (l .order) f }
-  where
-    go : (k : ℕ) → k < suc (length es) → (t : Bool) → ltb k (length es) ≡ t → (getD (es ++ x ∷ []) k first) .segment ≡ segmentBehind ns k
-    go k b true t =
-        let u = ltb-true k (length es) t in
-        ap (λ (y : Entry). y .segment) (List·getD-append es (x ∷ []) first k u) ∙ l .segments k u
-    go k b false t =
-        let u = ltb-false k (length es) t in
-        let e : k ≡ length es = omega arith in
-        rw e (ap (λ (y : Entry). y .segment) (getD-append-seam es x [] first) ∙ w)
-
--- ---- a list, and every segment in it, starts with a key
+-- ---- a list starts with a key
 
 pub first-key : (es : List Entry) → fits none es → (getD es 0 first) .kind ≡ Key
 unfolding fits
@@ -99,28 +69,6 @@ first-key (x ∷ es) f = go (x .kind) (f .0)
     go Show (inl b) = let z : _≡_ {A = ℕ} 0 1 = cc in absurd (omega arith)
     go Show (inr b) = let z : _≡_ {A = ℕ} 0 1 = cc in absurd (omega arith)
 
--- what stands behind an entry may stand there
-pub fits-at : (b : Option Entry) (es : List Entry) → fits b es → (k : ℕ) → suc k < length es
-    → Behind (some (getD es k first)) ((getD es (suc k) first) .segment) ((getD es (suc k) first) .kind)
-unfolding fits
-fits-at b [] f k h = absurd (omega arith)
-fits-at b (x ∷ []) f k h = absurd (omega arith)
-fits-at b (x ∷ y ∷ es) f zero h = f .1 .0
-fits-at b (x ∷ y ∷ es) f (suc k) h = fits-at (some x) (y ∷ es) (f .1) k (omega arith)
-
-pub segment-key : {ns : List ℕ} {es : List Entry} → Laid ns es → (k : ℕ) → suc k < length es → ((getD es k first) .segment ≡ (getD es (suc k) first) .segment → ⊥)
-    → (getD es (suc k) first) .kind ≡ Key
-segment-key {es} l k h n = go ((getD es (suc k) first) .kind) (fits-at none es (l .order) k h)
-  where
-    same : (x y : Entry) → _≡_ {A = Option Entry} (some x) (some y) → x .segment ≡ y .segment
-    same x y e = let z : x ≡ y = cc in ap (λ (w : Entry). w .segment) z
-
-    go : (kind : Kind) → Behind (some (getD es k first)) ((getD es (suc k) first) .segment) kind → kind ≡ Key
-    go Key b = refl
-    go Golden b = absurd (n (same (getD es k first) (entry ((getD es (suc k) first) .segment) Key) b))
-    go Show (inl b) = absurd (n (same (getD es k first) (entry ((getD es (suc k) first) .segment) Golden) b))
-    go Show (inr b) = absurd (n (same (getD es k first) (entry ((getD es (suc k) first) .segment) Show) b))
-
 -- ---- whose segment a position is
 
 pub segment-in : (ns : List ℕ) (k : ℕ) → k < total ns → segmentBehind ns k < length ns
@@ -131,15 +79,6 @@ segment-in (m ∷ ns) k h = go (λ j w. segment-in ns j w) (ltb k m) refl
     go : ((j : ℕ) → j < total ns → segmentBehind ns j < length ns) → (t : Bool) → ltb k m ≡ t → cond t 0 (suc (segmentBehind ns (k - m))) < suc (length ns)
     go more true e = omega arith
     go more false e = let w = ltb-false k m e in let ih = more (k - m) (omega arith) in omega arith
-
--- position j of segment i, both from 0
-pub segment-there : (ns : List ℕ) (i j : ℕ) → j < getD ns i 0 → segmentBehind ns (total (take i ns) + j) ≡ i
-unfolding segmentBehind total
-segment-there [] i j h = absurd (omega arith)
-segment-there (n ∷ ns) zero j h = rw (lt-ltb (0 + j) n (omega arith))
-segment-there (n ∷ ns) (suc i) j h =
-    let e : n + total (take i ns) + j - n ≡ total (take i ns) + j = omega arith in
-    rw (le-ltb (n + total (take i ns) + j) n (omega arith), e, segment-there ns i j h)
 
 -- ---- every show entry follows its segment's golden, with show entries of that segment between
 

@@ -7,7 +7,7 @@ use mathlib.Core.Bool.{Bool, true, false, cond as pick, _||_}
 use mathlib.Core.Option.{Option, some}
 use lib.ListN.{length, getD}
 use lib.Dec.{eqb}
-use borrow.Author.Tests.{eqb-false, le-ltb}
+use borrow.Author.Tests.{eqb-false, le-leb}
 use Rattle.bitio.specs.Parse.{accepted, andNext}
 use Rattle.bitio.specs.Limits.{limit}
 use Rattle.bitio.specs.Every.{Every}
@@ -15,11 +15,12 @@ use Rattle.bitio.specs.Every.Every.{none as nothing, also}
 use Rattle.obu.specs.Obu.{Obu, obus}
 use Rattle.obu.specs.Unit.{has, count, firstPayload}
 use Rattle.header.specs.Sequence.{Sequence, parseSequence}
-use Rattle.header.specs.Support.{support}
+use Rattle.header.specs.Support.{support, supportedSequence}
 use Rattle.frame.specs.Frame.{parseFrame}
 use Rattle.frame.specs.declared.frame_header.FrameHeaderInfo.{FrameHeaderInfo}
 use Rattle.pictures.specs.Prepare.{isSequence, isFrame, lowest}
-use Rattle.player.specs.Player.{empty, refresh, Shown, act, State, keepAs, keep, soleFrame, play}
+use Rattle.frame.specs.UnitFrame.{framePayload}
+use Rattle.player.specs.Player.{empty, refresh, Shown, act, State, keepAs, keep, play}
 use Rattle.player.specs.declared.slots.Slot.{Slot}
 use Rattle.demand.specs.Premises.{Same}
 
@@ -49,6 +50,10 @@ hit flags new (s ∷ ss) h k = go (λ a b. hit (flags / 2) new ss a b) (eqb (fla
 -- ---- the header that a unit leaves
 
 module _ (s : List ℕ) (q : Sequence) (read : parseSequence s ≡ accepted q) (fine : support (q .header) ≡ accepted tt) where
+  supported : supportedSequence s ≡ accepted q
+  unfolding supportedSequence andNext
+  supported = rw (read, fine)
+
   -- a unit whose sequence payloads are all s leaves its header
   pub keep-same : {os : List Obu} → Every (Same s) os → keep (some q) os ≡ accepted (some q)
   unfolding keepAs andNext
@@ -56,8 +61,8 @@ module _ (s : List ℕ) (q : Sequence) (read : parseSequence s ≡ accepted q) (
   keep-same (also {a = o} {l = os} e es) = go (isSequence o) e (keep-same es)
     where
       go : (t : Bool) → (t ≡ true → o .payload ≡ s) → keep (some q) os ≡ accepted (some q)
-          → pick t (andNext (parseSequence (o .payload)) (λ q. andNext (support (q .header)) (λ _. keep (some q) os))) (keep (some q) os) ≡ accepted (some q)
-      go true w ih = rw (w refl, read, fine) ih
+          → pick t (andNext (supportedSequence (o .payload)) (λ q. keep (some q) os)) (keep (some q) os) ≡ accepted (some q)
+      go true w ih = rw (w refl, supported) ih
       go false w ih = ih
 
   pub keep-first : (k : Option Sequence) {os : List Obu} → Every (Same s) os → has isSequence os ≡ true → keep k os ≡ accepted (some q)
@@ -66,19 +71,19 @@ module _ (s : List ℕ) (q : Sequence) (read : parseSequence s ≡ accepted q) (
   keep-first k (also {a = o} {l = os} e es) h = go (isSequence o) e h (λ w. keep-first k es w)
     where
       go : (t : Bool) → (t ≡ true → o .payload ≡ s) → (t || has isSequence os) ≡ true → (has isSequence os ≡ true → keep k os ≡ accepted (some q))
-          → pick t (andNext (parseSequence (o .payload)) (λ q. andNext (support (q .header)) (λ _. keep (some q) os))) (keep k os) ≡ accepted (some q)
-      go true w h ih = rw (w refl, read, fine) (keep-same es)
+          → pick t (andNext (supportedSequence (o .payload)) (λ q. keep (some q) os)) (keep k os) ≡ accepted (some q)
+      go true w h ih = rw (w refl, supported) (keep-same es)
       go false w h ih = ih h
 
 -- ---- the outcome of a play
 
 -- the frame of a unit that has one
-pub sole-is : (os : List Obu) → count isFrame os ≡ 1 → soleFrame os ≡ accepted (firstPayload isFrame os)
-unfolding soleFrame
+pub sole-is : (os : List Obu) → count isFrame os ≡ 1 → framePayload true os ≡ accepted (firstPayload isFrame os)
+unfolding framePayload
 sole-is os e = rw e
 
 pub play-is : (st : State) (p : ℕ) (u : List ℕ) (os : List Obu) (q : Sequence) (x : FrameHeaderInfo) (r : Shown) → length u ≤ limit → obus u ≡ accepted os
     → keep (st .kept) os ≡ accepted (some q) → count isFrame os ≡ 1 → parseFrame q (firstPayload isFrame os) ≡ accepted x → act (st .slots) p x ≡ accepted r
     → play st p u ≡ accepted (record { shown = r .shown; state = record { slots = r .slots; kept = some q } })
 unfolding play andNext
-play-is st p u os q x r n a b c d e = rw (le-ltb limit (length u) n, a, b, sole-is os c, d, e)
+play-is st p u os q x r n a b c d e = rw (le-leb (length u) limit n, a, b, sole-is os c, d, e)

@@ -23,7 +23,8 @@ use Rattle.pictures.specs.Segments.{Segment, framesOf}
 use Rattle.pictures.specs.Prepare.{isSequence, effective, renewal, Prepared, showUnit}
 use Rattle.pictures.specs.declared.settings.Settings.{Settings}
 use Rattle.pictures.specs.Assemble.{pictureOf, endsFrom, showsOf, named}
-use Rattle.player.specs.Player.{empty, filled, refresh, State, start, play, leaves, unitFrame}
+use Rattle.frame.specs.UnitFrame.{unitFrame}
+use Rattle.player.specs.Player.{empty, filled, refresh, State, start, play, leaves}
 use Rattle.player.specs.declared.slots.Slot.{Slot}
 use Rattle.demand.specs.Kinds.{unitKind, saysKey, isKeyUnit, unitAt, segmentOf}
 use Rattle.demand.specs.Premises.{firstSequence, Premise}
@@ -40,7 +41,7 @@ use Rattle.demand.proofs.AssembleLaws.{Says, Paired, matches-length, ma
 -- ---- one segment's units
 
 -- what a unit's bytes say
-says-frame : {q : Sequence} {s u : List ℕ} {x : FrameHeaderInfo} → Says q s u x → unitFrame q u ≡ accepted x
+says-frame : {q : Sequence} {s u : List ℕ} {x : FrameHeaderInfo} → Says q s u x → unitFrame true q u ≡ accepted x
 unfolding unitFrame andNext
 says-frame w = rw (w .unit .written .reads, sole-is (w .unit .held) (w .unit .single), w .reads)
 

@@ -1,5 +1,5 @@
--- What demand 3 claims of a list that is given out, of whatever blocks, or of its first units. Assumes nothing.
--- What stands in quotation marks is document 01's wording, which says board for segment. What Premises, Courses and Kinds quote is not quoted again here.
+-- What demand 3 claims of a list that is given out, of whatever blocks, or of its first units (01, 'What demand 3 speaks of'). Assumes nothing.
+-- A segment is 01's board. Premises says what is asked of the segments, Kinds what a unit is, Courses what is played.
 use Prim.Native.Nat.{ℕ, suc, _-_, _≤_, _<_}
 use mathlib.Core.Path.{_≡_}
 use mathlib.Core.List.{List, [], _∷_, map, List·Memᴰ}
@@ -20,7 +20,8 @@ use Rattle.pictures.specs.Segments.{Segment, framesOf}
 use Rattle.pictures.specs.Prepare.{effective, renewal, sent, slotOf, showUnit}
 use Rattle.pictures.specs.declared.settings.Settings.{Settings}
 use Rattle.pictures.specs.Assemble.{Output, unitsOf}
-use Rattle.player.specs.Player.{empty, filled, State, start, play, unitFrame}
+use Rattle.frame.specs.UnitFrame.{unitFrame}
+use Rattle.player.specs.Player.{empty, filled, State, start, play}
 use Rattle.demand.specs.Kinds.{unitKind, isKeyUnit, unitAt, segmentOf}
 use Rattle.demand.specs.Premises.{firstSequence, listHeader}
 use Rattle.demand.specs.Courses.{Course, Throughout}
@@ -40,7 +41,7 @@ pub record Given : Type 0 where
 abbrev pub handed : Output → Given
 handed r = record { list = r .list; cues = r .cues; units = unitsOf r }
 
--- the first n units alone, as a sequencer has given them after n calls: their cues are those at keys among them
+-- the first n units alone, and the cues among them
 abbrev pub front : ℕ → Given → Given
 front n g = record { list = take n (g .list); cues = cuesOf (take n (g .list)); units = take n (g .units) }
 
@@ -53,18 +54,17 @@ ownSegment xs p = getD xs (segmentOf (framesOf xs) p) noSegment
 
 -- the list's sequence header is q, before timing
 module _ (set : Settings) (q : Sequence) where
-  -- u has the bytes of the segment's key or golden, copied or rewritten.
-  -- 01: "Timing absent: sequence headers are replaced and units holding one rewritten; else units are copied."
+  -- u has the bytes of the segment's key or golden as they go out: rewritten where a timed header takes the place of an untimed one, else copied
+  -- (01, 'Unit list and cue list')
   abbrev pub IsKey : Segment → List ℕ → Type 0
   IsKey x u = sent (renewal set q) (x .key) ≡ accepted u
 
   abbrev pub IsGolden : Segment → List ℕ → Type 0
   IsGolden x u = sent (renewal set q) (x .golden) ≡ accepted u
 
-  -- or of the segment's own show unit, which names the slot of the segment's own golden.
-  -- 01: "The show index is the lowest slot refreshed by the golden's first frame header."
+  -- or of the segment's own show unit, which names the lowest slot that the segment's own golden refreshes (01, 'Unit list and cue list')
   abbrev pub IsShow : Segment → List ℕ → Type 0
-  IsShow x u = (f : FrameInfo) × (unitFrame (effective set q) (x .golden) ≡ accepted (Frame f)) × (u ≡ showUnit (slotOf (f .«refresh_frame_flags»)))
+  IsShow x u = (f : FrameInfo) × (unitFrame true (effective set q) (x .golden) ≡ accepted (Frame f)) × (u ≡ showUnit (slotOf (f .«refresh_frame_flags»)))
 
   abbrev pub IsUnit : Kind → Segment → List ℕ → Type 0
   IsUnit Key x u = IsKey x u
@@ -74,8 +74,7 @@ module _ (set : Settings) (q : Sequence) where
   -- position p of the list g
   pub record Listed (xs : List Segment) (g : Given) (p : ℕ) : Type 0 where
     pub kind : Kind
-    -- its entry names that kind of unit of the segment whose position it is.
-    -- 01: "A list entry is segment × 4 + kind (key 0, golden 1, show 2), segments from 0"
+    -- its entry names that kind of unit of the segment whose position it is (`number`: 01, 'Unit list and cue list')
     pub entry : getD (g .list) (p - 1) 0 ≡ number (record { segment = segmentOf (framesOf xs) p; kind = kind })
     -- its bytes are that unit's
     pub bytes : IsUnit kind (ownSegment xs p) (unitAt (g .units) p)
@@ -87,18 +86,16 @@ module _ (set : Settings) (q : Sequence) where
   module _ (xs : List Segment) (us : List (List ℕ)) (c p : ℕ) (st : State) where
     -- the unit at p, a show unit played in the state st, shows position o
     pub record ShowsGolden (o : ℕ) : Type 0 where
-      -- the slot that it names is at that moment filled and showable.
-      -- 01: "A show unit shows its slot"
+      -- the slot that it names is at that moment filled and showable, and holds o (01, 'Player (added)')
       pub slot : ℕ
-      pub names : unitFrame (effective set q) (unitAt us p) ≡ accepted (Existing slot)
+      pub names : unitFrame true (effective set q) (unitAt us p) ≡ accepted (Existing slot)
       pub keyMark : Bool
       pub holds : getD (st .slots) slot empty ≡ filled o true keyMark
       -- o is the greatest position below p whose unit is a golden unit
       pub below : o < p
       pub golden : unitKind (effective set q) (unitAt us o) ≡ accepted Golden
       pub greatest : (j : ℕ) → o < j → j < p → unitKind (effective set q) (unitAt us j) ≡ accepted Golden → ⊥
-      -- it lies behind the cue and is the golden of p's own segment.
-      -- 01: "A golden unit is a board's own if it lies at one of that board's positions and has the bytes of its golden, copied or rewritten as above."
+      -- it lies behind the cue, and is p's segment's own: at one of that segment's positions, with the bytes of that segment's golden
       pub behind : c < o
       pub among : segmentOf (framesOf xs) o ≡ segmentOf (framesOf xs) p
       pub own : IsGolden (ownSegment xs p) (unitAt us o)
@@ -118,8 +115,7 @@ module _ (set : Settings) (q : Sequence) where
       pub answer : play st p (unitAt us p) ≡ accepted (record { shown = some shown; state = after })
       pub right : Right kind shown
 
--- the units vs, written in a container and read back: us.
--- 01: "All the list's units are written in order, the container being the stream or Annex B."
+-- the units vs, all of them in order, written in a container and read back: us
 pub record ReadBack (vs us : List (List ℕ)) : Type 0 where
   pub container : Container
   pub room : Room
@@ -129,7 +125,7 @@ pub record ReadBack (vs us : List (List ℕ)) : Type 0 where
   pub readBack : read container room′ bytes ≡ accepted us
 
 -- Demand 3, of the n units of g, given out for the segments xs, es being the entries that their blocks give.
--- 01: "It is a single claim about the whole way from the boards to the last unit played, not one for each call."
+-- One claim for the whole way: what is listed, written, read back and played are the same units, and the list's header and cues serve all four parts.
 pub record Demand (set : Settings) (xs : List Segment) (es : List Entry) (n : ℕ) (g : Given) : Type 0 where
   -- What the list's sequence header reads as.
   -- As it goes out, timed if it was not, every cue's unit has it, and position 1 is a cue.
@@ -146,26 +142,22 @@ pub record Demand (set : Settings) (xs : List Segment) (es : List Entry) (n : �
   --
   -- 2. The units are written from lent memory: their bytes one behind the other, and the end of each.
   pub lent : (c : Container) (room : Room) → writeAt c room (streamBytes (g .units)) (endsOf 0 (g .units)) ≡ write c room (g .units)
-  -- 01: "Writing may be refused with 34 or 35 only, reading back with 35 only; then nothing is read back."
+  -- The only refusals on the way are of size: too long (34) or no room (35) in writing, no room in reading back.
   pub writing : (c : Container) (room : Room) (k : ℕ) → write c room (g .units) ≡ refused k → (k ≡ 34) ⊎ (k ≡ 35)
   pub reading : (c : Container) (room room′ : Room) (bs : List ℕ) → write c room (g .units) ≡ accepted bs → (k : ℕ) → read c room′ bs ≡ refused k → k ≡ 35
   -- else the units read back are the list's, byte for byte
   pub back : (us : List (List ℕ)) → ReadBack (g .units) us → us ≡ g .units
   --
-  -- 3. The cues are exactly the positions, rising, of the units that are key units as their bytes say.
-  -- 01: "cues count units from 1"
+  -- 3. The cues are exactly the positions, from 1 and rising, of the units that are key units as their bytes say.
   pub cues : g .cues ≡ positions (isKeyUnit (effective set header)) 1 (g .units)
   pub exactly : (p : ℕ) → List·Memᴰ p (g .cues) ↔ ((1 ≤ p) × (p ≤ n) × (unitKind (effective set header) (unitAt (g .units) p) ≡ accepted Key))
   pub rising : Rising 1 (g .cues)
   --
   -- 4. From every cue on, the units read back are played, from eight empty slots and no kept header.
-  --    Whatever refused units are played before and between them: none of them is refused, and each shows what it has to.
-  -- 01: "Each unit read back is played under its position."
+  --    Whatever refused units are played before and between them: none of them, each under its own position, is refused, and each shows what it has to.
   pub played : (us : List (List ℕ)) → ReadBack (g .units) us → (cue : ℕ) → List·Memᴰ cue (g .cues) → (course : Course start cue (drop (cue - 1) us))
       → Throughout (λ p st. PlaysRight set header xs us cue p st) course
 
--- of what assembly has handed out: as many units as frames ordered, in the blocks of 01.
--- 01: "Blocks of min(frames left, gop_size): key, golden, then show units. A block of 1 after a golden is one show unit. A segment of 1 frame is its key."
--- 01: "The frames ordered are the sum of the boards' frame counts."
+-- of what assembly has handed out: as many units as frames are ordered in all, in the blocks of 01, 'Unit list and cue list' (`layout`)
 abbrev pub Demand3 : Settings → List Segment → Output → Type 0
 Demand3 set xs r = Demand set xs (layout (set .gop) 0 (framesOf xs)) (total (framesOf xs)) (handed r)

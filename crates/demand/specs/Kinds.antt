@@ -10,15 +10,15 @@ use Rattle.frame.specs.Frame.{keyFrame}
 use Rattle.frame.specs.declared.frame_header.FrameHeaderInfo.{FrameHeaderInfo}
 use Rattle.frame.specs.declared.frame_header.FrameHeaderInfo.the-variants.{Existing, Frame}
 use Rattle.blocks.specs.Blocks.{Kind, Key, Golden, Show}
-use Rattle.player.specs.Player.{unitFrame}
+use Rattle.frame.specs.UnitFrame.{unitFrame}
 
--- 01: "A unit whose frame is a shown key is a key unit, one whose frame is show-existing a show unit, any other a golden unit."
+-- by the unit's frame: a shown key makes a key unit, showing a slot again a show unit, everything else a golden unit
 abbrev pub frameKind : FrameHeaderInfo → Kind
 frameKind (Existing slot) = Show
 frameKind (Frame f) = pick (eqb (f .«frame_type») keyFrame && f .«show_frame») Key Golden
 
 unfoldable pub unitKind : Sequence → List ℕ → Answer Kind
-unitKind q u = andNext (unitFrame q u) (λ x. accepted (frameKind x))
+unitKind q u = andNext (unitFrame true q u) (λ x. accepted (frameKind x))
 
 abbrev pub saysKey : Answer Kind → Bool
 saysKey (refused n) = false
@@ -29,11 +29,11 @@ saysKey (accepted Show) = false
 abbrev pub isKeyUnit : Sequence → List ℕ → Bool
 isKeyUnit q u = saysKey (unitKind q u)
 
--- 01: "Positions count from 1"
+-- position 1 is the first
 abbrev pub unitAt : List (List ℕ) → ℕ → List ℕ
 unitAt us p = getD us (p - 1) []
 
--- 01: "each board has as many as its frames, following those of the boards before"; k positions lie before this one
+-- The segments take their positions one after the other, as many as they have frames, ns; k positions lie before this one.
 unfoldable pub segmentBehind : List ℕ → ℕ → ℕ
 segmentBehind [] k = 0
 segmentBehind (n ∷ ns) k = pick (ltb k n) 0 (suc (segmentBehind ns (k - n)))

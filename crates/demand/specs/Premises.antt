@@ -1,4 +1,4 @@
--- What demand 3 asks of the segments and the settings. Assumes nothing.
+-- What demand 3 asks of the segments (01's boards) and the settings. Assumes nothing.
 use Prim.Native.Nat.{ℕ, _^_, _<_}
 use mathlib.Core.Path.{_≡_}
 use mathlib.Core.List.{List, [], _∷_}
@@ -17,7 +17,7 @@ use Rattle.pictures.specs.declared.settings.Settings.{Settings}
 abbrev pub firstSequence : List ℕ → List ℕ
 firstSequence u = ofUnit [] (firstPayload isSequence) (obus u)
 
--- 01: "The list's sequence header is the first sequence payload of its first key."
+-- 01, 'What demand 3 speaks of': the list's sequence header is that of the first key
 abbrev pub listHeader : List Segment → List ℕ
 listHeader [] = []
 listHeader (x ∷ xs) = firstSequence (x .key)
@@ -33,8 +33,7 @@ Same s o = isSequence o ≡ true → o .payload ≡ s
 
 -- a unit u among the keys and goldens, s being the list's sequence header
 pub record Premise (s u : List ℕ) : Type 0 where
-  -- 1. it is in written form: writing its OBUs gives it again.
-  -- 01: "Written form: size present, shortest leb128, reserved bit 0."
+  -- 1. it is in written form (01, 'Units from a stream'): its OBUs, written, are its bytes
   pub held : List Obu
   pub written : Written u held
   -- 2. its first OBU is a temporal delimiter and no other is
@@ -54,8 +53,7 @@ pub record Premises (xs : List Segment) : Type 0 where
   -- 5. the list's sequence header has no decoder model
   pub noModel : (q : Sequence) → parseSequence (listHeader xs) ≡ accepted q → q .header .opening .model .«decoder_model_info_present» ≡ false
 
--- fps and fps_den are u32.
--- 01: "A setting must fit its field in `AssembleParams`"
+-- fps and fps_den are u32, as the fields that 01 gives them ('Unit list and cue list')
 pub record InFields (set : Settings) : Type 0 where
   pub fps : set .fps < 2 ^ 32
   pub den : set .den < 2 ^ 32

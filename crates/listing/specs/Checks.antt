@@ -1,13 +1,13 @@
--- Worked answers: 01's file and its listing, files that are none, and the other texts. Assumes nothing.
-use Prim.Native.Nat.{ℕ, _+_, _^_}
+-- Worked answers: 01's file and its listing, the listing of two segments that differ, files that are none, and the other texts. Assumes nothing.
+use Prim.Native.Nat.{ℕ, _+_}
 use mathlib.Core.Path.{_≡_, refl}
 use mathlib.Core.List.{List, [], _∷_, _++_, map}
 use mathlib.Core.Bool.{true, false}
 use lib.ListN.{length, take, replicate}
 use Rattle.bitio.specs.Lent.{pasted, hasRoom, lent}
 use Rattle.obu.specs.Place.{part}
-use Rattle.pictures.specs.Assemble.{named}
-use Rattle.assemble.specs.Checks.{pictureKG, rangesKG, outputKG}
+use Rattle.pictures.specs.Assemble.{Output, named}
+use Rattle.assemble.specs.Checks.{pictureKG, rangesKG, outputKG, outputTwo}
 use Rattle.listing.specs.File.{numberAt, lengths, numbersFrom, isWhole, Reading, read, full, bad, readInto, numbersAfter}
 use Rattle.listing.specs.Decimal.{digitsIn, decimal}
 use Rattle.listing.specs.Text.{line, lines, listing, refusedText, refusedInText}
@@ -26,7 +26,7 @@ segment key golden frames = u32 key ++ u32 golden ++ u64 frames
 abbrev settings : ℕ → ℕ → ℕ → ℕ → List ℕ
 settings count gop fps den = u32 count ++ u64 gop ++ u64 fps ++ u64 den
 
--- 01: K G K G, frames 4 and 1, settings 3, 25, 1
+-- 01's file
 abbrev fileKG : List ℕ
 fileKG = u32 44 ++ pictureKG ++ u32 2 ++ segment 16 6 4 ++ segment 16 6 1 ++ settings 3 3 25 1
 
@@ -79,9 +79,12 @@ unfits = refl
 
 -- ---- texts
 
--- 01's listing
+abbrev textOf : Output → List ℕ
+textOf o = listing (o .list) (length (o .cues)) (o .picture) (o .ends) (o .shows)
+
+-- 01's listing, and that of two segments that differ
 listed
-    : listing (outputKG .list) (length (outputKG .cues)) (outputKG .picture) (outputKG .ends) (outputKG .shows)
+    : (textOf outputKG ∷ textOf outputTwo ∷ [])
     ≡
     (117 ∷ 110 ∷ 105 ∷ 116 ∷ 115 ∷ 32 ∷ 53 ∷ 10  -- units 5
     ∷ 99 ∷ 117 ∷ 101 ∷ 115 ∷ 32 ∷ 50 ∷ 10  -- cues 2
@@ -91,6 +94,17 @@ listed
     ∷ 52 ∷ 32 ∷ 83 ∷ 32 ∷ 48 ∷ 32 ∷ 51 ∷ 32 ∷ 53 ∷ 10  -- 4 S 0 3 5
     ∷ 53 ∷ 32 ∷ 75 ∷ 32 ∷ 49 ∷ 32 ∷ 45 ∷ 32 ∷ 50 ∷ 52 ∷ 10  -- 5 K 1 - 24
     ∷ [])
+    ∷ (117 ∷ 110 ∷ 105 ∷ 116 ∷ 115 ∷ 32 ∷ 55 ∷ 10  -- units 7
+    ∷ 99 ∷ 117 ∷ 101 ∷ 115 ∷ 32 ∷ 50 ∷ 10  -- cues 2
+    ∷ 49 ∷ 32 ∷ 75 ∷ 32 ∷ 48 ∷ 32 ∷ 45 ∷ 32 ∷ 50 ∷ 52 ∷ 10  -- 1 K 0 - 24
+    ∷ 50 ∷ 32 ∷ 71 ∷ 32 ∷ 48 ∷ 32 ∷ 51 ∷ 32 ∷ 54 ∷ 10  -- 2 G 0 3 6
+    ∷ 51 ∷ 32 ∷ 83 ∷ 32 ∷ 48 ∷ 32 ∷ 51 ∷ 32 ∷ 53 ∷ 10  -- 3 S 0 3 5
+    ∷ 52 ∷ 32 ∷ 83 ∷ 32 ∷ 48 ∷ 32 ∷ 51 ∷ 32 ∷ 53 ∷ 10  -- 4 S 0 3 5
+    ∷ 53 ∷ 32 ∷ 75 ∷ 32 ∷ 49 ∷ 32 ∷ 45 ∷ 32 ∷ 50 ∷ 53 ∷ 10  -- 5 K 1 - 25
+    ∷ 54 ∷ 32 ∷ 71 ∷ 32 ∷ 49 ∷ 32 ∷ 53 ∷ 32 ∷ 55 ∷ 10  -- 6 G 1 5 7
+    ∷ 55 ∷ 32 ∷ 83 ∷ 32 ∷ 49 ∷ 32 ∷ 53 ∷ 32 ∷ 53 ∷ 10  -- 7 S 1 5 5
+    ∷ [])
+    ∷ []
 unfolding digitsIn decimal line lines listing named part
 listed = refl
 

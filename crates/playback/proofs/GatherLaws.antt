@@ -2,7 +2,7 @@
 use Prim.Native.Nat.{ℕ, suc, _+_, _≤_, _<_, min}
 use native.Mathlib.Omega.{arith}
 use native.Mathlib.Numerals.{add-one}
-use mathlib.Core.Path.{_≡_, refl, sym, ap, _∙_}
+use mathlib.Core.Path.{_≡_, refl, sym, ap, ap₂, _∙_}
 use mathlib.Core.List.{List, [], _∷_, _++_}
 use mathlib.Core.Bool.{Bool, true, false, cond as pick, _||_, _&&_}
 use lib.ListN.{length, getD, drop, set, length-append, length-map, length-set, drop-of-length-le}
@@ -15,9 +15,10 @@ use Rattle.bitio.specs.Lent.{pasted}
 use Rattle.bitio.proofs.LentLaws.{pasted-nil, pasted-one, pasted-more, pasted-length}
 use Rattle.container.specs.Stream.{flat, streamBytes}
 use Rattle.container.specs.Limits.{Room}
-use Rattle.container.specs.Units.{endsOf, bytesAfter, endsAfter}
+use Rattle.container.specs.Units.{endsOf, Sizes, sizesOf, bytesAfter, endsAfter}
 use Rattle.annexb.proofs.SplitLaws.{Says, says-refused}
 use Rattle.pictures.specs.Assemble.{named}
+use Rattle.playback.specs.Lent.{Does, roomOf, storeAfter}
 use Rattle.playback.specs.Gather.{listed, gathered, CanGather}
 
 module _ (l p e s : List ℕ) where
@@ -154,6 +155,11 @@ or-false : (x y : Bool) → (x || y) ≡ false → (x ≡ false) × (y ≡ false
 or-false true y q = let z : _≡_ {A = ℕ} 0 1 = cc in absurd (omega arith)
 or-false false y q = (refl, q)
 
+-- by each slice apart
+pub stores : (x : Room → Answer (List (List ℕ))) {a : Answer Sizes} {d m o f : List ℕ} → Says (x (record { bytes = length d; ends = length m })) a d m o f
+    → Does (λ d. sizesOf (x (roomOf d))) (λ d. storeAfter (x (roomOf d)) d) a (record { entry = record { bytes = d; ends = m }; exit = record { bytes = o; ends = f } })
+stores x (i, (j, k)) = record { answer = i; lent = ap₂ (λ b e. record { bytes = b; ends = e }) j k }
+
 module _ (l p e s d m : List ℕ) where
   abbrev us : List (List ℕ)
   us = listed l p e s
@@ -162,7 +168,10 @@ module _ (l p e s d m : List ℕ) where
   room = record { bytes = length d; ends = length m }
 
   abbrev result : Answer (List (List ℕ))
-  result = gathered room l p e s
+  result = gathered us room
+
+  abbrev Tells : Answer Sizes → (o f : List ℕ) → Type 0
+  Tells a o f = Does (λ d. sizesOf (gathered us (roomOf d))) (λ d. storeAfter (gathered us (roomOf d)) d) a (record { entry = record { bytes = d; ends = m }; exit = record { bytes = o; ends = f } })
 
   abbrev size : ℕ
   size = length (streamBytes us)
@@ -172,10 +181,10 @@ module _ (l p e s d m : List ℕ) where
   gathered-is = refl
 
   module _ {n : ℕ} (k : n ≡ min size 4000000001) where
-    pub gather-full : ((ltb limit n || ltb (length d) n) || ltb (length m) (length l)) ≡ true → Says result (refused 35) d m d m
+    pub gather-full : ((ltb limit n || ltb (length d) n) || ltb (length m) (length l)) ≡ true → Tells (refused 35) d m
     gather-full t =
         let f : (leb size limit && (leb size (length d) && leb (length us) (length m))) ≡ false = go (leb size limit) (leb size (length d)) (leb (length us) (length m)) refl refl refl in
-        says-refused d m (gathered-is ∙ ap (λ b. pick b (accepted us) (refused 35)) f)
+        stores (gathered us) (says-refused d m (gathered-is ∙ ap (λ b. pick b (accepted us) (refused 35)) f))
       where
         go : (x y z : Bool) → leb size limit ≡ x → leb size (length d) ≡ y → leb (length us) (length m) ≡ z → (x && (y && z)) ≡ false
         go false y z a b c = refl
@@ -205,10 +214,10 @@ module _ (l p e s d m : List ℕ) where
           gathered-is ∙ rw (le-leb size limit (r .small), le-leb size (length d) (r .room), le-leb (length us) (length m) (r .slots))
 
       pub gather-done : {o f : List ℕ} → o ≡ pasted d 0 (streamBytes us) → f ≡ pasted m 0 (endsOf 0 us)
-          → Says result (accepted (record { bytes = n; units = length l })) d m o f
+          → Tells (accepted (record { bytes = n; units = length l })) o f
       gather-done x y =
           let q = gathered-all in
           let r = gather-room in
           let i : n ≡ size = omega (arith, k, r .small) in
           let j : length l ≡ length us = sym (listed-length l p e s) in
-          (rw (q, i, j), (x ∙ sym (ap (λ a. bytesAfter a d) q), y ∙ sym (ap (λ a. endsAfter a m) q)))
+          stores (gathered us) (rw (q, i, j), (x ∙ sym (ap (λ a. bytesAfter a d) q), y ∙ sym (ap (λ a. endsAfter a m) q)))

@@ -22,6 +22,7 @@ use Rattle.player.specs.Player.{State, start, Played, play, leaves}
 use Rattle.player.specs.Code.{shows, keptBehind, stateSays, playedOn, playedBy}
 use Rattle.player.specs.declared.step.State.{State as CodeState}
 use Rattle.player.specs.declared.step.Played.{Played as CodePlayed}
+use Rattle.playback.specs.Lent.{Fills}
 use Rattle.playback.specs.Shown.{positionNumber, shownNumber, codeNumber, shownFrom, shownBy, fromCue, playFrom, unitIn, CanPlay}
 
 -- the code's number is the answer's
@@ -104,7 +105,7 @@ units-cut s es us q = is-cut s es 0 us (omega arith) q
 pub shown-length : (us : List (List ℕ)) (st : State) (p : ℕ) → length (shownFrom st p us) ≡ length us
 unfolding shownFrom
 shown-length [] st p = refl
-shown-length (u ∷ us) st p = ap suc (shown-length us (leaves st (play st p u)) (suc p))
+shown-length (u ∷ us) st p = ap suc (shown-length us _ _)
 
 -- units are played up to number i, from 0, and k numbers written; lent memory was d
 pub record Playing (s es : List ℕ) (cue : ℕ) (d : List ℕ) (st : State) (i k : ℕ) (o : List ℕ) : Type 0 where
@@ -210,12 +211,11 @@ module _ (s es : List ℕ) (cue : ℕ) (d : List ℕ) where
   abbrev result : Answer (List ℕ)
   result = playFrom (length d) cue s es
 
-  -- what the two clauses ask
   abbrev pub Tells : Answer ℕ → List ℕ → Type 0
-  Tells a o = (a ≡ countOf result) × (o ≡ outAfter result d)
+  Tells a o = Fills (λ room. playFrom room cue s es) a (record { entry = d; exit = o })
 
   refuses : {k : ℕ} → result ≡ refused k → Tells (refused k) d
-  refuses q = (sym (ap (λ x. countOf x) q), sym (ap (λ x. outAfter x d) q))
+  refuses q = record { answer = sym (ap (λ x. countOf x) q); lent = sym (ap (λ x. outAfter x d) q) }
 
   pub play-long : limit < length s → Tells (refused 34) d
   unfolding playFrom andNext
@@ -270,4 +270,4 @@ module _ (s es : List ℕ) (cue : ℕ) (d : List ℕ) where
             pub play-done : {o : List ℕ} → o ≡ outAfter (answer (shownBy cue) (unitsAt s es)) d → Tells (accepted n) o
             play-done q =
                 let e : n ≡ length (shownBy cue us) = k ∙ sym count-is in
-                (rw (play-all, e), q ∙ ap (λ x. outAfter (answer (shownBy cue) x) d) us-are ∙ sym (ap (λ x. outAfter x d) play-all))
+                record { answer = rw (play-all, e); lent = q ∙ ap (λ x. outAfter (answer (shownBy cue) x) d) us-are ∙ sym (ap (λ x. outAfter x d) play-all) }

@@ -1,7 +1,7 @@
 -- Laws of the whole way: assembly, and what follows it. Assumes nothing.
 use Prim.Native.Nat.{ℕ, _-_, _+_, _≤_}
 use native.Mathlib.Omega.{arith}
-use mathlib.Core.Path.{_≡_, refl, sym, ap, _∙_}
+use mathlib.Core.Path.{_≡_, refl, sym, ap, subst, _∙_}
 use mathlib.Core.List.{List}
 use mathlib.Core.Option.{Option, none}
 use mathlib.Core.Bool.{Bool, true, false, cond as pick}
@@ -12,31 +12,35 @@ use Rattle.bitio.specs.Limits.{limit}
 use Rattle.bitio.specs.Parse.{Answer, refused, accepted}
 use Rattle.bitio.specs.Lent.{pasted}
 use Rattle.bitio.proofs.LentLaws.{pasted-length}
-use Rattle.container.specs.Units.{bytesAfter, endsAfter, countOf, outAfter}
+use Rattle.container.specs.Units.{countOf}
 use Rattle.container.specs.Container.{Container}
 use Rattle.annexb.proofs.SplitLaws.{and-true}
 use Rattle.pictures.specs.Segments.{Segment, segmentsOf}
 use Rattle.pictures.specs.declared.settings.Settings.{Settings}
-use Rattle.pictures.specs.Assemble.{Outcome, stopped, made, andAlso, overall, Output, Room, fits, assembled, assemble}
-use Rattle.assemble.specs.Whole.{counts, countsOf, Lent, outcome, lentAfter}
+use Rattle.pictures.specs.Assemble.{Outcome, stopped, made, andAlso, overall, Output, Room, fits, assembled, assemble, unitsOf}
+use Rattle.assemble.specs.Whole.{counts, countsOf, assembledSays, Lent, outcome, lentAfter, Handed}
 use Rattle.assemble.specs.declared.multi.Counts.{Counts}
+use Rattle.assemble.specs.declared.multi.Assembled.{Assembled}
+use Rattle.assemble.specs.declared.multi.Assembled.the-variants.{Made}
+use Rattle.playback.specs.declared.walk.Walked.{Walked}
 use Rattle.playback.specs.declared.play.Shows.{Shows}
 use Rattle.playback.specs.declared.play.Shows.the-variants.{Positions, Refused as ShowsRefused}
 use Rattle.playback.specs.Shown.{showsSay}
-use Rattle.playback.specs.Way.{gatheredIn, writtenIn, backIn, shownIn}
-use Rattle.playback.specs.Walk.{walk, numberOf, stepAfter}
-use Rattle.playback.proofs.WayLaws.{Showed, head-is}
+use Rattle.playback.specs.Gather.{listed}
+use Rattle.playback.specs.Way.{PlayLent, shown, Plays}
+use Rattle.playback.specs.Walk.{walk, walkedSays, Walks}
+use Rattle.playback.proofs.WayLaws.{head-is}
 
 none-made : {A : Type 0} {k : ℕ} {i : Option ℕ} {a : A} → stopped k i ≡ made a → ⊥
 none-made e = let z : _≡_ {A = ℕ} 0 1 = cc in omega arith
 
 -- ---- what assembly has handed out has room
 
-pub record Has (room : Room) (o : Output) : Type 0 where
-  pub list : length (o .list) ≤ room .list
-  pub picture : length (o .picture) ≤ room .picture
-  pub ends : length (o .ends) ≤ room .ends
-  pub shows : length (o .shows) ≤ room .shows
+record Has (room : Room) (o : Output) : Type 0 where
+  list : length (o .list) ≤ room .list
+  picture : length (o .picture) ≤ room .picture
+  ends : length (o .ends) ≤ room .ends
+  shows : length (o .shows) ≤ room .shows
 
 fits-has : (room : Room) (o : Output) → fits room o ≡ true → Has room o
 unfolding fits
@@ -95,9 +99,9 @@ makes (stopped n j) t q = absurd (none-made (sym q))
 makes (made o) t q = (o, refl, cc)
 
 -- xs is what stands at the head of the buffer, n long
-pub record Head (xs : List ℕ) (n : ℕ) (d : List ℕ) : Type 0 where
-  pub within : n ≤ length d
-  pub is : take (n - 0) (drop 0 d) ≡ xs
+record Head (xs : List ℕ) (n : ℕ) (d : List ℕ) : Type 0 where
+  within : n ≤ length d
+  is : take (n - 0) (drop 0 d) ≡ xs
 
 head-of : (s d : List ℕ) → length s ≤ length d → {d′ : List ℕ} {n : ℕ} → d′ ≡ pasted d 0 s → n ≡ length s → Head s n d′
 head-of s d l {n = n} w k =
@@ -106,77 +110,77 @@ head-of s d l {n = n} w k =
       is = ap (λ y. take (n - 0) (drop 0 y)) w ∙ head-is d s n k;
     }
 
-pub outcome-has : (s rs : List ℕ) (set : Settings) (l : Lent) (o : Output) → outcome s rs set l ≡ made o
-    → Has (record { list = length (l .list); cues = length (l .cues); picture = length (l .pictures); ends = length (l .ends); shows = length (l .shows); header = length (l .header) }) o
-unfolding outcome
-outcome-has s rs set l o q = assemble-has _ set s rs o q
-
 -- ---- the whole
 
-module _ (c : Container) (x : Outcome Output) (cue : ℕ) (d m o b f g : List ℕ) where
-  -- the units' buffers, as they are in the end
-  abbrev pub Walks : Outcome ℕ → (d′ m′ o′ b′ f′ g′ : List ℕ) → Type 0
-  Walks a d′ m′ o′ b′ f′ g′ =
-      (a ≡ numberOf (walk c x cue d m o b f g))
-      × ((d′ ≡ stepAfter x (λ r. bytesAfter (gatheredIn c (r .list) (r .picture) (r .ends) (r .shows) d m) d) d)
-      × ((m′ ≡ stepAfter x (λ r. endsAfter (gatheredIn c (r .list) (r .picture) (r .ends) (r .shows) d m) m) m)
-      × ((o′ ≡ stepAfter x (λ r. outAfter (writtenIn c (r .list) (r .picture) (r .ends) (r .shows) d m o) o) o)
-      × ((b′ ≡ stepAfter x (λ r. bytesAfter (backIn c (r .list) (r .picture) (r .ends) (r .shows) d m o b f) b) b)
-      × ((f′ ≡ stepAfter x (λ r. endsAfter (backIn c (r .list) (r .picture) (r .ends) (r .shows) d m o b f) f) f)
-      × (g′ ≡ stepAfter x (λ r. outAfter (shownIn c (r .list) (r .picture) (r .ends) (r .shows) cue d m o b f g) g) g))))))
+-- assembly into the slices l has left l′
+module _ (c : Container) (cue : ℕ) (s rs : List ℕ) (set : Settings) (l l′ : Lent) (a : Assembled) (h : Handed (outcome s rs set) a (record { entry = l; exit = l′ })) where
+  abbrev x : Outcome Output
+  x = outcome s rs set l
 
-  pub walk-stop : (k : ℕ) (i : Option ℕ) → stopped k i ≡ countsOf x → Walks (stopped k i) d m o b f g
+  pub walk-stop : (d : PlayLent) (r : Walked) (k : ℕ) (i : Option ℕ) → walkedSays r ≡ stopped k i → assembledSays a ≡ stopped k i
+      → Walks c cue (outcome s rs set) r (record { entry = l; exit = l′ }) (record { entry = d; exit = d })
   unfolding walk andAlso
-  walk-stop k i q = let e = stops x k i q in rw e (refl, (refl, (refl, (refl, (refl, (refl, refl))))))
+  walk-stop d r k i v w =
+      let e = stops x k i (sym w ∙ h .answer) in
+      record { answer = v ∙ rw e; assembled = h .lent; way = rw e }
 
--- assembly has handed out into l
-module _ (x : Outcome Output) (t : Counts) (q : made t ≡ countsOf x) (l : Lent)
-    (h : (r : Output) → x ≡ made r → Has (record { list = length (l .list); cues = length (l .cues); picture = length (l .pictures); ends = length (l .ends); shows = length (l .shows); header = length (l .header) }) r)
-    {l′ : Lent} (lent : l′ ≡ lentAfter x l) where
-  abbrev r : Output
-  r = makes x t q .0
+  module _ (t : Counts) (made-it : a ≡ Made t) where
+    abbrev o : Output
+    o = makes x t (ap assembledSays (sym made-it) ∙ h .answer) .0
 
-  r-is : x ≡ made r
-  r-is = makes x t q .1
+    o-is : x ≡ made o
+    o-is = makes x t (ap assembledSays (sym made-it) ∙ h .answer) .1
 
-  t-is : t ≡ counts r
-  t-is = makes x t q .2
+    t-is : t ≡ counts o
+    t-is = makes x t (ap assembledSays (sym made-it) ∙ h .answer) .2
 
-  there : l′ ≡ lentAfter (made r) l
-  there = lent ∙ ap (λ y. lentAfter y l) r-is
+    has : Has (record { list = length (l .list); cues = length (l .cues); picture = length (l .pictures); ends = length (l .ends); shows = length (l .shows); header = length (l .header) }) o
+    unfolding outcome
+    has = assemble-has _ set s rs o o-is
 
-  in-list : Head (r .list) (t .units) (l′ .list)
-  in-list = head-of (r .list) (l .list) (h r r-is .list) (ap (λ y. y .list) there) (ap (λ y. y .units) t-is)
+    there : l′ ≡ lentAfter (made o) l
+    there = h .lent ∙ ap (λ y. lentAfter y l) o-is
 
-  in-picture : Head (r .picture) (t .picture) (l′ .pictures)
-  in-picture = head-of (r .picture) (l .pictures) (h r r-is .picture) (ap (λ y. y .pictures) there) (ap (λ y. y .picture) t-is)
+    in-list : Head (o .list) (t .units) (l′ .list)
+    in-list = head-of (o .list) (l .list) (has .list) (ap (λ y. y .list) there) (ap (λ y. y .units) t-is)
 
-  in-ends : Head (r .ends) (t .ends) (l′ .ends)
-  in-ends = head-of (r .ends) (l .ends) (h r r-is .ends) (ap (λ y. y .ends) there) (ap (λ y. y .ends) t-is)
+    in-picture : Head (o .picture) (t .picture) (l′ .pictures)
+    in-picture = head-of (o .picture) (l .pictures) (has .picture) (ap (λ y. y .pictures) there) (ap (λ y. y .picture) t-is)
 
-  in-shows : Head (r .shows) (t .shows) (l′ .shows)
-  in-shows = head-of (r .shows) (l .shows) (h r r-is .shows) (ap (λ y. y .shows) there) (ap (λ y. y .shows) t-is)
+    in-ends : Head (o .ends) (t .ends) (l′ .ends)
+    in-ends = head-of (o .ends) (l .ends) (has .ends) (ap (λ y. y .ends) there) (ap (λ y. y .ends) t-is)
 
-  pub handed-list : t .units ≤ length (l′ .list)
-  handed-list = in-list .within
+    in-shows : Head (o .shows) (t .shows) (l′ .shows)
+    in-shows = head-of (o .shows) (l .shows) (has .shows) (ap (λ y. y .shows) there) (ap (λ y. y .shows) t-is)
 
-  pub handed-picture : t .picture ≤ length (l′ .pictures)
-  handed-picture = in-picture .within
+    pub handed-list : t .units ≤ length (l′ .list)
+    handed-list = in-list .within
 
-  pub handed-ends : t .ends ≤ length (l′ .ends)
-  handed-ends = in-ends .within
+    pub handed-picture : t .picture ≤ length (l′ .pictures)
+    handed-picture = in-picture .within
 
-  pub handed-shows : t .shows ≤ length (l′ .shows)
-  handed-shows = in-shows .within
+    pub handed-ends : t .ends ≤ length (l′ .ends)
+    handed-ends = in-ends .within
 
-  module _ (c : Container) (d m o b f : List ℕ) where
-    module _ (cue : ℕ) (g : List ℕ) where
-      pub walk-go : {d′ m′ o′ b′ f′ g′ : List ℕ} {a : Answer ℕ} {z : Outcome ℕ} → z ≡ overall a
-          → Showed c (take (t .units - 0) (drop 0 (l′ .list))) (take (t .picture - 0) (drop 0 (l′ .pictures))) (take (t .ends - 0) (drop 0 (l′ .ends))) (take (t .shows - 0) (drop 0 (l′ .shows))) d m o b f cue g a d′ m′ o′ b′ f′ g′
-          → Walks c x cue d m o b f g z d′ m′ o′ b′ f′ g′
-      unfolding walk andAlso overall
-      walk-go v w = let (i, rest) = rw (in-list .is, in-picture .is, in-ends .is, in-shows .is) at w in rw r-is (v ∙ ap overall i ∙ go (shownIn c (r .list) (r .picture) (r .ends) (r .shows) cue d m o b f g), rest)
-        where
-          go : (y : Answer (List ℕ)) → overall (countOf y) ≡ andAlso (overall y) (λ xs. made (length xs))
-          go (refused k) = refl
-          go (accepted xs) = refl
+    pub handed-shows : t .shows ≤ length (l′ .shows)
+    handed-shows = in-shows .within
+
+    units-are : listed (take (t .units - 0) (drop 0 (l′ .list))) (take (t .picture - 0) (drop 0 (l′ .pictures))) (take (t .ends - 0) (drop 0 (l′ .ends))) (take (t .shows - 0) (drop 0 (l′ .shows))) ≡ unitsOf o
+    unfolding listed unitsOf
+    units-are = rw (in-list .is, in-picture .is, in-ends .is, in-shows .is)
+
+    pub walk-go : (d d′ : PlayLent) (r : Walked) (p : Shows) → walkedSays r ≡ overall (showsSay p)
+        → Plays c (listed (take (t .units - 0) (drop 0 (l′ .list))) (take (t .picture - 0) (drop 0 (l′ .pictures))) (take (t .ends - 0) (drop 0 (l′ .ends))) (take (t .shows - 0) (drop 0 (l′ .shows)))) cue p (record { entry = d; exit = d′ })
+        → Walks c cue (outcome s rs set) r (record { entry = l; exit = l′ }) (record { entry = d; exit = d′ })
+    unfolding walk andAlso overall
+    walk-go d d′ r p v w =
+        let z = subst (λ vs. Plays c vs cue p (record { entry = d; exit = d′ })) units-are w in
+        record {
+          answer = v ∙ ap overall (z .answer) ∙ go (shown c (unitsOf o) cue d) ∙ rw o-is;
+          assembled = h .lent;
+          way = z .lent ∙ rw o-is;
+        }
+      where
+        go : (y : Answer (List ℕ)) → overall (countOf y) ≡ andAlso (overall y) (λ ns. made (length ns))
+        go (refused k) = refl
+        go (accepted xs) = refl

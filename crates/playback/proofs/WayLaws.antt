@@ -1,4 +1,4 @@
--- Laws of the way of a list's units, step after step in lent memory. Assumes nothing.
+-- Laws of the way of a list's units, stage after stage in lent memory. Assumes nothing.
 use Prim.Native.Nat.{ℕ, suc, _+_, _-_, _≤_}
 use native.Mathlib.Omega.{arith}
 use mathlib.Core.Path.{_≡_, refl, sym, ap, ap₂, _∙_}
@@ -19,10 +19,14 @@ use Rattle.container.specs.declared.units.Split.{Split}
 use Rattle.container.specs.declared.units.Split.the-variants.{Units, Refused as SplitRefused}
 use Rattle.container.specs.declared.units.Joined.{Joined}
 use Rattle.container.specs.declared.units.Joined.the-variants.{Bytes, Refused as JoinedRefused}
-use Rattle.annexb.proofs.SplitLaws.{and-true}
-use Rattle.playback.specs.Gather.{listed, gathered}
-use Rattle.playback.specs.Shown.{fromCue, playFrom}
-use Rattle.playback.specs.Way.{gatheredIn, writtenIn, backIn, shownIn}
+use Rattle.annexb.proofs.SplitLaws.{Says, and-true}
+use Rattle.playback.specs.declared.play.Shows.{Shows}
+use Rattle.playback.specs.declared.play.Shows.the-variants.{Refused as ShowsRefused}
+use Rattle.playback.specs.Lent.{Fills, Store, roomOf, storeAfter, Stores}
+use Rattle.playback.specs.Gather.{gathered}
+use Rattle.playback.specs.Shown.{fromCue, playFrom, showsSay}
+use Rattle.playback.specs.Way.{WriteLent, CarryLent, bytesRoom, written, Writes, carried, Carries, shown, Plays}
+use Rattle.playback.proofs.GatherLaws.{stores}
 use Rattle.container.proofs.LentLaws.{units-there, lent-write}
 
 -- ---- what is accepted has room
@@ -76,9 +80,9 @@ write-fits : (c : Container) (room : Room) (us : List (List ℕ)) (bs : List ℕ
 unfolding write
 write-fits c room us bs q = fit-bytes room (bytesIn c us) bs (led (leb (length (streamBytes us)) limit) (fitBytes room (bytesIn c us)) bs q)
 
-gathered-fits : (room : Room) (l p e s : List ℕ) (us : List (List ℕ)) → gathered room l p e s ≡ accepted us → Fits room us
+gathered-fits : (us : List (List ℕ)) (room : Room) (vs : List (List ℕ)) → gathered us room ≡ accepted vs → Fits room vs
 unfolding gathered
-gathered-fits room l p e s us q = fit-units room (accepted (listed l p e s)) us q
+gathered-fits us room vs q = fit-units room (accepted us) vs q
 
 -- ---- what the answers say
 
@@ -128,206 +132,177 @@ ends-length at (u ∷ us) = ap suc (ends-length (at + length u) us)
 pub head-is : (d xs : List ℕ) (n : ℕ) → n ≡ length xs → take (n - 0) (drop 0 (pasted d 0 xs)) ≡ xs
 head-is d xs n q = let e : n - 0 ≡ 0 + length xs = omega arith in ap (λ k. take k (pasted d 0 xs)) e ∙ pasted-take-end d 0 xs (omega arith)
 
--- units in lent memory, of which there are n bytes and u ends
-module _ {x : Answer (List (List ℕ))} {n u : ℕ} (z : Sized x n u) (d m : List ℕ) (f : Fits (record { bytes = length d; ends = length m }) (z .units)) {d′ m′ : List ℕ} (p : d′ ≡ bytesAfter x d) (q : m′ ≡ endsAfter x m) where
-  d-is : d′ ≡ pasted d 0 (streamBytes (z .units))
-  d-is = p ∙ ap (λ y. bytesAfter y d) (z .are)
+-- units put in the store d, of which there are n bytes and u ends
+module _ (x : Answer (List (List ℕ))) (d : Store) (fit : (us : List (List ℕ)) → x ≡ accepted us → Fits (roomOf d) us)
+    (r : Split) (q : splitSays r ≡ sizesOf x) (d′ : Store) (p : d′ ≡ storeAfter x d) (n u : ℕ) (t : r ≡ Units n u) where
+  sized : Sized x n u
+  sized = split-some x r n u q t
 
-  m-is : m′ ≡ pasted m 0 (endsOf 0 (z .units))
-  m-is = q ∙ ap (λ y. endsAfter y m) (z .are)
+  room-is : Fits (roomOf d) (sized .units)
+  room-is = fit (sized .units) (sized .are)
 
-  units-long : n ≤ length d′
-  units-long = omega (arith, ap length d-is, pasted-length d 0 (streamBytes (z .units)) (omega (arith, f .bytes)), z .bytes, f .bytes)
+  bytes-are : d′ .bytes ≡ pasted (d .bytes) 0 (streamBytes (sized .units))
+  bytes-are = ap (λ (y : Store). y .bytes) p ∙ ap (λ y. bytesAfter y (d .bytes)) (sized .are)
 
-  ends-long : u ≤ length m′
+  ends-are : d′ .ends ≡ pasted (d .ends) 0 (endsOf 0 (sized .units))
+  ends-are = ap (λ (y : Store). y .ends) p ∙ ap (λ y. endsAfter y (d .ends)) (sized .are)
+
+  bytes-long : n ≤ length (d′ .bytes)
+  bytes-long = omega (arith, ap length bytes-are, pasted-length (d .bytes) 0 (streamBytes (sized .units)) (omega (arith, room-is .bytes)), sized .bytes, room-is .bytes)
+
+  ends-long : u ≤ length (d′ .ends)
   ends-long =
-      let k = ends-length 0 (z .units) in
-      omega (arith, ap length m-is, pasted-length m 0 (endsOf 0 (z .units)) (omega (arith, f .ends)), z .count, f .ends)
+      let k = ends-length 0 (sized .units) in
+      omega (arith, ap length ends-are, pasted-length (d .ends) 0 (endsOf 0 (sized .units)) (omega (arith, room-is .ends)), sized .count, room-is .ends)
 
-  units-head : take (n - 0) (drop 0 d′) ≡ streamBytes (z .units)
-  units-head = ap (λ y. take (n - 0) (drop 0 y)) d-is ∙ head-is d (streamBytes (z .units)) n (z .bytes)
+  bytes-head : take (n - 0) (drop 0 (d′ .bytes)) ≡ streamBytes (sized .units)
+  bytes-head = ap (λ y. take (n - 0) (drop 0 y)) bytes-are ∙ head-is (d .bytes) (streamBytes (sized .units)) n (sized .bytes)
 
-  ends-head : take (u - 0) (drop 0 m′) ≡ endsOf 0 (z .units)
-  ends-head = ap (λ y. take (u - 0) (drop 0 y)) m-is ∙ head-is m (endsOf 0 (z .units)) u (z .count ∙ sym (ends-length 0 (z .units)))
+  ends-head : take (u - 0) (drop 0 (d′ .ends)) ≡ endsOf 0 (sized .units)
+  ends-head = ap (λ y. take (u - 0) (drop 0 y)) ends-are ∙ head-is (d .ends) (endsOf 0 (sized .units)) u (sized .count ∙ sym (ends-length 0 (sized .units)))
 
 -- ---- one container or the other
 
-module _ {c k : Container} (room : Room) (q : k ≡ c) where
-  pub write-form : (s es d : List ℕ) {a : Answer ℕ} {o : List ℕ} → (a ≡ countOf (writeAt c room s es)) × (o ≡ outAfter (writeAt c room s es) d)
-      → (a ≡ countOf (writeAt k room s es)) × (o ≡ outAfter (writeAt k room s es) d)
-  write-form s es d e = rw q e
+module _ {c k : Container} (q : k ≡ c) where
+  pub write-form : (s es d : List ℕ) {a : Answer ℕ} {o : List ℕ} → (a ≡ countOf (writeAt c (bytesRoom (length d)) s es)) × (o ≡ outAfter (writeAt c (bytesRoom (length d)) s es) d)
+      → Fills (λ n. writeAt k (bytesRoom n) s es) a (record { entry = d; exit = o })
+  write-form s es d (i, j) =
+      let w = ap (λ (y : Container). writeAt y (bytesRoom (length d)) s es) (sym q) in
+      record { answer = i ∙ ap (λ y. countOf y) w; lent = j ∙ ap (λ y. outAfter y d) w }
 
-  pub read-form : (s d m : List ℕ) {a : Answer Sizes} {o f : List ℕ} → (a ≡ sizesOf (read c room s)) × ((o ≡ bytesAfter (read c room s) d) × (f ≡ endsAfter (read c room s) m))
-      → (a ≡ sizesOf (read k room s)) × ((o ≡ bytesAfter (read k room s) d) × (f ≡ endsAfter (read k room s) m))
-  read-form s d m e = rw q e
+  pub read-form : (s d m : List ℕ) (r : Split) {o f : List ℕ} → Says (read c (record { bytes = length d; ends = length m }) s) (splitSays r) d m o f
+      → Stores (λ room. read k room s) r (record { entry = record { bytes = d; ends = m }; exit = record { bytes = o; ends = f } })
+  read-form s d m r e = stores (λ room. read k room s) (rw q e)
 
--- ---- the steps
+-- ---- the stages
 
-module _ (c : Container) (l p e s d m : List ℕ) where
-  abbrev G : Answer (List (List ℕ))
-  G = gatheredIn c l p e s d m
-
-  gathered-room : (us : List (List ℕ)) → G ≡ accepted us → Fits (record { bytes = length d; ends = length m }) us
-  gathered-room us q = gathered-fits (record { bytes = length d; ends = length m }) l p e s us q
-
-  module _ (o : List ℕ) where
+module _ (c : Container) (us : List (List ℕ)) where
+  -- gathered
+  module _ (d d′ : Store) (r : Split) (w : Stores (gathered us) r (record { entry = d; exit = d′ })) (o : List ℕ) where
     abbrev W : Answer (List ℕ)
-    W = writtenIn c l p e s d m o
+    W = written c us (record { units = d; out = o })
 
-    written-none : {k : ℕ} → G ≡ refused k → W ≡ refused k
-    unfolding writtenIn andNext
-    written-none q = rw q
-
-    written-some : {us : List (List ℕ)} → G ≡ accepted us → W ≡ write c (record { bytes = length o; ends = 0 }) us
-    unfolding writtenIn andNext
+    written-some : {vs : List (List ℕ)} → gathered us (roomOf d) ≡ accepted vs → write c (bytesRoom (length o)) vs ≡ W
+    unfolding written andNext
     written-some q = rw q
 
-    abbrev pub Wrote : Answer ℕ → (d′ m′ o′ : List ℕ) → Type 0
-    Wrote a d′ m′ o′ = (a ≡ countOf W) × ((d′ ≡ bytesAfter G d) × ((m′ ≡ endsAfter G m) × (o′ ≡ outAfter W o)))
+    pub write-stop : (k : ℕ) → r ≡ SplitRefused k → Writes c us (JoinedRefused k) (record { entry = record { units = d; out = o }; exit = record { units = d′; out = o } })
+    unfolding written andNext
+    write-stop k t =
+        let z : W ≡ refused k = rw (split-none (gathered us (roomOf d)) r k (w .answer) t) in
+        record { answer = sym (ap (λ i. countOf i) z); lent = ap₂ (λ i j. record { units = i; out = j }) (w .lent) (sym (ap (λ i. outAfter i o) z)) }
 
-    -- gathered
-    module _ (r : Split) (q : splitSays r ≡ sizesOf G) {d′ m′ : List ℕ} (x : d′ ≡ bytesAfter G d) (y : m′ ≡ endsAfter G m) where
-      pub write-stop : (k : ℕ) → r ≡ SplitRefused k → Wrote (refused k) d′ m′ o
-      write-stop k t =
-          let w = written-none (split-none G r k q t) in
-          (sym (ap (λ z. countOf z) w), (x, (y, sym (ap (λ z. outAfter z o) w))))
+    module _ (n u : ℕ) (t : r ≡ Units n u) where
+      pub write-long : n ≤ length (d′ .bytes)
+      write-long = bytes-long (gathered us (roomOf d)) d (gathered-fits us (roomOf d)) r (w .answer) d′ (w .lent) n u t
 
-      module _ (n u : ℕ) (t : r ≡ Units n u) where
-        sized : Sized G n u
-        sized = split-some G r n u q t
+      pub write-slots : u ≤ length (d′ .ends)
+      write-slots = ends-long (gathered us (roomOf d)) d (gathered-fits us (roomOf d)) r (w .answer) d′ (w .lent) n u t
 
-        room-is : Fits (record { bytes = length d; ends = length m }) (sized .units)
-        room-is = gathered-room (sized .units) (sized .are)
+      whole : writeAt c (bytesRoom (length o)) (take (n - 0) (drop 0 (d′ .bytes))) (take (u - 0) (drop 0 (d′ .ends))) ≡ W
+      whole =
+          let z = sized (gathered us (roomOf d)) d (gathered-fits us (roomOf d)) r (w .answer) d′ (w .lent) n u t in
+          ap₂ (λ i j. writeAt c (bytesRoom (length o)) i j)
+          (bytes-head (gathered us (roomOf d)) d (gathered-fits us (roomOf d)) r (w .answer) d′ (w .lent) n u t)
+          (ends-head (gathered us (roomOf d)) d (gathered-fits us (roomOf d)) r (w .answer) d′ (w .lent) n u t)
+          ∙ lent-write c (bytesRoom (length o)) (z .units) ∙ written-some (z .are)
 
-        pub write-long : n ≤ length d′
-        write-long = units-long sized d m room-is x y
+      pub write-go : (o′ : List ℕ) (j : Joined)
+          → Fills (λ m. writeAt c (bytesRoom m) (take (n - 0) (drop 0 (d′ .bytes))) (take (u - 0) (drop 0 (d′ .ends)))) (joinedSays j) (record { entry = o; exit = o′ })
+          → Writes c us j (record { entry = record { units = d; out = o }; exit = record { units = d′; out = o′ } })
+      write-go o′ j f =
+          record { answer = f .answer ∙ ap (λ i. countOf i) whole; lent = ap₂ (λ i j. record { units = i; out = j }) (w .lent) (f .lent ∙ ap (λ i. outAfter i o) whole) }
 
-        pub write-slots : u ≤ length m′
-        write-slots = ends-long sized d m room-is x y
+  -- written
+  module _ (d d′ : WriteLent) (r : Joined) (w : Writes c us r (record { entry = d; exit = d′ })) (b : Store) where
+    abbrev R : Answer (List (List ℕ))
+    R = carried c us (record { written = d; back = b })
 
-        abbrev A : Answer (List ℕ)
-        A = writeAt c (record { bytes = length o; ends = 0 }) (take (n - 0) (drop 0 d′)) (take (u - 0) (drop 0 m′))
+    carried-some : {bs : List ℕ} → written c us d ≡ accepted bs → read c (roomOf b) bs ≡ R
+    unfolding carried andNext
+    carried-some q = rw q
 
-        whole : A ≡ W
-        whole =
-            ap₂ (λ i j. writeAt c (record { bytes = length o; ends = 0 }) i j) (units-head sized d m room-is x y) (ends-head sized d m room-is x y)
-            ∙ lent-write c (record { bytes = length o; ends = 0 }) (sized .units) ∙ sym (written-some (sized .are))
+    pub carry-stop : (k : ℕ) → r ≡ JoinedRefused k → Carries c us (SplitRefused k) (record { entry = record { written = d; back = b }; exit = record { written = d′; back = b } })
+    unfolding carried andNext
+    carry-stop k t =
+        let z : R ≡ refused k = rw (joined-none (written c us d) r k (w .answer) t) in
+        record { answer = sym (ap (λ i. sizesOf i) z); lent = ap₂ (λ i j. record { written = i; back = j }) (w .lent) (sym (ap (λ i. storeAfter i b) z)) }
 
-        pub write-go : {a : Answer ℕ} {o′ : List ℕ} → (a ≡ countOf A) × (o′ ≡ outAfter A o) → Wrote a d′ m′ o′
-        write-go (f, g) = (f ∙ ap (λ z. countOf z) whole, (x, (y, g ∙ ap (λ z. outAfter z o) whole)))
+    module _ (n : ℕ) (t : r ≡ Bytes n) where
+      bytes-fit : (bs : List ℕ) → written c us d ≡ accepted bs → length bs ≤ length (d .out)
+      unfolding written andNext
+      bytes-fit bs q = go (gathered us (roomOf (d .units))) q
+        where
+          go : (x : Answer (List (List ℕ))) → andNext x (write c (bytesRoom (length (d .out)))) ≡ accepted bs → length bs ≤ length (d .out)
+          go (refused k) q = absurd (none-made q)
+          go (accepted vs) q = write-fits c (bytesRoom (length (d .out))) vs bs q
 
-    module _ (b f : List ℕ) where
-      abbrev R : Answer (List (List ℕ))
-      R = backIn c l p e s d m o b f
+      out-is : (bs : List ℕ) → written c us d ≡ accepted bs → d′ .out ≡ pasted (d .out) 0 bs
+      out-is bs q = ap (λ (y : WriteLent). y .out) (w .lent) ∙ ap (λ i. outAfter i (d .out)) q
 
-      abbrev back-room : Room
-      back-room = record { bytes = length b; ends = length f }
+      pub carry-long : n ≤ length (d′ .out)
+      carry-long =
+          let (bs, q, e) = joined-some (written c us d) r n (w .answer) t in
+          let f = bytes-fit bs q in
+          omega (arith, ap length (out-is bs q), pasted-length (d .out) 0 bs (omega (arith, f)), e, f)
 
-      back-none : {k : ℕ} → W ≡ refused k → R ≡ refused k
-      unfolding backIn andNext
-      back-none q = rw q
+      back-whole : read c (roomOf b) (take (n - 0) (drop 0 (d′ .out))) ≡ R
+      back-whole =
+          let (bs, q, e) = joined-some (written c us d) r n (w .answer) t in
+          ap (λ i. read c (roomOf b) i) (ap (λ i. take (n - 0) (drop 0 i)) (out-is bs q) ∙ head-is (d .out) bs n e) ∙ carried-some q
 
-      back-some : {bs : List ℕ} → W ≡ accepted bs → R ≡ read c back-room bs
-      unfolding backIn andNext
-      back-some q = rw q
+      pub carry-go : (b′ : Store) (j : Split) → Stores (λ room. read c room (take (n - 0) (drop 0 (d′ .out)))) j (record { entry = b; exit = b′ })
+          → Carries c us j (record { entry = record { written = d; back = b }; exit = record { written = d′; back = b′ } })
+      carry-go b′ j f =
+          record { answer = f .answer ∙ ap (λ i. sizesOf i) back-whole; lent = ap₂ (λ i j. record { written = i; back = j }) (w .lent) (f .lent ∙ ap (λ i. storeAfter i b) back-whole) }
 
-      abbrev pub Carried : Answer Sizes → (d′ m′ o′ b′ f′ : List ℕ) → Type 0
-      Carried a d′ m′ o′ b′ f′ = (a ≡ sizesOf R) × ((d′ ≡ bytesAfter G d) × ((m′ ≡ endsAfter G m) × ((o′ ≡ outAfter W o) × ((b′ ≡ bytesAfter R b) × (f′ ≡ endsAfter R f)))))
+  -- read back
+  module _ (d d′ : CarryLent) (r : Split) (w : Carries c us r (record { entry = d; exit = d′ })) (cue : ℕ) (g : List ℕ) where
+    abbrev S : Answer (List ℕ)
+    S = shown c us cue (record { carried = d; shown = g })
 
-      -- written
-      module _ (r : Joined) {d′ m′ o′ : List ℕ} (w : Wrote (joinedSays r) d′ m′ o′) where
-        pub carry-stop : (k : ℕ) → r ≡ JoinedRefused k → Carried (refused k) d′ m′ o′ b f
-        carry-stop k t =
-            let z = back-none (joined-none W r k (w .0) t) in
-            (sym (ap (λ i. sizesOf i) z), (w .1 .0, (w .1 .1 .0, (w .1 .1 .1, (sym (ap (λ i. bytesAfter i b) z), sym (ap (λ i. endsAfter i f) z))))))
+    shown-some : {vs : List (List ℕ)} → carried c us d ≡ accepted vs → fromCue (length g) cue vs ≡ S
+    unfolding shown andNext
+    shown-some q = rw q
 
-        module _ (n : ℕ) (t : r ≡ Bytes n) where
-          abbrev bs : List ℕ
-          bs = joined-some W r n (w .0) t .0
+    pub show-stop : (k : ℕ) → r ≡ SplitRefused k → Plays c us cue (ShowsRefused k) (record { entry = record { carried = d; shown = g }; exit = record { carried = d′; shown = g } })
+    unfolding shown andNext
+    show-stop k t =
+        let z : S ≡ refused k = rw (split-none (carried c us d) r k (w .answer) t) in
+        record { answer = sym (ap (λ i. countOf i) z); lent = ap₂ (λ i j. record { carried = i; shown = j }) (w .lent) (sym (ap (λ i. outAfter i g) z)) }
 
-          bs-are : W ≡ accepted bs
-          bs-are = joined-some W r n (w .0) t .1
+    module _ (n u : ℕ) (t : r ≡ Units n u) where
+      back-fits : (vs : List (List ℕ)) → carried c us d ≡ accepted vs → Fits (roomOf (d .back)) vs
+      unfolding carried andNext
+      back-fits vs q = go (written c us (d .written)) q
+        where
+          go : (x : Answer (List ℕ)) → andNext x (read c (roomOf (d .back))) ≡ accepted vs → Fits (roomOf (d .back)) vs
+          go (refused k) q = absurd (none-made q)
+          go (accepted bs) q = read-fits c (roomOf (d .back)) bs vs q
 
-          o-is : o′ ≡ pasted o 0 bs
-          o-is = w .1 .1 .1 ∙ ap (λ i. outAfter i o) bs-are
+      back-is : d′ .back ≡ storeAfter (carried c us d) (d .back)
+      back-is = ap (λ (y : CarryLent). y .back) (w .lent)
 
-          n-is : n ≡ length bs
-          n-is = joined-some W r n (w .0) t .2
+      pub show-long : n ≤ length (d′ .back .bytes)
+      show-long = bytes-long (carried c us d) (d .back) back-fits r (w .answer) (d′ .back) back-is n u t
 
-          bs-fit : length bs ≤ length o
-          unfolding writtenIn andNext
-          bs-fit = go G bs-are
-            where
-              go : (x : Answer (List (List ℕ))) → andNext x (write c (record { bytes = length o; ends = 0 })) ≡ accepted bs → length bs ≤ length o
-              go (refused k) q = absurd (none-made q)
-              go (accepted us) q = write-fits c (record { bytes = length o; ends = 0 }) us bs q
+      pub show-slots : u ≤ length (d′ .back .ends)
+      show-slots = ends-long (carried c us d) (d .back) back-fits r (w .answer) (d′ .back) back-is n u t
 
-          pub carry-long : n ≤ length o′
-          carry-long = omega (arith, ap length o-is, pasted-length o 0 bs (omega (arith, bs-fit)), n-is, bs-fit)
+      played : (vs : List (List ℕ)) → Fits (roomOf (d .back)) vs → playFrom (length g) cue (streamBytes vs) (endsOf 0 vs) ≡ fromCue (length g) cue vs
+      unfolding playFrom streamBytes andNext
+      played vs f = rw (le-leb (length (streamBytes vs)) limit (f .small), units-there 0 vs)
 
-          abbrev B : Answer (List (List ℕ))
-          B = read c back-room (take (n - 0) (drop 0 o′))
+      shown-whole : playFrom (length g) cue (take (n - 0) (drop 0 (d′ .back .bytes))) (take (u - 0) (drop 0 (d′ .back .ends))) ≡ S
+      shown-whole =
+          let z = sized (carried c us d) (d .back) back-fits r (w .answer) (d′ .back) back-is n u t in
+          ap₂ (λ i j. playFrom (length g) cue i j)
+          (bytes-head (carried c us d) (d .back) back-fits r (w .answer) (d′ .back) back-is n u t)
+          (ends-head (carried c us d) (d .back) back-fits r (w .answer) (d′ .back) back-is n u t)
+          ∙ played (z .units) (back-fits (z .units) (z .are)) ∙ shown-some (z .are)
 
-          back-whole : B ≡ R
-          back-whole = ap (λ i. read c back-room i) (ap (λ i. take (n - 0) (drop 0 i)) o-is ∙ head-is o bs n n-is) ∙ sym (back-some bs-are)
-
-          pub carry-go : {a : Answer Sizes} {b′ f′ : List ℕ} → (a ≡ sizesOf B) × ((b′ ≡ bytesAfter B b) × (f′ ≡ endsAfter B f)) → Carried a d′ m′ o′ b′ f′
-          carry-go (i, (j, k)) =
-              (i ∙ ap (λ y. sizesOf y) back-whole, (w .1 .0, (w .1 .1 .0, (w .1 .1 .1, (j ∙ ap (λ y. bytesAfter y b) back-whole, k ∙ ap (λ y. endsAfter y f) back-whole)))))
-
-      module _ (cue : ℕ) (g : List ℕ) where
-        abbrev S : Answer (List ℕ)
-        S = shownIn c l p e s cue d m o b f g
-
-        shown-none : {k : ℕ} → R ≡ refused k → S ≡ refused k
-        unfolding shownIn andNext
-        shown-none q = rw q
-
-        shown-some : {us : List (List ℕ)} → R ≡ accepted us → S ≡ fromCue (length g) cue us
-        unfolding shownIn andNext
-        shown-some q = rw q
-
-        abbrev pub Showed : Answer ℕ → (d′ m′ o′ b′ f′ g′ : List ℕ) → Type 0
-        Showed a d′ m′ o′ b′ f′ g′ =
-            (a ≡ countOf S) × ((d′ ≡ bytesAfter G d) × ((m′ ≡ endsAfter G m) × ((o′ ≡ outAfter W o) × ((b′ ≡ bytesAfter R b) × ((f′ ≡ endsAfter R f) × (g′ ≡ outAfter S g))))))
-
-        -- read back
-        module _ (r : Split) {d′ m′ o′ b′ f′ : List ℕ} (w : Carried (splitSays r) d′ m′ o′ b′ f′) where
-          abbrev rest : {a : Answer ℕ} {g′ : List ℕ} → a ≡ countOf S → g′ ≡ outAfter S g → Showed a d′ m′ o′ b′ f′ g′
-          rest i j = (i, (w .1 .0, (w .1 .1 .0, (w .1 .1 .1 .0, (w .1 .1 .1 .1 .0, (w .1 .1 .1 .1 .1, j))))))
-
-          pub show-stop : (k : ℕ) → r ≡ SplitRefused k → Showed (refused k) d′ m′ o′ b′ f′ g
-          show-stop k t = let z = shown-none (split-none R r k (w .0) t) in rest (sym (ap (λ i. countOf i) z)) (sym (ap (λ i. outAfter i g) z))
-
-          module _ (n u : ℕ) (t : r ≡ Units n u) where
-            back-sized : Sized R n u
-            back-sized = split-some R r n u (w .0) t
-
-            back-fits : Fits back-room (back-sized .units)
-            unfolding backIn andNext
-            back-fits = go W (back-sized .are)
-              where
-                go : (x : Answer (List ℕ)) → andNext x (read c back-room) ≡ accepted (back-sized .units) → Fits back-room (back-sized .units)
-                go (refused k) q = absurd (none-made q)
-                go (accepted bs) q = read-fits c back-room bs (back-sized .units) q
-
-            pub show-long : n ≤ length b′
-            show-long = units-long back-sized b f back-fits (w .1 .1 .1 .1 .0) (w .1 .1 .1 .1 .1)
-
-            pub show-slots : u ≤ length f′
-            show-slots = ends-long back-sized b f back-fits (w .1 .1 .1 .1 .0) (w .1 .1 .1 .1 .1)
-
-            abbrev P : Answer (List ℕ)
-            P = playFrom (length g) cue (take (n - 0) (drop 0 b′)) (take (u - 0) (drop 0 f′))
-
-            played : playFrom (length g) cue (streamBytes (back-sized .units)) (endsOf 0 (back-sized .units)) ≡ fromCue (length g) cue (back-sized .units)
-            unfolding playFrom streamBytes andNext
-            played = rw (le-leb (length (streamBytes (back-sized .units))) limit (back-fits .small), units-there 0 (back-sized .units))
-
-            shown-whole : P ≡ S
-            shown-whole =
-                ap₂ (λ i j. playFrom (length g) cue i j) (units-head back-sized b f back-fits (w .1 .1 .1 .1 .0) (w .1 .1 .1 .1 .1)) (ends-head back-sized b f back-fits (w .1 .1 .1 .1 .0) (w .1 .1 .1 .1 .1))
-                ∙ played ∙ sym (shown-some (back-sized .are))
-
-            pub show-go : {a : Answer ℕ} {g′ : List ℕ} → (a ≡ countOf P) × (g′ ≡ outAfter P g) → Showed a d′ m′ o′ b′ f′ g′
-            show-go (i, j) = rest (i ∙ ap (λ y. countOf y) shown-whole) (j ∙ ap (λ y. outAfter y g) shown-whole)
+      pub show-go : (g′ : List ℕ) (j : Shows)
+          → Fills (λ room. playFrom room cue (take (n - 0) (drop 0 (d′ .back .bytes))) (take (u - 0) (drop 0 (d′ .back .ends)))) (showsSay j) (record { entry = g; exit = g′ })
+          → Plays c us cue j (record { entry = record { carried = d; shown = g }; exit = record { carried = d′; shown = g′ } })
+      show-go g′ j f =
+          record { answer = f .answer ∙ ap (λ i. countOf i) shown-whole; lent = ap₂ (λ i j. record { carried = i; shown = j }) (w .lent) (f .lent ∙ ap (λ i. outAfter i g) shown-whole) }

@@ -13,8 +13,8 @@ unfoldable pub listed : (list picture ends shows : List ℕ) → List (List ℕ)
 listed list picture ends shows = map (named picture ends shows) list
 
 -- 35: lent room or the limit cannot hold them
-unfoldable pub gathered : Room → (list picture ends shows : List ℕ) → Answer (List (List ℕ))
-gathered room list picture ends shows = fitUnits room (accepted (listed list picture ends shows))
+unfoldable pub gathered : List (List ℕ) → Room → Answer (List (List ℕ))
+gathered us room = fitUnits room (accepted us)
 
 -- the units us have room in d, their ends in e
 pub record CanGather (d e : List ℕ) (us : List (List ℕ)) : Type 0 where

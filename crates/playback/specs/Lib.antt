@@ -1,3 +1,4 @@
+pub mod Lent
 pub mod Gather
 pub mod Shown
 pub mod Way

@@ -6,7 +6,7 @@ use mathlib.Core.Bool.{cond as pick, _&&_}
 use mathlib.Core.Option.{Option, none, some}
 use lib.ListN.{length, getD, drop}
 use lib.Dec.{leb}
-use Rattle.bitio.specs.Parse.{Answer, refused, accepted, answer, andNext}
+use Rattle.bitio.specs.Parse.{Answer, refused, accepted, andNext}
 use Rattle.obu.specs.Place.{part}
 use Rattle.bitio.specs.Limits.{led34}
 use Rattle.container.specs.Units.{unitsAt}

@@ -4,7 +4,8 @@ ghost use Prim.Native.Nat.{_+_, _≤_, min};
 ghost use lib.ListN.{length};
 ghost use Rattle.bitio.specs.Lent.{pasted};
 ghost use Rattle.container.specs.Stream.{streamBytes};
-ghost use Rattle.container.specs.Units.{endsOf, sizesOf, bytesAfter, endsAfter, splitSays};
+ghost use Rattle.container.specs.Units.{endsOf};
+ghost use Rattle.playback.specs.Lent.{store, Stores};
 ghost use Rattle.playback.specs.Gather.{listed, gathered, CanGather};
 use assemble::unit::unit;
 use container::units::Split;
@@ -67,9 +68,7 @@ pub fn gather_units<'a>(
     ends: &[u32],
     shows: &'a [u8],
 ) -> Split
-    ensures { λ r. ⌜ splitSays r ≡ sizesOf (gathered (record { bytes = length (now (units .entry)); ends = length (now («unit_ends» .entry)) }) (now (list .entry)) (now (pictures .entry)) (now (ends .entry)) (now (shows .entry))) ⌝ }
-    ensures { λ _. ⌜ now (units .exit) ≡ bytesAfter (gathered (record { bytes = length (now (units .entry)); ends = length (now («unit_ends» .entry)) }) (now (list .entry)) (now (pictures .entry)) (now (ends .entry)) (now (shows .entry))) (now (units .entry)) ⌝ }
-    ensures { λ _. ⌜ now («unit_ends» .exit) ≡ endsAfter (gathered (record { bytes = length (now (units .entry)); ends = length (now («unit_ends» .entry)) }) (now (list .entry)) (now (pictures .entry)) (now (ends .entry)) (now (shows .entry))) (now («unit_ends» .entry)) ⌝ }
+    ensures { λ r. ⌜ Stores (gathered (listed (now (list .entry)) (now (pictures .entry)) (now (ends .entry)) (now (shows .entry)))) r (store units «unit_ends») ⌝ }
 {
     let count = list.len();
     let bytes = measure(list, pictures, ends, shows);

@@ -1,4 +1,4 @@
-// Demand 3 of document 01, from the segments to the last unit played: specs/Demand.antt states it, proofs/Demand3.antt proves it.
+// The way of one list at run time, from the segments to the last unit played. What has to come of it is crate demand's.
 pub mod gather;
 pub mod play;
 pub mod walk;

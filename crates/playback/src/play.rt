@@ -4,8 +4,9 @@ ghost use mathlib.Core.List.{_∷_};
 ghost use Prim.Native.Nat.{_+_, _≤_, _<_};
 ghost use lib.ListN.{length, getD};
 ghost use Rattle.bitio.specs.Parse.{answer};
-ghost use Rattle.container.specs.Units.{unitsAt, countOf, outAfter};
+ghost use Rattle.container.specs.Units.{unitsAt, outAfter};
 ghost use Rattle.player.specs.Code.{playedBy};
+ghost use Rattle.playback.specs.Lent.{held, Fills};
 ghost use Rattle.playback.specs.Shown.{codeNumber, shownBy, playFrom, showsSay, unitIn, CanPlay};
 use container::lists::check_ends;
 use obu::reader::payload;
@@ -76,8 +77,7 @@ fn play_units(units: &[u8], ends: &[u32], cue: usize, shown: &mut [u64])
 // The units from the cue to the last, each played under its own position, from eight empty slots and no kept header: a
 // number for each to `shown`. A refusal changes nothing.
 pub fn play_from(units: &[u8], unit_ends: &[u32], cue: usize, shown: &mut [u64]) -> Shows
-    ensures { λ r. ⌜ showsSay r ≡ countOf (playFrom (length (now (shown .entry))) cue (now (units .entry)) (now («unit_ends» .entry))) ⌝ }
-    ensures { λ _. ⌜ now (shown .exit) ≡ outAfter (playFrom (length (now (shown .entry))) cue (now (units .entry)) (now («unit_ends» .entry))) (now (shown .entry)) ⌝ }
+    ensures { λ r. ⌜ Fills (λ room. playFrom room cue (now (units .entry)) (now («unit_ends» .entry))) (showsSay r) (held shown) ⌝ }
 {
     let len = units.len();
     let count = unit_ends.len();

@@ -1,11 +1,10 @@
 // The whole way for one list at run time: assembled, gathered, written in a container, read back, and played from a cue.
 ghost use mathlib.Core.Path.{_≡_};
 ghost use Rattle.pictures.specs.Assemble.{overall};
-ghost use Rattle.container.specs.Units.{bytesAfter, endsAfter, outAfter};
-ghost use Rattle.assemble.specs.Whole.{outcome, slices, lentAfter};
+ghost use Rattle.assemble.specs.Whole.{outcome, slices};
 ghost use Rattle.playback.specs.Shown.{showsSay};
-ghost use Rattle.playback.specs.Way.{formSays, gatheredIn, writtenIn, backIn, shownIn};
-ghost use Rattle.playback.specs.Walk.{walk, numberOf, walkedSays, stepAfter};
+ghost use Rattle.playback.specs.Way.{formSays, playLent};
+ghost use Rattle.playback.specs.Walk.{walkedSays, Walks};
 use crate::play::Shows;
 use crate::way::Form;
 use crate::way::play_list;
@@ -52,14 +51,7 @@ pub fn walk(
     back_ends: &mut [u32],
     shown: &mut [u64],
 ) -> Walked
-    ensures answer { λ r. ⌜ walkedSays r ≡ numberOf (walk (formSays form) (outcome (now (picture .entry)) (now (segments .entry)) settings (slices list cues pictures ends shows header .entry)) cue (now (units .entry)) (now («unit_ends» .entry)) (now (out .entry)) (now (back .entry)) (now («back_ends» .entry)) (now (shown .entry))) ⌝ }
-    ensures lent { λ _. ⌜ slices list cues pictures ends shows header .exit ≡ lentAfter (outcome (now (picture .entry)) (now (segments .entry)) settings (slices list cues pictures ends shows header .entry)) (slices list cues pictures ends shows header .entry) ⌝ }
-    ensures units { λ _. ⌜ now (units .exit) ≡ stepAfter (outcome (now (picture .entry)) (now (segments .entry)) settings (slices list cues pictures ends shows header .entry)) (λ o. bytesAfter (gatheredIn (formSays form) (o .list) (o .picture) (o .ends) (o .shows) (now (units .entry)) (now («unit_ends» .entry))) (now (units .entry))) (now (units .entry)) ⌝ }
-    ensures unit_ends { λ _. ⌜ now («unit_ends» .exit) ≡ stepAfter (outcome (now (picture .entry)) (now (segments .entry)) settings (slices list cues pictures ends shows header .entry)) (λ o. endsAfter (gatheredIn (formSays form) (o .list) (o .picture) (o .ends) (o .shows) (now (units .entry)) (now («unit_ends» .entry))) (now («unit_ends» .entry))) (now («unit_ends» .entry)) ⌝ }
-    ensures out { λ _. ⌜ now (out .exit) ≡ stepAfter (outcome (now (picture .entry)) (now (segments .entry)) settings (slices list cues pictures ends shows header .entry)) (λ o. outAfter (writtenIn (formSays form) (o .list) (o .picture) (o .ends) (o .shows) (now (units .entry)) (now («unit_ends» .entry)) (now (out .entry))) (now (out .entry))) (now (out .entry)) ⌝ }
-    ensures back { λ _. ⌜ now (back .exit) ≡ stepAfter (outcome (now (picture .entry)) (now (segments .entry)) settings (slices list cues pictures ends shows header .entry)) (λ o. bytesAfter (backIn (formSays form) (o .list) (o .picture) (o .ends) (o .shows) (now (units .entry)) (now («unit_ends» .entry)) (now (out .entry)) (now (back .entry)) (now («back_ends» .entry))) (now (back .entry))) (now (back .entry)) ⌝ }
-    ensures back_ends { λ _. ⌜ now («back_ends» .exit) ≡ stepAfter (outcome (now (picture .entry)) (now (segments .entry)) settings (slices list cues pictures ends shows header .entry)) (λ o. endsAfter (backIn (formSays form) (o .list) (o .picture) (o .ends) (o .shows) (now (units .entry)) (now («unit_ends» .entry)) (now (out .entry)) (now (back .entry)) (now («back_ends» .entry))) (now («back_ends» .entry))) (now («back_ends» .entry)) ⌝ }
-    ensures shown { λ _. ⌜ now (shown .exit) ≡ stepAfter (outcome (now (picture .entry)) (now (segments .entry)) settings (slices list cues pictures ends shows header .entry)) (λ o. outAfter (shownIn (formSays form) (o .list) (o .picture) (o .ends) (o .shows) cue (now (units .entry)) (now («unit_ends» .entry)) (now (out .entry)) (now (back .entry)) (now («back_ends» .entry)) (now (shown .entry))) (now (shown .entry))) (now (shown .entry)) ⌝ }
+    ensures { λ r. ⌜ Walks (formSays form) cue (outcome (now (picture .entry)) (now (segments .entry)) settings) r (slices list cues pictures ends shows header) (playLent units «unit_ends» out back «back_ends» shown) ⌝ }
 {
     match assemble_multi(
         picture,

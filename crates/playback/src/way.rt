@@ -1,10 +1,9 @@
 // The way of a list's units: gathered, written in a container, read back, and played. Every buffer is the caller's.
-ghost use mathlib.Core.Path.{_≡_};
-ghost use lib.ListN.{length};
-ghost use Rattle.container.specs.Units.{sizesOf, bytesAfter, endsAfter, splitSays, countOf, outAfter, joinedSays};
+ghost use Rattle.container.specs.Units.{joinedSays};
 ghost use Rattle.container.specs.Container.{read, writeAt};
-ghost use Rattle.playback.specs.Shown.{showsSay};
-ghost use Rattle.playback.specs.Way.{formSays, gatheredIn, writtenIn, backIn, shownIn};
+ghost use Rattle.playback.specs.Lent.{held, Fills, store, Stores};
+ghost use Rattle.playback.specs.Gather.{listed};
+ghost use Rattle.playback.specs.Way.{formSays, bytesRoom, writeLent, carryLent, playLent, Writes, Carries, Plays};
 use crate::gather::gather_units;
 use crate::play::Shows;
 use crate::play::play_from;
@@ -22,8 +21,7 @@ pub enum Form {
 
 // Units, written in a container.
 fn write_in(form: Form, units: &[u8], unit_ends: &[u32], out: &mut [u8]) -> Joined
-    ensures { λ r. ⌜ joinedSays r ≡ countOf (writeAt (formSays form) (record { bytes = length (now (out .entry)); ends = 0 }) (now (units .entry)) (now («unit_ends» .entry))) ⌝ }
-    ensures { λ _. ⌜ now (out .exit) ≡ outAfter (writeAt (formSays form) (record { bytes = length (now (out .entry)); ends = 0 }) (now (units .entry)) (now («unit_ends» .entry))) (now (out .entry)) ⌝ }
+    ensures { λ r. ⌜ Fills (λ n. writeAt (formSays form) (bytesRoom n) (now (units .entry)) (now («unit_ends» .entry))) (joinedSays r) (held out) ⌝ }
 {
     match form {
         Form::Stream => write_obu_stream(units, unit_ends, out),
@@ -33,9 +31,7 @@ fn write_in(form: Form, units: &[u8], unit_ends: &[u32], out: &mut [u8]) -> Join
 
 // A container's units.
 fn read_in(form: Form, data: &[u8], out: &mut [u8], ends: &mut [u32]) -> Split
-    ensures { λ r. ⌜ splitSays r ≡ sizesOf (read (formSays form) (record { bytes = length (now (out .entry)); ends = length (now (ends .entry)) }) (now («data» .entry))) ⌝ }
-    ensures { λ _. ⌜ now (out .exit) ≡ bytesAfter (read (formSays form) (record { bytes = length (now (out .entry)); ends = length (now (ends .entry)) }) (now («data» .entry))) (now (out .entry)) ⌝ }
-    ensures { λ _. ⌜ now (ends .exit) ≡ endsAfter (read (formSays form) (record { bytes = length (now (out .entry)); ends = length (now (ends .entry)) }) (now («data» .entry))) (now (ends .entry)) ⌝ }
+    ensures { λ r. ⌜ Stores (λ room. read (formSays form) room (now («data» .entry))) r (store out ends) ⌝ }
 {
     match form {
         Form::Stream => split_obu_stream(data, out, ends),
@@ -54,10 +50,7 @@ pub fn write_list<'a>(
     unit_ends: &mut [u32],
     out: &mut [u8],
 ) -> Joined
-    ensures { λ r. ⌜ joinedSays r ≡ countOf (writtenIn (formSays form) (now (list .entry)) (now (pictures .entry)) (now (ends .entry)) (now (shows .entry)) (now (units .entry)) (now («unit_ends» .entry)) (now (out .entry))) ⌝ }
-    ensures { λ _. ⌜ now (units .exit) ≡ bytesAfter (gatheredIn (formSays form) (now (list .entry)) (now (pictures .entry)) (now (ends .entry)) (now (shows .entry)) (now (units .entry)) (now («unit_ends» .entry))) (now (units .entry)) ⌝ }
-    ensures { λ _. ⌜ now («unit_ends» .exit) ≡ endsAfter (gatheredIn (formSays form) (now (list .entry)) (now (pictures .entry)) (now (ends .entry)) (now (shows .entry)) (now (units .entry)) (now («unit_ends» .entry))) (now («unit_ends» .entry)) ⌝ }
-    ensures { λ _. ⌜ now (out .exit) ≡ outAfter (writtenIn (formSays form) (now (list .entry)) (now (pictures .entry)) (now (ends .entry)) (now (shows .entry)) (now (units .entry)) (now («unit_ends» .entry)) (now (out .entry))) (now (out .entry)) ⌝ }
+    ensures { λ r. ⌜ Writes (formSays form) (listed (now (list .entry)) (now (pictures .entry)) (now (ends .entry)) (now (shows .entry))) r (writeLent units «unit_ends» out) ⌝ }
 {
     match gather_units(units, unit_ends, list, pictures, ends, shows) {
         Split::Refused(k) => Joined::Refused(k),
@@ -78,12 +71,7 @@ pub fn carry_list<'a>(
     back: &mut [u8],
     back_ends: &mut [u32],
 ) -> Split
-    ensures { λ r. ⌜ splitSays r ≡ sizesOf (backIn (formSays form) (now (list .entry)) (now (pictures .entry)) (now (ends .entry)) (now (shows .entry)) (now (units .entry)) (now («unit_ends» .entry)) (now (out .entry)) (now (back .entry)) (now («back_ends» .entry))) ⌝ }
-    ensures { λ _. ⌜ now (units .exit) ≡ bytesAfter (gatheredIn (formSays form) (now (list .entry)) (now (pictures .entry)) (now (ends .entry)) (now (shows .entry)) (now (units .entry)) (now («unit_ends» .entry))) (now (units .entry)) ⌝ }
-    ensures { λ _. ⌜ now («unit_ends» .exit) ≡ endsAfter (gatheredIn (formSays form) (now (list .entry)) (now (pictures .entry)) (now (ends .entry)) (now (shows .entry)) (now (units .entry)) (now («unit_ends» .entry))) (now («unit_ends» .entry)) ⌝ }
-    ensures { λ _. ⌜ now (out .exit) ≡ outAfter (writtenIn (formSays form) (now (list .entry)) (now (pictures .entry)) (now (ends .entry)) (now (shows .entry)) (now (units .entry)) (now («unit_ends» .entry)) (now (out .entry))) (now (out .entry)) ⌝ }
-    ensures { λ _. ⌜ now (back .exit) ≡ bytesAfter (backIn (formSays form) (now (list .entry)) (now (pictures .entry)) (now (ends .entry)) (now (shows .entry)) (now (units .entry)) (now («unit_ends» .entry)) (now (out .entry)) (now (back .entry)) (now («back_ends» .entry))) (now (back .entry)) ⌝ }
-    ensures { λ _. ⌜ now («back_ends» .exit) ≡ endsAfter (backIn (formSays form) (now (list .entry)) (now (pictures .entry)) (now (ends .entry)) (now (shows .entry)) (now (units .entry)) (now («unit_ends» .entry)) (now (out .entry)) (now (back .entry)) (now («back_ends» .entry))) (now («back_ends» .entry)) ⌝ }
+    ensures { λ r. ⌜ Carries (formSays form) (listed (now (list .entry)) (now (pictures .entry)) (now (ends .entry)) (now (shows .entry))) r (carryLent units «unit_ends» out back «back_ends») ⌝ }
 {
     match write_list(form, list, pictures, ends, shows, units, unit_ends, out) {
         Joined::Refused(k) => Split::Refused(k),
@@ -106,13 +94,7 @@ pub fn play_list<'a>(
     back_ends: &mut [u32],
     shown: &mut [u64],
 ) -> Shows
-    ensures { λ r. ⌜ showsSay r ≡ countOf (shownIn (formSays form) (now (list .entry)) (now (pictures .entry)) (now (ends .entry)) (now (shows .entry)) cue (now (units .entry)) (now («unit_ends» .entry)) (now (out .entry)) (now (back .entry)) (now («back_ends» .entry)) (now (shown .entry))) ⌝ }
-    ensures { λ _. ⌜ now (units .exit) ≡ bytesAfter (gatheredIn (formSays form) (now (list .entry)) (now (pictures .entry)) (now (ends .entry)) (now (shows .entry)) (now (units .entry)) (now («unit_ends» .entry))) (now (units .entry)) ⌝ }
-    ensures { λ _. ⌜ now («unit_ends» .exit) ≡ endsAfter (gatheredIn (formSays form) (now (list .entry)) (now (pictures .entry)) (now (ends .entry)) (now (shows .entry)) (now (units .entry)) (now («unit_ends» .entry))) (now («unit_ends» .entry)) ⌝ }
-    ensures { λ _. ⌜ now (out .exit) ≡ outAfter (writtenIn (formSays form) (now (list .entry)) (now (pictures .entry)) (now (ends .entry)) (now (shows .entry)) (now (units .entry)) (now («unit_ends» .entry)) (now (out .entry))) (now (out .entry)) ⌝ }
-    ensures { λ _. ⌜ now (back .exit) ≡ bytesAfter (backIn (formSays form) (now (list .entry)) (now (pictures .entry)) (now (ends .entry)) (now (shows .entry)) (now (units .entry)) (now («unit_ends» .entry)) (now (out .entry)) (now (back .entry)) (now («back_ends» .entry))) (now (back .entry)) ⌝ }
-    ensures { λ _. ⌜ now («back_ends» .exit) ≡ endsAfter (backIn (formSays form) (now (list .entry)) (now (pictures .entry)) (now (ends .entry)) (now (shows .entry)) (now (units .entry)) (now («unit_ends» .entry)) (now (out .entry)) (now (back .entry)) (now («back_ends» .entry))) (now («back_ends» .entry)) ⌝ }
-    ensures { λ _. ⌜ now (shown .exit) ≡ outAfter (shownIn (formSays form) (now (list .entry)) (now (pictures .entry)) (now (ends .entry)) (now (shows .entry)) cue (now (units .entry)) (now («unit_ends» .entry)) (now (out .entry)) (now (back .entry)) (now («back_ends» .entry)) (now (shown .entry))) (now (shown .entry)) ⌝ }
+    ensures { λ r. ⌜ Plays (formSays form) (listed (now (list .entry)) (now (pictures .entry)) (now (ends .entry)) (now (shows .entry))) cue r (playLent units «unit_ends» out back «back_ends» shown) ⌝ }
 {
     match carry_list(
         form,

@@ -1,13 +1,19 @@
 use borrow.Author.Needs.{needs}
 use native.Mathlib.Omega.{arith}
-use mathlib.Core.Path.{sym, ap, _∙_}
+use mathlib.Core.Path.{refl, ap}
 use mathlib.Core.Option.{none, some}
-use denote.Ref.{now}
-use Rattle.assemble.specs.Whole.{assembledSays, six, outcome}
-use Rattle.playback.specs.Way.{formSays}
-use Rattle.playback.proofs.WalkLaws.{outcome-has, handed-list, handed-picture, handed-ends, handed-shows, walk-stop, walk-go}
+use Rattle.assemble.specs.Whole.{assembledSays}
+use Rattle.container.specs.Container.{stream}
+use Rattle.playback.proofs.WalkLaws.{handed-list, handed-picture, handed-ends, handed-shows, walk-stop, walk-go}
 use Rattle.playback.proofs.walk.walk.Statement.{statement}
 use Rattle.playback.proofs.walk.walk.Tie as tie
+
+-- the places behind assembly and behind playing
+abbrev assembly : tie.After-c → tie.After-assemble-multi
+assembly n = n .before .before .before .before .before .before .before .before .before .before .before .before .before .before
+
+abbrev made-it : tie.After-play-list → tie.After-c
+made-it p = p .before .before .before .before .before .before .before .before .before .before .before .before .before .before .before .before
 
 assemble-multi-requires : tie.Need-assemble-multi-requires
 assemble-multi-requires c κs = search needs
@@ -30,9 +36,8 @@ part-play-list-start c = search needs
 part-play-list-end : tie.Need-part-play-list-end
 part-play-list-end c =
     let n = c .before .before in
-    let g = n .before .before .before .before .before .before .before .before .before .before .before .before .before .before in
-    let a = g .before .before .before .before .before .before .before .before .before .before .before .before .before .before .before .before .before .before .before .before .before .args in
-    omega (arith, handed-list (outcome (now (a .picture)) (now (a .segments)) (a .settings) (six (a .list) (a .cues) (a .pictures) (a .ends) (a .shows) (a .header))) (n .c .given .0 .0) (ap assembledSays (sym (n .c .given .1)) ∙ g .assemble-multi .ensures .answer) (six (a .list) (a .cues) (a .pictures) (a .ends) (a .shows) (a .header)) (outcome-has (now (a .picture)) (now (a .segments)) (a .settings) (six (a .list) (a .cues) (a .pictures) (a .ends) (a .shows) (a .header))) (g .assemble-multi .ensures .lent))
+    let g = assembly n .assemble-multi in
+    omega (arith, handed-list stream 0 _ _ _ _ _ (g .result) (g .ensures) _ (n .c .given .1))
 
 sub-play-list-2 : tie.Need-sub-play-list-2
 sub-play-list-2 c = search needs
@@ -43,9 +48,8 @@ part-play-list-start-2 c = search needs
 part-play-list-end-2 : tie.Need-part-play-list-end-2
 part-play-list-end-2 c =
     let n = c .before .before .before .before in
-    let g = n .before .before .before .before .before .before .before .before .before .before .before .before .before .before in
-    let a = g .before .before .before .before .before .before .before .before .before .before .before .before .before .before .before .before .before .before .before .before .before .args in
-    omega (arith, handed-picture (outcome (now (a .picture)) (now (a .segments)) (a .settings) (six (a .list) (a .cues) (a .pictures) (a .ends) (a .shows) (a .header))) (n .c .given .0 .0) (ap assembledSays (sym (n .c .given .1)) ∙ g .assemble-multi .ensures .answer) (six (a .list) (a .cues) (a .pictures) (a .ends) (a .shows) (a .header)) (outcome-has (now (a .picture)) (now (a .segments)) (a .settings) (six (a .list) (a .cues) (a .pictures) (a .ends) (a .shows) (a .header))) (g .assemble-multi .ensures .lent))
+    let g = assembly n .assemble-multi in
+    omega (arith, handed-picture stream 0 _ _ _ _ _ (g .result) (g .ensures) _ (n .c .given .1))
 
 sub-play-list-3 : tie.Need-sub-play-list-3
 sub-play-list-3 c = search needs
@@ -56,9 +60,8 @@ part-play-list-start-3 c = search needs
 part-play-list-end-3 : tie.Need-part-play-list-end-3
 part-play-list-end-3 c =
     let n = c .before .before .before .before .before .before in
-    let g = n .before .before .before .before .before .before .before .before .before .before .before .before .before .before in
-    let a = g .before .before .before .before .before .before .before .before .before .before .before .before .before .before .before .before .before .before .before .before .before .args in
-    omega (arith, handed-ends (outcome (now (a .picture)) (now (a .segments)) (a .settings) (six (a .list) (a .cues) (a .pictures) (a .ends) (a .shows) (a .header))) (n .c .given .0 .0) (ap assembledSays (sym (n .c .given .1)) ∙ g .assemble-multi .ensures .answer) (six (a .list) (a .cues) (a .pictures) (a .ends) (a .shows) (a .header)) (outcome-has (now (a .picture)) (now (a .segments)) (a .settings) (six (a .list) (a .cues) (a .pictures) (a .ends) (a .shows) (a .header))) (g .assemble-multi .ensures .lent))
+    let g = assembly n .assemble-multi in
+    omega (arith, handed-ends stream 0 _ _ _ _ _ (g .result) (g .ensures) _ (n .c .given .1))
 
 sub-play-list-4 : tie.Need-sub-play-list-4
 sub-play-list-4 c = search needs
@@ -69,9 +72,8 @@ part-play-list-start-4 c = search needs
 part-play-list-end-4 : tie.Need-part-play-list-end-4
 part-play-list-end-4 c =
     let n = c .before .before .before .before .before .before .before .before in
-    let g = n .before .before .before .before .before .before .before .before .before .before .before .before .before .before in
-    let a = g .before .before .before .before .before .before .before .before .before .before .before .before .before .before .before .before .before .before .before .before .before .args in
-    omega (arith, handed-shows (outcome (now (a .picture)) (now (a .segments)) (a .settings) (six (a .list) (a .cues) (a .pictures) (a .ends) (a .shows) (a .header))) (n .c .given .0 .0) (ap assembledSays (sym (n .c .given .1)) ∙ g .assemble-multi .ensures .answer) (six (a .list) (a .cues) (a .pictures) (a .ends) (a .shows) (a .header)) (outcome-has (now (a .picture)) (now (a .segments)) (a .settings) (six (a .list) (a .cues) (a .pictures) (a .ends) (a .shows) (a .header))) (g .assemble-multi .ensures .lent))
+    let g = assembly n .assemble-multi in
+    omega (arith, handed-shows stream 0 _ _ _ _ _ (g .result) (g .ensures) _ (n .c .given .1))
 
 play-list-requires : tie.Need-play-list-requires
 play-list-requires c κs = search needs
@@ -99,11 +101,9 @@ same-length-6 c = search needs
 
 returns : tie.Need-returns
 returns c =
-    let n = c .before in
-    let g = n .before .before .before .before .before .before .before .before .before .before .before .before .before .before in
-    let a = g .before .before .before .before .before .before .before .before .before .before .before .before .before .before .before .before .before .before .before .before .before .args in
-    let w = walk-stop (formSays (a .form)) (outcome (now (a .picture)) (now (a .segments)) (a .settings) (six (a .list) (a .cues) (a .pictures) (a .ends) (a .shows) (a .header))) (a .cue) (now (a .units)) (now (a .unit-ends)) (now (a .out)) (now (a .back)) (now (a .back-ends)) (now (a .shown)) _ none (ap assembledSays (sym (n .k .given .1)) ∙ g .assemble-multi .ensures .answer) in
-    (w .0, (g .assemble-multi .ensures .lent, w .1))
+    let k = c .before in
+    let g = k .before .before .before .before .before .before .before .before .before .before .before .before .before .before .assemble-multi in
+    walk-stop _ _ _ _ _ _ _ (g .result) (g .ensures) _ _ _ none refl (ap assembledSays (k .k .given .1))
 
 same-length-7 : tie.Need-same-length-7
 same-length-7 c = search needs
@@ -125,29 +125,27 @@ same-length-12 c = search needs
 
 returns-2 : tie.Need-returns-2
 returns-2 c =
-    let n = c .before in
-    let g = n .before .before .before .before .before .before .before .before .before .before .before .before .before .before in
-    let a = g .before .before .before .before .before .before .before .before .before .before .before .before .before .before .before .before .before .before .before .before .before .args in
-    let w = walk-stop (formSays (a .form)) (outcome (now (a .picture)) (now (a .segments)) (a .settings) (six (a .list) (a .cues) (a .pictures) (a .ends) (a .shows) (a .header))) (a .cue) (now (a .units)) (now (a .unit-ends)) (now (a .out)) (now (a .back)) (now (a .back-ends)) (now (a .shown)) _ (some _) (ap assembledSays (sym (n .k2 .given .1)) ∙ g .assemble-multi .ensures .answer) in
-    (w .0, (g .assemble-multi .ensures .lent, w .1))
+    let k = c .before in
+    let g = k .before .before .before .before .before .before .before .before .before .before .before .before .before .before .assemble-multi in
+    walk-stop _ _ _ _ _ _ _ (g .result) (g .ensures) _ _ _ (some _) refl (ap assembledSays (k .k2 .given .1))
 
 same-length-13 : tie.Need-same-length-13
-same-length-13 c = c .before .before .before .before .before .before .before .before .before .before .before .before .before .before .before .before .before .before .before .before .before .before .before .before .before .before .before .before .before .before .before .before .before .before .before .before .before .before .before .before .before .before .before .assemble-multi .kept .1 .1 .1 .0
+same-length-13 c = assembly (made-it (c .before .before .before .before .before .before .before .before .before .before .before .before .before)) .assemble-multi .kept .1 .1 .1 .0
 
 same-length-14 : tie.Need-same-length-14
-same-length-14 c = c .before .before .before .before .before .before .before .before .before .before .before .before .before .before .before .before .before .before .before .before .before .before .before .before .before .before .before .before .before .before .before .before .before .before .before .before .before .before .before .before .before .before .before .assemble-multi .kept .1 .1 .1 .1 .0
+same-length-14 c = assembly (made-it (c .before .before .before .before .before .before .before .before .before .before .before .before .before)) .assemble-multi .kept .1 .1 .1 .1 .0
 
 same-length-15 : tie.Need-same-length-15
-same-length-15 c = c .before .before .before .before .before .before .before .before .before .before .before .before .before .before .before .before .before .before .before .before .before .before .before .before .before .before .before .before .before .before .before .before .before .before .before .before .before .before .before .before .before .before .before .assemble-multi .kept .1 .1 .1 .1 .1 .0
+same-length-15 c = assembly (made-it (c .before .before .before .before .before .before .before .before .before .before .before .before .before)) .assemble-multi .kept .1 .1 .1 .1 .1 .0
 
 same-length-16 : tie.Need-same-length-16
-same-length-16 c = c .before .before .before .before .before .before .before .before .before .before .before .before .before .before .before .before .before .before .before .before .before .before .before .before .before .before .before .before .before .before .before .before .before .before .before .before .before .before .before .before .before .before .before .assemble-multi .kept .1 .1 .1 .1 .1 .1 .0
+same-length-16 c = assembly (made-it (c .before .before .before .before .before .before .before .before .before .before .before .before .before)) .assemble-multi .kept .1 .1 .1 .1 .1 .1 .0
 
 same-length-17 : tie.Need-same-length-17
-same-length-17 c = c .before .before .before .before .before .before .before .before .before .before .before .before .before .before .before .before .before .before .before .before .before .before .before .before .before .before .before .before .before .before .before .before .before .before .before .before .before .before .before .before .before .before .before .assemble-multi .kept .1 .1 .1 .1 .1 .1 .1 .0
+same-length-17 c = assembly (made-it (c .before .before .before .before .before .before .before .before .before .before .before .before .before)) .assemble-multi .kept .1 .1 .1 .1 .1 .1 .1 .0
 
 same-length-18 : tie.Need-same-length-18
-same-length-18 c = c .before .before .before .before .before .before .before .before .before .before .before .before .before .before .before .before .before .before .before .before .before .before .before .before .before .before .before .before .before .before .before .before .before .before .before .before .before .before .before .before .before .before .before .assemble-multi .kept .1 .1 .1 .1 .1 .1 .1 .1 .0
+same-length-18 c = assembly (made-it (c .before .before .before .before .before .before .before .before .before .before .before .before .before)) .assemble-multi .kept .1 .1 .1 .1 .1 .1 .1 .1 .0
 
 same-length-19 : tie.Need-same-length-19
 same-length-19 c = c .before .before .before .before .before .before .before .before .before .before .before .before .before .play-list .kept .1 .1 .1 .1 .1 .1 .0
@@ -170,11 +168,9 @@ same-length-24 c = c .before .before .before .before .before .before .before .be
 returns-3 : tie.Need-returns-3
 returns-3 c =
     let p = c .before .before .before .before .before .before .before .before .before .before .before .before .before in
-    let n = p .before .before .before .before .before .before .before .before .before .before .before .before .before .before .before .before in
-    let g = n .before .before .before .before .before .before .before .before .before .before .before .before .before .before in
-    let a = g .before .before .before .before .before .before .before .before .before .before .before .before .before .before .before .before .before .before .before .before .before .args in
-    let w = walk-go (outcome (now (a .picture)) (now (a .segments)) (a .settings) (six (a .list) (a .cues) (a .pictures) (a .ends) (a .shows) (a .header))) (n .c .given .0 .0) (ap assembledSays (sym (n .c .given .1)) ∙ g .assemble-multi .ensures .answer) (six (a .list) (a .cues) (a .pictures) (a .ends) (a .shows) (a .header)) (outcome-has (now (a .picture)) (now (a .segments)) (a .settings) (six (a .list) (a .cues) (a .pictures) (a .ends) (a .shows) (a .header))) (g .assemble-multi .ensures .lent) (formSays (a .form)) (now (a .units)) (now (a .unit-ends)) (now (a .out)) (now (a .back)) (now (a .back-ends)) (a .cue) (now (a .shown)) (c .behind .ensures) (p .play-list .ensures) in
-    (w .0, (g .assemble-multi .ensures .lent, w .1))
+    let n = made-it p in
+    let g = assembly n .assemble-multi in
+    walk-go _ _ _ _ _ _ _ (g .result) (g .ensures) _ (n .c .given .1) _ _ _ (p .play-list .result) (c .behind .ensures) (p .play-list .ensures)
 
 pub walk-spec : {M : Type 1} → statement M
 walk-spec =

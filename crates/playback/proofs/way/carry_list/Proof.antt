@@ -1,10 +1,13 @@
 use borrow.Author.Needs.{needs}
 use native.Mathlib.Omega.{arith}
-use denote.Ref.{now}
-use Rattle.playback.specs.Way.{formSays}
+use mathlib.Core.List.{[]}
 use Rattle.playback.proofs.WayLaws.{carry-long, carry-stop, carry-go}
 use Rattle.playback.proofs.way.carry_list.Statement.{statement}
 use Rattle.playback.proofs.way.carry_list.Tie as tie
+
+-- the place behind writing
+abbrev writing : tie.After-n → tie.After-write-list
+writing n = n .before .before .before .before .before .before .before .before
 
 write-list-requires : tie.Need-write-list-requires
 write-list-requires c κs = search needs
@@ -24,9 +27,8 @@ part-read-in-start c = search needs
 part-read-in-end : tie.Need-part-read-in-end
 part-read-in-end c =
     let n = c .before .before in
-    let g = n .before .before .before .before .before .before .before .before in
-    let a = g .before .before .before .before .before .before .before .before .before .before .before .before .before .args in
-    omega (arith, carry-long (formSays (a .form)) (now (a .list)) (now (a .pictures)) (now (a .ends)) (now (a .shows)) (now (a .units)) (now (a .unit-ends)) (now (a .out)) (now (a .back)) (now (a .back-ends)) (g .write-list .result) (g .write-list .ensures) _ (n .n .given .1))
+    let g = writing n .write-list in
+    omega (arith, carry-long _ _ _ _ (g .result) (g .ensures) (record { bytes = []; ends = [] }) _ (n .n .given .1))
 
 read-in-requires : tie.Need-read-in-requires
 read-in-requires c κs = search needs
@@ -42,10 +44,9 @@ same-length-3 c = search needs
 
 returns : tie.Need-returns
 returns c =
-    let n = c .before in
-    let g = n .before .before .before .before .before .before .before .before in
-    let a = g .before .before .before .before .before .before .before .before .before .before .before .before .before .args in
-    carry-stop (formSays (a .form)) (now (a .list)) (now (a .pictures)) (now (a .ends)) (now (a .shows)) (now (a .units)) (now (a .unit-ends)) (now (a .out)) (now (a .back)) (now (a .back-ends)) (g .write-list .result) (g .write-list .ensures) _ (n .k .given .1)
+    let k = c .before in
+    let g = k .before .before .before .before .before .before .before .before .write-list in
+    carry-stop _ _ _ _ (g .result) (g .ensures) _ _ (k .k .given .1)
 
 same-length-4 : tie.Need-same-length-4
 same-length-4 c = search needs
@@ -66,9 +67,8 @@ returns-2 : tie.Need-returns-2
 returns-2 c =
     let w = c .before .before .before .before in
     let n = w .before .before .before .before .before .before in
-    let g = n .before .before .before .before .before .before .before .before in
-    let a = g .before .before .before .before .before .before .before .before .before .before .before .before .before .args in
-    carry-go (formSays (a .form)) (now (a .list)) (now (a .pictures)) (now (a .ends)) (now (a .shows)) (now (a .units)) (now (a .unit-ends)) (now (a .out)) (now (a .back)) (now (a .back-ends)) (g .write-list .result) (g .write-list .ensures) _ (n .n .given .1) (w .read-in .ensures)
+    let g = writing n .write-list in
+    carry-go _ _ _ _ (g .result) (g .ensures) _ _ (n .n .given .1) _ (w .read-in .result) (w .read-in .ensures)
 
 pub carry-list-spec : {M : Type 1} → statement M
 carry-list-spec =

@@ -1,10 +1,13 @@
 use borrow.Author.Needs.{needs}
 use native.Mathlib.Omega.{arith}
-use denote.Ref.{now}
-use Rattle.playback.specs.Way.{formSays}
+use mathlib.Core.List.{[]}
 use Rattle.playback.proofs.WayLaws.{show-long, show-slots, show-stop, show-go}
 use Rattle.playback.proofs.way.play_list.Statement.{statement}
 use Rattle.playback.proofs.way.play_list.Tie as tie
+
+-- the place behind reading back
+abbrev carrying : tie.After-n → tie.After-carry-list
+carrying n = n .before .before .before .before .before .before .before .before .before .before .before .before
 
 carry-list-requires : tie.Need-carry-list-requires
 carry-list-requires c κs = search needs
@@ -24,9 +27,8 @@ part-play-from-start c = search needs
 part-play-from-end : tie.Need-part-play-from-end
 part-play-from-end c =
     let n = c .before .before in
-    let g = n .before .before .before .before .before .before .before .before .before .before .before .before in
-    let a = g .before .before .before .before .before .before .before .before .before .before .before .before .before .before .before .before .args in
-    omega (arith, show-long (formSays (a .form)) (now (a .list)) (now (a .pictures)) (now (a .ends)) (now (a .shows)) (now (a .units)) (now (a .unit-ends)) (now (a .out)) (now (a .back)) (now (a .back-ends)) (a .cue) (now (a .shown)) (g .carry-list .result) (g .carry-list .ensures) _ _ (n .n .given .1))
+    let g = carrying n .carry-list in
+    omega (arith, show-long _ _ _ _ (g .result) (g .ensures) 0 [] _ _ (n .n .given .1))
 
 sub-play-from-2 : tie.Need-sub-play-from-2
 sub-play-from-2 c = search needs
@@ -37,9 +39,8 @@ part-play-from-start-2 c = search needs
 part-play-from-end-2 : tie.Need-part-play-from-end-2
 part-play-from-end-2 c =
     let n = c .before .before .before .before in
-    let g = n .before .before .before .before .before .before .before .before .before .before .before .before in
-    let a = g .before .before .before .before .before .before .before .before .before .before .before .before .before .before .before .before .args in
-    omega (arith, show-slots (formSays (a .form)) (now (a .list)) (now (a .pictures)) (now (a .ends)) (now (a .shows)) (now (a .units)) (now (a .unit-ends)) (now (a .out)) (now (a .back)) (now (a .back-ends)) (a .cue) (now (a .shown)) (g .carry-list .result) (g .carry-list .ensures) _ _ (n .n .given .1))
+    let g = carrying n .carry-list in
+    omega (arith, show-slots _ _ _ _ (g .result) (g .ensures) 0 [] _ _ (n .n .given .1))
 
 play-from-requires : tie.Need-play-from-requires
 play-from-requires c κs = search needs
@@ -61,10 +62,9 @@ same-length-5 c = search needs
 
 returns : tie.Need-returns
 returns c =
-    let n = c .before in
-    let g = n .before .before .before .before .before .before .before .before .before .before .before .before in
-    let a = g .before .before .before .before .before .before .before .before .before .before .before .before .before .before .before .before .args in
-    show-stop (formSays (a .form)) (now (a .list)) (now (a .pictures)) (now (a .ends)) (now (a .shows)) (now (a .units)) (now (a .unit-ends)) (now (a .out)) (now (a .back)) (now (a .back-ends)) (a .cue) (now (a .shown)) (g .carry-list .result) (g .carry-list .ensures) _ (n .k .given .1)
+    let k = c .before in
+    let g = k .before .before .before .before .before .before .before .before .before .before .before .before .carry-list in
+    show-stop _ _ _ _ (g .result) (g .ensures) _ _ _ (k .k .given .1)
 
 same-length-6 : tie.Need-same-length-6
 same-length-6 c = search needs
@@ -88,9 +88,8 @@ returns-2 : tie.Need-returns-2
 returns-2 c =
     let w = c .before .before in
     let n = w .before .before .before .before .before .before .before in
-    let g = n .before .before .before .before .before .before .before .before .before .before .before .before in
-    let a = g .before .before .before .before .before .before .before .before .before .before .before .before .before .before .before .before .args in
-    show-go (formSays (a .form)) (now (a .list)) (now (a .pictures)) (now (a .ends)) (now (a .shows)) (now (a .units)) (now (a .unit-ends)) (now (a .out)) (now (a .back)) (now (a .back-ends)) (a .cue) (now (a .shown)) (g .carry-list .result) (g .carry-list .ensures) _ _ (n .n .given .1) (w .play-from .ensures)
+    let g = carrying n .carry-list in
+    show-go _ _ _ _ (g .result) (g .ensures) _ _ _ _ (n .n .given .1) _ (w .play-from .result) (w .play-from .ensures)
 
 pub play-list-spec : {M : Type 1} → statement M
 play-list-spec =

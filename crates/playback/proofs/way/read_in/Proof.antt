@@ -26,7 +26,7 @@ same-length-2 c = search needs
 returns : tie.Need-returns
 returns c =
     let w = c .before .before .before .before in
-    read-form _ (ap formSays (w .before .before .before .enum-told .given .1)) _ _ _ (w .split-obu-stream .ensures)
+    read-form (ap formSays (w .before .before .before .enum-told .given .1)) _ _ _ (w .split-obu-stream .result) (w .split-obu-stream .ensures)
 
 same-length-3 : tie.Need-same-length-3
 same-length-3 c = search needs
@@ -37,7 +37,7 @@ same-length-4 c = search needs
 returns-2 : tie.Need-returns-2
 returns-2 c =
     let w = c .before .before .before .before in
-    read-form _ (ap formSays (w .before .before .before .enum-told2 .given .1)) _ _ _ (w .split-annexb .ensures)
+    read-form (ap formSays (w .before .before .before .enum-told2 .given .1)) _ _ _ (w .split-annexb .result) (w .split-annexb .ensures)
 
 pub read-in-spec : {M : Type 1} → statement M
 read-in-spec =

@@ -23,7 +23,7 @@ same-length c = search needs
 returns : tie.Need-returns
 returns c =
     let w = c .before .before in
-    write-form _ (ap formSays (w .before .before .enum-told .given .1)) _ _ _ (w .write-obu-stream .ensures)
+    write-form (ap formSays (w .before .before .enum-told .given .1)) _ _ _ (w .write-obu-stream .ensures)
 
 same-length-2 : tie.Need-same-length-2
 same-length-2 c = search needs
@@ -31,7 +31,7 @@ same-length-2 c = search needs
 returns-2 : tie.Need-returns-2
 returns-2 c =
     let w = c .before .before in
-    write-form _ (ap formSays (w .before .before .enum-told2 .given .1)) _ _ _ (w .write-annexb .ensures)
+    write-form (ap formSays (w .before .before .enum-told2 .given .1)) _ _ _ (w .write-annexb .ensures)
 
 pub write-in-spec : {M : Type 1} → statement M
 write-in-spec =

@@ -1,10 +1,14 @@
 use borrow.Author.Needs.{needs}
 use native.Mathlib.Omega.{arith}
-use denote.Ref.{now}
-use Rattle.playback.specs.Way.{formSays}
+use mathlib.Core.List.{[]}
+use Rattle.container.specs.Container.{stream}
 use Rattle.playback.proofs.WayLaws.{write-long, write-slots, write-stop, write-go}
 use Rattle.playback.proofs.way.write_list.Statement.{statement}
 use Rattle.playback.proofs.way.write_list.Tie as tie
+
+-- the place behind gathering
+abbrev gathering : tie.After-n → tie.After-gather-units
+gathering n = n .before .before .before .before .before .before
 
 gather-units-requires : tie.Need-gather-units-requires
 gather-units-requires c κs = search needs
@@ -24,9 +28,8 @@ part-write-in-start c = search needs
 part-write-in-end : tie.Need-part-write-in-end
 part-write-in-end c =
     let n = c .before .before in
-    let g = n .before .before .before .before .before .before in
-    let a = g .before .before .before .before .before .before .before .before .before .before .args in
-    omega (arith, write-long (formSays (a .form)) (now (a .list)) (now (a .pictures)) (now (a .ends)) (now (a .shows)) (now (a .units)) (now (a .unit-ends)) (now (a .out)) (g .gather-units .result) (g .gather-units .ensures .0) (g .gather-units .ensures .1 .0) (g .gather-units .ensures .1 .1) _ _ (n .n .given .1))
+    let g = gathering n .gather-units in
+    omega (arith, write-long stream _ _ _ (g .result) (g .ensures) [] _ _ (n .n .given .1))
 
 sub-write-in-2 : tie.Need-sub-write-in-2
 sub-write-in-2 c = search needs
@@ -37,9 +40,8 @@ part-write-in-start-2 c = search needs
 part-write-in-end-2 : tie.Need-part-write-in-end-2
 part-write-in-end-2 c =
     let n = c .before .before .before .before in
-    let g = n .before .before .before .before .before .before in
-    let a = g .before .before .before .before .before .before .before .before .before .before .args in
-    omega (arith, write-slots (formSays (a .form)) (now (a .list)) (now (a .pictures)) (now (a .ends)) (now (a .shows)) (now (a .units)) (now (a .unit-ends)) (now (a .out)) (g .gather-units .result) (g .gather-units .ensures .0) (g .gather-units .ensures .1 .0) (g .gather-units .ensures .1 .1) _ _ (n .n .given .1))
+    let g = gathering n .gather-units in
+    omega (arith, write-slots stream _ _ _ (g .result) (g .ensures) [] _ _ (n .n .given .1))
 
 write-in-requires : tie.Need-write-in-requires
 write-in-requires c κs = search needs
@@ -52,10 +54,9 @@ same-length-2 c = search needs
 
 returns : tie.Need-returns
 returns c =
-    let n = c .before in
-    let g = n .before .before .before .before .before .before in
-    let a = g .before .before .before .before .before .before .before .before .before .before .args in
-    write-stop (formSays (a .form)) (now (a .list)) (now (a .pictures)) (now (a .ends)) (now (a .shows)) (now (a .units)) (now (a .unit-ends)) (now (a .out)) (g .gather-units .result) (g .gather-units .ensures .0) (g .gather-units .ensures .1 .0) (g .gather-units .ensures .1 .1) _ (n .k .given .1)
+    let k = c .before in
+    let g = k .before .before .before .before .before .before .gather-units in
+    write-stop _ _ _ _ (g .result) (g .ensures) _ _ (k .k .given .1)
 
 same-length-3 : tie.Need-same-length-3
 same-length-3 c = search needs
@@ -70,9 +71,8 @@ returns-2 : tie.Need-returns-2
 returns-2 c =
     let w = c .before .before in
     let n = w .before .before .before .before .before .before .before in
-    let g = n .before .before .before .before .before .before in
-    let a = g .before .before .before .before .before .before .before .before .before .before .args in
-    write-go (formSays (a .form)) (now (a .list)) (now (a .pictures)) (now (a .ends)) (now (a .shows)) (now (a .units)) (now (a .unit-ends)) (now (a .out)) (g .gather-units .result) (g .gather-units .ensures .0) (g .gather-units .ensures .1 .0) (g .gather-units .ensures .1 .1) _ _ (n .n .given .1) (w .write-in .ensures)
+    let g = gathering n .gather-units in
+    write-go _ _ _ _ (g .result) (g .ensures) _ _ _ (n .n .given .1) _ (w .write-in .result) (w .write-in .ensures)
 
 pub write-list-spec : {M : Type 1} → statement M
 write-list-spec =
