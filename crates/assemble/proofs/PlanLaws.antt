@@ -25,14 +25,14 @@ use Rattle.emittable.specs.Emittable.{emittable}
 use Rattle.header.specs.declared.seq_header.SequenceHeader.{SequenceHeader}
 use Rattle.header.specs.declared.seq_header.OperatingPoint.{OperatingPoint}
 use Rattle.header.proofs.TimedLaws.{timed-of}
-use Rattle.blocks.specs.Lay.{framesIn}
+use Rattle.blocks.specs.Numbers.{headKey, framesIn}
 use Rattle.pictures.specs.Prepare.{isSequence, firstOf, timedSequence, Prepared}
 use Rattle.pictures.specs.declared.settings.Settings.{Settings}
 use Rattle.pictures.specs.Assemble.{Outcome, stopped, made, andAlso, inSegment, readHeader, sameHeaders, headerObu, prepareAll, pictureOf}
 use Rattle.pictures.specs.Sizes.{sized, ranged}
 use Rattle.pictures.specs.Code.{allSegments, laterSegments, firstSequence, renewing, orElse, allPrepared, capped, measured}
 use Rattle.pictures.specs.Says.{foundSays}
-use Rattle.assemble.specs.Stages.{Going, going, rateOf, WasRead, firstKey, fromPictures, fromTiming, fromHeader, fromKey, checked, planned, headerIn, planSays}
+use Rattle.assemble.specs.Stages.{Going, going, rateOf, WasRead, fromPictures, fromTiming, fromHeader, fromKey, checked, planned, headerIn, planSays}
 use Rattle.pictures.specs.Rewrite.{obuIn}
 use Rattle.pictures.specs.declared.headers.FoundObu.{FoundObu}
 use Rattle.pictures.specs.declared.headers.FoundObu.the-variants.{Found}
@@ -148,11 +148,11 @@ module _ (s rs : List ℕ) where
     plan-unchecked k i e = rw (← e)
 
     module _ (fit : made tt ≡ checked s rs (set .gop)) where
-      pub plan-unfound : (k : ℕ) → refused k ≡ firstSequence (firstKey s rs) → stopped k (some 0) ≡ planned s rs set
+      pub plan-unfound : (k : ℕ) → refused k ≡ firstSequence (headKey s rs) → stopped k (some 0) ≡ planned s rs set
       unfolding planned fromKey andAlso inSegment
       plan-unfound k e = rw (← fit, ← e)
 
-      pub plan-found : (o : Obu) → accepted o ≡ firstSequence (firstKey s rs) → fromHeader s rs (rateOf (set .fps) (set .den)) o ≡ planned s rs set
+      pub plan-found : (o : Obu) → accepted o ≡ firstSequence (headKey s rs) → fromHeader s rs (rateOf (set .fps) (set .den)) o ≡ planned s rs set
       unfolding planned fromKey fromHeader fromTiming andAlso inSegment
       plan-found o e = rw (← fit, ← e)
 
@@ -184,7 +184,7 @@ found-at u v r o e f i = ap (λ (l : List ℕ). accepted (obuIn l o)) (sym i) �
 module _ (s rs new : List ℕ) (b : Basis) where
   -- the first key's own, of type 1
   pub header-own : (o : CodeObu) → o .«obu_type» ≡ 1 → b .rewriting ≡ false → b .extension ≡ o .extension → b .start ≡ o .start → b .end ≡ o .end
-      → headerIn s rs new b ≡ obuBytes (obuIn (firstKey s rs) o)
+      → headerIn s rs new b ≡ obuBytes (obuIn (headKey s rs) o)
   unfolding headerIn
   header-own o t r x a e = rw (r, x, a, e, t)
 

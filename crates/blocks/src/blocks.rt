@@ -6,8 +6,10 @@ ghost use Prim.Native.Nat.{_+_, _≤_, _<_, min};
 ghost use lib.ListN.{length, replicate};
 ghost use Rattle.bitio.specs.Lent.{pasted};
 ghost use Rattle.blocks.specs.Blocks.{Show, Key, code, block, kinds, listOf, cuesOf, total};
-ghost use Rattle.blocks.specs.Lay.{entriesOf, cuesFrom, blockCue, framesIn, CanLay, Laid, CanLayAll};
-use crate::numbers::WIDTH;
+ghost use Rattle.blocks.specs.Numbers.{framesIn};
+ghost use Rattle.blocks.specs.Lay.{entriesOf, cuesFrom, blockCue, CanLay, Laid, CanLayAll};
+use crate::numbers::frames_of;
+use crate::numbers::segment_count;
 
 // The lesser of two numbers.
 fn least(a: usize, b: usize) -> usize
@@ -103,17 +105,17 @@ fn put_segment(
     q
 }
 
-// Writes the list and the cues of all segments, five numbers each in `segments`, the frames last; returns how many cues.
+// Writes the list and the cues of all segments; returns how many cues.
 pub fn put_list(list: &mut [u32], cues: &mut [u32], gop: u64, segments: &[u64]) -> usize
     requires { ⌜ CanLayAll (now list) (now cues) gop (now segments) ⌝ }
     ensures { λ r. ⌜ Laid (now (list .entry)) (now (cues .entry)) (now (list .exit)) (now (cues .exit)) 0 0 r (listOf gop (framesIn (now (segments .entry)))) ⌝ }
 {
-    let count = segments.len() / WIDTH;
+    let count = segment_count(segments);
     let mut i: usize = 0;
     let mut at: usize = 0;
     let mut c: usize = 0;
     while i < count {
-        let frames = segments[WIDTH * i + 4] as usize;
+        let frames = frames_of(segments, i) as usize;
         c = put_segment(list, cues, at, c, i as u32, gop as usize, frames);
         at = at + frames;
         i = i + 1;
@@ -155,11 +157,11 @@ pub fn count_cues(gop: u64, segments: &[u64]) -> usize
     requires small { ⌜ total (framesIn (now segments)) ≤ 5000000 ⌝ }
     ensures { λ r. ⌜ r ≡ length (cuesOf (listOf gop (framesIn (now (segments .entry))))) ⌝ }
 {
-    let count = segments.len() / WIDTH;
+    let count = segment_count(segments);
     let mut i: usize = 0;
     let mut n: usize = 0;
     while i < count {
-        let frames = segments[WIDTH * i + 4] as usize;
+        let frames = frames_of(segments, i) as usize;
         n = n + count_segment(gop as usize, frames);
         i = i + 1;
     }

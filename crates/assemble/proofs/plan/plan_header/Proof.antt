@@ -8,18 +8,19 @@ use Rattle.pictures.specs.Assemble.{readHeader, sameHeaders}
 use Rattle.pictures.specs.Sizes.{checkedSays}
 use Rattle.pictures.specs.Code.{laterSegments}
 use Rattle.pictures.specs.Says.{sequenceIn}
-use Rattle.assemble.specs.Stages.{rateOf, firstKey}
+use Rattle.blocks.specs.Numbers.{headKey}
+use Rattle.assemble.specs.Stages.{rateOf}
 use Rattle.pictures.specs.Rewrite.{obuIn}
 use Rattle.assemble.proofs.PlanLaws.{says-refused, says-refused-in, header-refused, header-other, header-same}
 use Rattle.assemble.proofs.plan.plan_header.Statement.{statement}
 use Rattle.assemble.proofs.plan.plan_header.Tie as tie
 
 -- the payload of the first key's sequence header
-first-payload : (c : tie.After-payload) → now (c .payload .result) ≡ part (firstKey (now (c .before .before .before .before .args .picture)) (now (c .before .before .before .before .args .segments))) (c .before .before .before .before .args .obu .start) (c .before .before .before .before .args .obu .end)
-first-payload c = let a = c .before .before .before .before .args in c .payload .ensures ∙ ap (λ (u : List ℕ). part u (a .obu .start) (a .obu .end)) (c .before .unit-at .ensures)
+first-payload : (c : tie.After-payload) → now (c .payload .result) ≡ part (headKey (now (c .before .before .before .before .args .picture)) (now (c .before .before .before .before .args .segments))) (c .before .before .before .before .args .obu .start) (c .before .before .before .before .args .obu .end)
+first-payload c = let a = c .before .before .before .before .args in c .payload .ensures ∙ ap (λ (u : List ℕ). part u (a .obu .start) (a .obu .end)) (c .before .key-of .ensures)
 
-unit-at-requires : tie.Need-unit-at-requires
-unit-at-requires c κs = search needs
+key-of-requires : tie.Need-key-of-requires
+key-of-requires c κs = search needs
 
 payload-requires : tie.Need-payload-requires
 payload-requires c κs = search needs
@@ -70,7 +71,7 @@ returns c =
     let a = c .before .before .before .before .before .before .before .before .before .before .args in
     let s = now (a .picture) in
     let rs = now (a .segments) in
-    let o = obuIn (firstKey s rs) (a .obu) in
+    let o = obuIn (headKey s rs) (a .obu) in
     let r = c .before .before .before .before .before in
     says-refused-in s rs _ _ _ (c .no-plan .ensures)
     ∙ header-refused s rs (rateOf (a .fps) (a .fps-den)) o _
@@ -81,7 +82,7 @@ returns-2 c =
     let a = c .before .before .before .before .before .before .before .before .before .before .before .before .before .before .args in
     let s = now (a .picture) in
     let rs = now (a .segments) in
-    let o = obuIn (firstKey s rs) (a .obu) in
+    let o = obuIn (headKey s rs) (a .obu) in
     let h = c .before .before .before .before in
     let r = h .before .before .before .before .before in
     let p = first-payload (r .before) in
@@ -94,7 +95,7 @@ returns-3 c =
     let a = c .before .before .before .before .before .before .before .before .before .before .before .before .before .before .args in
     let s = now (a .picture) in
     let rs = now (a .segments) in
-    let o = obuIn (firstKey s rs) (a .obu) in
+    let o = obuIn (headKey s rs) (a .obu) in
     let h = c .before .before .before .before in
     let r = h .before .before .before .before .before in
     let p = first-payload (r .before) in
@@ -107,7 +108,7 @@ returns-4 c =
     let a = c .before .before .before .before .before .before .before .before .before .before .before .before .before .args in
     let s = now (a .picture) in
     let rs = now (a .segments) in
-    let o = obuIn (firstKey s rs) (a .obu) in
+    let o = obuIn (headKey s rs) (a .obu) in
     let h = c .before .before .before in
     let r = h .before .before .before .before .before in
     let p = first-payload (r .before) in
@@ -119,7 +120,7 @@ pub plan-header-spec : {M : Type 1} → statement M
 plan-header-spec =
     tie.close
     (tie.spec
-    unit-at-requires
+    key-of-requires
     payload-requires
     read-supported-requires
     enum-known-answer

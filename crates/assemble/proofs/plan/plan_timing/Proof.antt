@@ -3,7 +3,8 @@ use borrow.Author.Needs.{needs}
 use mathlib.Core.Path.{refl, sym, ap, _∙_}
 use denote.Ref.{now}
 use Rattle.header.specs.Sequence.{sequenceOf, sequenceSays}
-use Rattle.assemble.specs.Stages.{rateOf, firstKey}
+use Rattle.blocks.specs.Numbers.{headKey}
+use Rattle.assemble.specs.Stages.{rateOf}
 use Rattle.pictures.specs.Rewrite.{obuIn}
 use Rattle.assemble.proofs.PlanLaws.{timing-there, timing-new, header-own, never-refused, timed-whole, timed-emits}
 use Rattle.assemble.proofs.plan.plan_timing.Statement.{statement}
@@ -18,7 +19,7 @@ returns c =
     let s = now (a .picture) in
     let rs = now (a .segments) in
     c .plan-pictures .ensures
-    ∙ timing-there s rs (rateOf (a .fps) (a .fps-den)) (obuIn (firstKey s rs) (a .obu)) (sequenceOf (a .header) (a .points)) _ _ (c .before .if1 .taken)
+    ∙ timing-there s rs (rateOf (a .fps) (a .fps-den)) (obuIn (headKey s rs) (a .obu)) (sequenceOf (a .header) (a .points)) _ _ (c .before .if1 .taken)
     (header-own s rs _ _ (a .obu) (c .before .before .before .before .pre .0) refl refl refl refl)
 
 with-timing-info-rate-requires : tie.Need-with-timing-info-rate-requires
@@ -56,7 +57,7 @@ returns-3 c =
     let rs = now (a .segments) in
     let t = sym (ap sequenceSays (c .before .before .timed .given .1)) ∙ m .with-timing-info-rate .ensures in
     c .plan-renewed .ensures
-    ∙ timing-new s rs (rateOf (a .fps) (a .fps-den)) (obuIn (firstKey s rs) (a .obu)) (sequenceOf (a .header) (a .points)) _ (m .before .if1 .left)
+    ∙ timing-new s rs (rateOf (a .fps) (a .fps-den)) (obuIn (headKey s rs) (a .obu)) (sequenceOf (a .header) (a .points)) _ (m .before .if1 .left)
     (timed-whole (a .header) (a .points) (a .fps) (a .fps-den) (z .pre .1) _ t)
 
 pub plan-timing-spec : {M : Type 1} → statement M
