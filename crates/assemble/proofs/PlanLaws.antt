@@ -32,7 +32,7 @@ use Rattle.pictures.specs.Assemble.{Outcome, stopped, made, andAlso, inSegment,
 use Rattle.pictures.specs.Sizes.{sized, ranged}
 use Rattle.pictures.specs.Code.{allSegments, laterSegments, firstSequence, renewing, orElse, allPrepared, capped, measured}
 use Rattle.pictures.specs.Says.{foundSays}
-use Rattle.assemble.specs.Stages.{Going, going, rateOf, WasRead, fromPictures, fromTiming, fromHeader, fromKey, checked, planned, headerIn, planSays}
+use Rattle.assemble.specs.Stages.{Going, going, WasRead, fromPictures, fromTiming, fromHeader, fromKey, checked, planned, headerIn, planSays}
 use Rattle.pictures.specs.Rewrite.{obuIn}
 use Rattle.pictures.specs.declared.headers.FoundObu.{FoundObu}
 use Rattle.pictures.specs.declared.headers.FoundObu.the-variants.{Found}
@@ -152,8 +152,8 @@ module _ (s rs : List ℕ) where
       unfolding planned fromKey andAlso inSegment
       plan-unfound k e = rw (← fit, ← e)
 
-      pub plan-found : (o : Obu) → accepted o ≡ firstSequence (headKey s rs) → fromHeader s rs (rateOf (set .fps) (set .den)) o ≡ planned s rs set
-      unfolding planned fromKey fromHeader fromTiming andAlso inSegment
+      pub plan-found : (o : Obu) → accepted o ≡ firstSequence (headKey s rs) → fromHeader s rs set o ≡ planned s rs set
+      unfolding planned fromKey andAlso inSegment
       plan-found o e = rw (← fit, ← e)
 
 -- ---- the first sequence header OBU is one
@@ -192,24 +192,24 @@ module _ (s rs new : List ℕ) (b : Basis) where
   unfolding headerIn
   header-new r x = rw (r, x)
 
-module _ (h : SequenceHeader) (points : List OperatingPoint) (fps den : ℕ) (w : WasRead (sequenceOf h points)) where
+module _ (h : SequenceHeader) (points : List OperatingPoint) (set : Settings) (w : WasRead (sequenceOf h points)) where
   fine : support h ≡ accepted tt
   fine = header-read (w .payload) (sequenceOf h points) (w .read) .1
 
-  pub never-refused : {A : Type 0} (k : ℕ) → refused k ≡ timed fps den h → A
-  never-refused k e = let i = e ∙ timed-of fps den h fine in let z : _≡_ {A = ℕ} 0 1 = cc in absurd (omega arith)
+  pub never-refused : {A : Type 0} (k : ℕ) → refused k ≡ timed (set .fps) (set .den) h → A
+  never-refused k e = let i = e ∙ timed-of (set .fps) (set .den) h fine in let z : _≡_ {A = ℕ} 0 1 = cc in absurd (omega arith)
 
   -- the header timed
-  pub timed-header : (t : SequenceHeader) → accepted t ≡ timed fps den h → t ≡ withTiming fps den h
-  timed-header t e = let i = e ∙ timed-of fps den h fine in let w : t ≡ withTiming fps den h = cc in w
+  pub timed-header : (t : SequenceHeader) → accepted t ≡ timed (set .fps) (set .den) h → t ≡ withTiming (set .fps) (set .den) h
+  timed-header t e = let i = e ∙ timed-of (set .fps) (set .den) h fine in let w : t ≡ withTiming (set .fps) (set .den) h = cc in w
 
-  pub timed-whole : (t : SequenceHeader) → accepted t ≡ timed fps den h → sequenceOf t points ≡ timedSequence (rateOf fps den) (sequenceOf h points)
+  pub timed-whole : (t : SequenceHeader) → accepted t ≡ timed (set .fps) (set .den) h → sequenceOf t points ≡ timedSequence set (sequenceOf h points)
   unfolding withTiming retimed
   timed-whole t e = ap (λ (y : SequenceHeader). sequenceOf y points) (timed-header t e)
 
   -- it can be emitted
-  pub timed-emits : (t : SequenceHeader) → accepted t ≡ timed fps den h → fps < 4294967296 → den < 4294967296 → emittable (sequenceOf t points) ≡ true
-  timed-emits t e a b = ap emittable (timed-whole t e) ∙ renewal-emittable (rateOf fps den) (w .payload) (sequenceOf h points) (w .read) a b
+  pub timed-emits : (t : SequenceHeader) → accepted t ≡ timed (set .fps) (set .den) h → set .fps < 4294967296 → set .den < 4294967296 → emittable (sequenceOf t points) ≡ true
+  timed-emits t e a b = ap emittable (timed-whole t e) ∙ renewal-emittable set (w .payload) (sequenceOf h points) (w .read) a b
 
 -- ---- a payload emitted at the head of an array
 

@@ -37,10 +37,6 @@ pub record Going : Type 0 where
 abbrev pub going : List ℕ → List Prepared → Going
 going header bs = record { header = header; units = bs; bytes = capped (length (pictureOf bs)) }
 
--- the rate alone: the stages do not look at gop_size
-abbrev pub rateOf : ℕ → ℕ → Settings
-rateOf fps den = record { gop = 0; fps = fps; den = den }
-
 -- some payload reads as q, and is supported
 pub record WasRead (q : Sequence) : Type 0 where
   pub payload : List ℕ

@@ -68,9 +68,7 @@ fn assemble_copied(
     picture: &[u8],
     count: usize,
     numbers: &mut [u64],
-    gop_size: u64,
-    fps: u32,
-    fps_den: u32,
+    settings: Settings,
     list: &mut [u32],
     cues: &mut [u32],
     pictures: &mut [u8],
@@ -78,7 +76,7 @@ fn assemble_copied(
     shows: &mut [u8],
     header: &mut [u8],
 ) -> Assembled
-    ensures handed { λ r. ⌜ Handed (copiedOutcome (now (picture .entry)) count (now (numbers .entry)) (record { gop = «gop_size»; fps = fps; den = «fps_den» })) r (slices list cues pictures ends shows header) ⌝ }
+    ensures handed { λ r. ⌜ Handed (copiedOutcome (now (picture .entry)) count (now (numbers .entry)) settings) r (slices list cues pictures ends shows header) ⌝ }
     ensures numbers { λ _. ⌜ now (numbers .exit) ≡ now (numbers .entry) ⌝ }
 {
     if count > numbers.len() / WIDTH {
@@ -90,11 +88,7 @@ fn assemble_copied(
     assemble_multi(
         picture,
         &numbers[0..WIDTH * count],
-        Settings {
-            gop: gop_size,
-            fps: fps,
-            den: fps_den,
-        },
+        settings,
         list,
         cues,
         pictures,
@@ -110,9 +104,7 @@ pub fn assemble_segments(
     picture: &[u8],
     segments: &[Segment],
     numbers: &mut [u64],
-    gop_size: u64,
-    fps: u32,
-    fps_den: u32,
+    settings: Settings,
     list: &mut [u32],
     cues: &mut [u32],
     pictures: &mut [u8],
@@ -120,7 +112,7 @@ pub fn assemble_segments(
     shows: &mut [u8],
     header: &mut [u8],
 ) -> Assembled
-    ensures handed { λ r. ⌜ Handed (recordsOutcome (now (picture .entry)) (now (segments .entry)) (now (numbers .entry)) (record { gop = «gop_size»; fps = fps; den = «fps_den» })) r (slices list cues pictures ends shows header) ⌝ }
+    ensures handed { λ r. ⌜ Handed (recordsOutcome (now (picture .entry)) (now (segments .entry)) (now (numbers .entry)) settings) r (slices list cues pictures ends shows header) ⌝ }
     ensures numbers { λ _. ⌜ now (numbers .exit) ≡ numbersAfter (now (segments .entry)) (now (numbers .entry)) ⌝ }
 {
     let count = copy_segments(segments, &mut *numbers);
@@ -128,9 +120,7 @@ pub fn assemble_segments(
         picture,
         count,
         numbers,
-        gop_size,
-        fps,
-        fps_den,
+        settings,
         list,
         cues,
         pictures,

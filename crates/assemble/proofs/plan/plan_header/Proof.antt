@@ -9,7 +9,6 @@ use Rattle.pictures.specs.Sizes.{checkedSays}
 use Rattle.pictures.specs.Code.{laterSegments}
 use Rattle.pictures.specs.Says.{sequenceIn}
 use Rattle.blocks.specs.Numbers.{headKey}
-use Rattle.assemble.specs.Stages.{rateOf}
 use Rattle.pictures.specs.Rewrite.{obuIn}
 use Rattle.assemble.proofs.PlanLaws.{says-refused, says-refused-in, header-refused, header-other, header-same}
 use Rattle.assemble.proofs.plan.plan_header.Statement.{statement}
@@ -43,8 +42,8 @@ same-headers-requires c κs = search needs
 enum-known-k : tie.Need-enum-known-k
 enum-known-k c = search needs
 
-cast-t20 : tie.Need-cast-t20
-cast-t20 c = search needs
+cast-t19 : tie.Need-cast-t19
+cast-t19 c = search needs
 
 no-plan-requires-2 : tie.Need-no-plan-requires-2
 no-plan-requires-2 c κs = search needs
@@ -52,8 +51,8 @@ no-plan-requires-2 c κs = search needs
 enum-known-k-2 : tie.Need-enum-known-k-2
 enum-known-k-2 c = search needs
 
-cast-t22 : tie.Need-cast-t22
-cast-t22 c = search needs
+cast-t21 : tie.Need-cast-t21
+cast-t21 c = search needs
 
 no-plan-requires-3 : tie.Need-no-plan-requires-3
 no-plan-requires-3 c κs = search needs
@@ -74,7 +73,7 @@ returns c =
     let o = obuIn (headKey s rs) (a .obu) in
     let r = c .before .before .before .before .before in
     says-refused-in s rs _ _ _ (c .no-plan .ensures)
-    ∙ header-refused s rs (rateOf (a .fps) (a .fps-den)) o _
+    ∙ header-refused s rs (a .settings) o _
     (sym (ap (λ x. sequenceIn x (r .read-supported .result .«operating_points»)) (c .before .before .answer .given .1)) ∙ r .read-supported .ensures ∙ ap readHeader (first-payload (r .before)))
 
 returns-2 : tie.Need-returns-2
@@ -88,7 +87,7 @@ returns-2 c =
     let p = first-payload (r .before) in
     let read = sym (ap (λ x. sequenceIn x (r .read-supported .result .«operating_points»)) (h .before .before .answer2 .given .1)) ∙ r .read-supported .ensures ∙ ap readHeader p in
     says-refused s rs _ _ (c .no-plan2 .ensures)
-    ∙ header-other s rs (rateOf (a .fps) (a .fps-den)) o _ read _ _ (sym (ap checkedSays (c .before .before .k .given .1)) ∙ h .same-headers .ensures ∙ ap (λ (l : List ℕ). sameHeaders l 1 (laterSegments s rs)) p)
+    ∙ header-other s rs (a .settings) o _ read _ _ (sym (ap checkedSays (c .before .before .k .given .1)) ∙ h .same-headers .ensures ∙ ap (λ (l : List ℕ). sameHeaders l 1 (laterSegments s rs)) p)
 
 returns-3 : tie.Need-returns-3
 returns-3 c =
@@ -101,7 +100,7 @@ returns-3 c =
     let p = first-payload (r .before) in
     let read = sym (ap (λ x. sequenceIn x (r .read-supported .result .«operating_points»)) (h .before .before .answer2 .given .1)) ∙ r .read-supported .ensures ∙ ap readHeader p in
     says-refused-in s rs _ _ _ (c .no-plan3 .ensures)
-    ∙ header-other s rs (rateOf (a .fps) (a .fps-den)) o _ read _ _ (sym (ap checkedSays (c .before .before .k2 .given .1)) ∙ h .same-headers .ensures ∙ ap (λ (l : List ℕ). sameHeaders l 1 (laterSegments s rs)) p)
+    ∙ header-other s rs (a .settings) o _ read _ _ (sym (ap checkedSays (c .before .before .k2 .given .1)) ∙ h .same-headers .ensures ∙ ap (λ (l : List ℕ). sameHeaders l 1 (laterSegments s rs)) p)
 
 returns-4 : tie.Need-returns-4
 returns-4 c =
@@ -114,7 +113,7 @@ returns-4 c =
     let p = first-payload (r .before) in
     let read = sym (ap (λ x. sequenceIn x (r .read-supported .result .«operating_points»)) (h .before .before .answer2 .given .1)) ∙ r .read-supported .ensures ∙ ap readHeader p in
     c .plan-timing .ensures
-    ∙ header-same s rs (rateOf (a .fps) (a .fps-den)) o _ read (sym (ap checkedSays (c .before .enum-told .given .1)) ∙ h .same-headers .ensures ∙ ap (λ (l : List ℕ). sameHeaders l 1 (laterSegments s rs)) p)
+    ∙ header-same s rs (a .settings) o _ read (sym (ap checkedSays (c .before .enum-told .given .1)) ∙ h .same-headers .ensures ∙ ap (λ (l : List ℕ). sameHeaders l 1 (laterSegments s rs)) p)
 
 pub plan-header-spec : {M : Type 1} → statement M
 plan-header-spec =
@@ -128,10 +127,10 @@ plan-header-spec =
     enum-known-answer-2
     same-headers-requires
     enum-known-k
-    cast-t20
+    cast-t19
     no-plan-requires-2
     enum-known-k-2
-    cast-t22
+    cast-t21
     no-plan-requires-3
     enum-told
     plan-timing-requires
