@@ -9,7 +9,7 @@ use Rattle.obu.specs.Obu.{Obu, obus}
 use Rattle.header.specs.Sequence.{Sequence}
 use Rattle.blocks.specs.Numbers.{records, recordsBehind}
 use Rattle.pictures.specs.Segments.{Segment, segmentIn}
-use Rattle.pictures.specs.Prepare.{isSequence, firstOf, sent, firstFrame, keyOk, goldenFlags, slotOf, Prepared}
+use Rattle.pictures.specs.Prepare.{isSequence, firstOf, sent, asked, Prepared}
 use Rattle.pictures.specs.Assemble.{Outcome, made, andAlso, prepareAll, pictureOf}
 
 -- ---- segments
@@ -38,11 +38,7 @@ unfoldable pub judged : Sequence → Bool → List ℕ → List ℕ → Answer �
 judged q rewriting k g =
     andNext (readable rewriting k) (λ _.
     andNext (readable rewriting g) (λ _.
-    andNext (firstFrame q k) (λ y.
-    andNext (keyOk y) (λ _.
-    andNext (firstFrame q g) (λ z.
-    andNext (goldenFlags z) (λ flags.
-    accepted (slotOf flags)))))))
+    asked q k g (λ slot. accepted slot)))
 
 -- ---- units as they go out
 
