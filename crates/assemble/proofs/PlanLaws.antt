@@ -25,14 +25,14 @@ use Rattle.emittable.specs.Emittable.{emittable}
 use Rattle.header.specs.declared.seq_header.SequenceHeader.{SequenceHeader}
 use Rattle.header.specs.declared.seq_header.OperatingPoint.{OperatingPoint}
 use Rattle.header.proofs.TimedLaws.{timed-of}
-use Rattle.blocks.specs.Lay.{framesIn}
+use Rattle.blocks.specs.Numbers.{headKey, framesIn}
 use Rattle.pictures.specs.Prepare.{isSequence, firstOf, timedSequence, Prepared}
 use Rattle.pictures.specs.declared.settings.Settings.{Settings}
 use Rattle.pictures.specs.Assemble.{Outcome, stopped, made, andAlso, inSegment, readHeader, sameHeaders, headerObu, prepareAll, pictureOf}
 use Rattle.pictures.specs.Sizes.{sized, ranged}
 use Rattle.pictures.specs.Code.{allSegments, laterSegments, firstSequence, renewing, orElse, allPrepared, capped, measured}
 use Rattle.pictures.specs.Says.{foundSays}
-use Rattle.assemble.specs.Stages.{Going, going, rateOf, WasRead, firstKey, fromPictures, fromTiming, fromHeader, fromKey, checked, planned, headerIn, planSays}
+use Rattle.assemble.specs.Stages.{Going, going, WasRead, fromPictures, fromTiming, fromHeader, fromKey, checked, planned, headerIn, planSays}
 use Rattle.pictures.specs.Rewrite.{obuIn}
 use Rattle.pictures.specs.declared.headers.FoundObu.{FoundObu}
 use Rattle.pictures.specs.declared.headers.FoundObu.the-variants.{Found}
@@ -148,12 +148,12 @@ module _ (s rs : List ℕ) where
     plan-unchecked k i e = rw (← e)
 
     module _ (fit : made tt ≡ checked s rs (set .gop)) where
-      pub plan-unfound : (k : ℕ) → refused k ≡ firstSequence (firstKey s rs) → stopped k (some 0) ≡ planned s rs set
+      pub plan-unfound : (k : ℕ) → refused k ≡ firstSequence (headKey s rs) → stopped k (some 0) ≡ planned s rs set
       unfolding planned fromKey andAlso inSegment
       plan-unfound k e = rw (← fit, ← e)
 
-      pub plan-found : (o : Obu) → accepted o ≡ firstSequence (firstKey s rs) → fromHeader s rs (rateOf (set .fps) (set .den)) o ≡ planned s rs set
-      unfolding planned fromKey fromHeader fromTiming andAlso inSegment
+      pub plan-found : (o : Obu) → accepted o ≡ firstSequence (headKey s rs) → fromHeader s rs set o ≡ planned s rs set
+      unfolding planned fromKey andAlso inSegment
       plan-found o e = rw (← fit, ← e)
 
 -- ---- the first sequence header OBU is one
@@ -184,7 +184,7 @@ found-at u v r o e f i = ap (λ (l : List ℕ). accepted (obuIn l o)) (sym i) �
 module _ (s rs new : List ℕ) (b : Basis) where
   -- the first key's own, of type 1
   pub header-own : (o : CodeObu) → o .«obu_type» ≡ 1 → b .rewriting ≡ false → b .extension ≡ o .extension → b .start ≡ o .start → b .end ≡ o .end
-      → headerIn s rs new b ≡ obuBytes (obuIn (firstKey s rs) o)
+      → headerIn s rs new b ≡ obuBytes (obuIn (headKey s rs) o)
   unfolding headerIn
   header-own o t r x a e = rw (r, x, a, e, t)
 
@@ -192,24 +192,24 @@ module _ (s rs new : List ℕ) (b : Basis) where
   unfolding headerIn
   header-new r x = rw (r, x)
 
-module _ (h : SequenceHeader) (points : List OperatingPoint) (fps den : ℕ) (w : WasRead (sequenceOf h points)) where
+module _ (h : SequenceHeader) (points : List OperatingPoint) (set : Settings) (w : WasRead (sequenceOf h points)) where
   fine : support h ≡ accepted tt
   fine = header-read (w .payload) (sequenceOf h points) (w .read) .1
 
-  pub never-refused : {A : Type 0} (k : ℕ) → refused k ≡ timed fps den h → A
-  never-refused k e = let i = e ∙ timed-of fps den h fine in let z : _≡_ {A = ℕ} 0 1 = cc in absurd (omega arith)
+  pub never-refused : {A : Type 0} (k : ℕ) → refused k ≡ timed (set .fps) (set .den) h → A
+  never-refused k e = let i = e ∙ timed-of (set .fps) (set .den) h fine in let z : _≡_ {A = ℕ} 0 1 = cc in absurd (omega arith)
 
   -- the header timed
-  pub timed-header : (t : SequenceHeader) → accepted t ≡ timed fps den h → t ≡ withTiming fps den h
-  timed-header t e = let i = e ∙ timed-of fps den h fine in let w : t ≡ withTiming fps den h = cc in w
+  pub timed-header : (t : SequenceHeader) → accepted t ≡ timed (set .fps) (set .den) h → t ≡ withTiming (set .fps) (set .den) h
+  timed-header t e = let i = e ∙ timed-of (set .fps) (set .den) h fine in let w : t ≡ withTiming (set .fps) (set .den) h = cc in w
 
-  pub timed-whole : (t : SequenceHeader) → accepted t ≡ timed fps den h → sequenceOf t points ≡ timedSequence (rateOf fps den) (sequenceOf h points)
+  pub timed-whole : (t : SequenceHeader) → accepted t ≡ timed (set .fps) (set .den) h → sequenceOf t points ≡ timedSequence set (sequenceOf h points)
   unfolding withTiming retimed
   timed-whole t e = ap (λ (y : SequenceHeader). sequenceOf y points) (timed-header t e)
 
   -- it can be emitted
-  pub timed-emits : (t : SequenceHeader) → accepted t ≡ timed fps den h → fps < 4294967296 → den < 4294967296 → emittable (sequenceOf t points) ≡ true
-  timed-emits t e a b = ap emittable (timed-whole t e) ∙ renewal-emittable (rateOf fps den) (w .payload) (sequenceOf h points) (w .read) a b
+  pub timed-emits : (t : SequenceHeader) → accepted t ≡ timed (set .fps) (set .den) h → set .fps < 4294967296 → set .den < 4294967296 → emittable (sequenceOf t points) ≡ true
+  timed-emits t e a b = ap emittable (timed-whole t e) ∙ renewal-emittable set (w .payload) (sequenceOf h points) (w .read) a b
 
 -- ---- a payload emitted at the head of an array
 

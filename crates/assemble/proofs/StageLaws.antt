@@ -1,27 +1,26 @@
 -- Laws of assembly's stages: together they are the whole, and what they tell of the sizes. Assumes nothing.
-use Rattle.blocks.specs.Numbers.{width}
-use Prim.Native.Nat.{ℕ, zero, suc, _+_, _-_, _/_, _%_, _≤_}
+use Prim.Native.Nat.{ℕ, zero, suc, _+_, _-_, _≤_}
 use native.Mathlib.Omega.{arith}
 use mathlib.Core.Path.{_≡_, refl, sym, ap, subst, _∙_}
-use mathlib.Core.List.{List, [], _∷_}
-use mathlib.Core.Bool.{Bool, true, false, cond as pick, _&&_}
+use mathlib.Core.List.{List, [], _∷_, map}
+use mathlib.Core.Bool.{Bool, true, false, cond as pick}
 use mathlib.Core.Option.{none, some}
-use lib.ListN.{length, getD, drop}
+use lib.ListN.{length}
 use lib.Dec.{ltb, eqb}
 use borrow.Author.Tests.{ltb-false, eqb-false}
-use Rattle.pictures.proofs.SizeLaws.{frames-length}
+use Rattle.blocks.proofs.NumberLaws.{frames-length}
 use Rattle.bitio.specs.Parse.{Answer, refused, accepted, answer, andNext, onto}
 use Rattle.bitio.specs.Limits.{limit}
 use Rattle.obu.specs.Obu.{obus}
 use Rattle.blocks.specs.Blocks.{total}
-use Rattle.blocks.specs.Lay.{framesFrom, framesIn}
-use Rattle.pictures.specs.Segments.{Segment, framesOf, inside, segmentAt, segmentsFrom, segmentsOf}
+use Rattle.blocks.specs.Numbers.{headKey, headFrames, headInside, rest, segmentCount, isWhole, recordsFrom, framesIn}
+use Rattle.pictures.specs.Segments.{Segment, framesOf, segmentIn, segmentAt, segmentsFrom, segmentsOf}
 use Rattle.pictures.specs.Prepare.{effective, renewal}
 use Rattle.pictures.specs.declared.settings.Settings.{Settings}
 use Rattle.pictures.specs.Assemble.{Outcome, stopped, made, andAlso, inSegment, overall, noneEmpty, sizes, readHeader, sameHeaders, headerObu, prepareAll, pictureOf, Output, outputOf, Room, assembled, fitted, assemble}
 use Rattle.pictures.specs.Sizes.{sized, ranged}
-use Rattle.pictures.specs.Code.{segmentIn, segmentsIn, allSegments, laterSegments, firstSequence, capped}
-use Rattle.assemble.specs.Stages.{Going, going, firstKey, fromTiming, fromHeader, fromKey, checked, planned}
+use Rattle.pictures.specs.Code.{allSegments, laterSegments, firstSequence, capped}
+use Rattle.assemble.specs.Stages.{Going, going, fromTiming, fromHeader, fromKey, checked, planned}
 
 -- ---- accepted segments are those of the flat numbers
 
@@ -30,29 +29,28 @@ onto-are : (x : Segment) (a : Answer (List Segment)) (zs : List Segment) → ((y
 onto-are x (refused k) zs h xs e = let z : _≡_ {A = ℕ} 0 1 = cc in absurd (omega arith)
 onto-are x (accepted ys) zs h xs e = let w : x ∷ ys ≡ xs = cc in sym w ∙ ap (λ (l : List Segment). x ∷ l) (h ys refl)
 
-segments-from : (s : List ℕ) (k : ℕ) (rs : List ℕ) (xs : List Segment) → segmentsFrom s k rs ≡ accepted xs → xs ≡ segmentsIn s k rs
-unfolding segmentsFrom segmentAt andNext segmentsIn
+segments-from : (s : List ℕ) (k : ℕ) (rs : List ℕ) (xs : List Segment) → segmentsFrom s k rs ≡ accepted xs → xs ≡ map (segmentIn s) (recordsFrom k rs)
+unfolding segmentsFrom segmentAt andNext recordsFrom
 segments-from s zero rs xs e = let w : [] ≡ xs = cc in sym w
 segments-from s (suc k) rs xs e =
-    go (λ ys w. segments-from s k (drop width rs) ys w) (inside s (getD rs 0 0) (getD rs 1 0) && inside s (getD rs 2 0) (getD rs 3 0)) e
+    go (λ ys w. segments-from s k (rest rs) ys w) (headInside s rs) e
   where
-    go : ((ys : List Segment) → segmentsFrom s k (drop width rs) ≡ accepted ys → ys ≡ segmentsIn s k (drop width rs)) → (t : Bool)
-        → andNext (pick t (accepted (segmentIn s rs)) (refused 36)) (λ y. onto y (segmentsFrom s k (drop width rs))) ≡ accepted xs → xs ≡ segmentIn s rs ∷ segmentsIn s k (drop width rs)
-    go more true e = onto-are (segmentIn s rs) (segmentsFrom s k (drop width rs)) (segmentsIn s k (drop width rs)) more xs e
+    go : ((ys : List Segment) → segmentsFrom s k (rest rs) ≡ accepted ys → ys ≡ map (segmentIn s) (recordsFrom k (rest rs))) → (t : Bool)
+        → andNext (pick t (accepted (segmentIn s rs)) (refused 36)) (λ y. onto y (segmentsFrom s k (rest rs))) ≡ accepted xs → xs ≡ segmentIn s rs ∷ map (segmentIn s) (recordsFrom k (rest rs))
+    go more true e = onto-are (segmentIn s rs) (segmentsFrom s k (rest rs)) (map (segmentIn s) (recordsFrom k (rest rs))) more xs e
     go more false e = let z : _≡_ {A = ℕ} 0 1 = cc in absurd (omega arith)
 
 pub segments-are : (s rs : List ℕ) (xs : List Segment) → segmentsOf s rs ≡ accepted xs → xs ≡ allSegments s rs
 unfolding segmentsOf
-segments-are s rs xs e = go (eqb (length rs % width) 0) e
+segments-are s rs xs e = go (isWhole rs) e
   where
-    go : (t : Bool) → pick t (segmentsFrom s (length rs / width) rs) (refused 36) ≡ accepted xs → xs ≡ allSegments s rs
-    go true e = segments-from s (length rs / width) rs xs e
+    go : (t : Bool) → pick t (segmentsFrom s (segmentCount rs) rs) (refused 36) ≡ accepted xs → xs ≡ allSegments s rs
+    go true e = segments-from s (segmentCount rs) rs xs e
     go false e = let z : _≡_ {A = ℕ} 0 1 = cc in absurd (omega arith)
 
-frames-in : (s : List ℕ) (k : ℕ) (rs : List ℕ) → framesFrom k rs ≡ framesOf (segmentsIn s k rs)
-unfolding framesFrom segmentsIn
-frames-in s zero rs = refl
-frames-in s (suc k) rs = ap (λ (l : List ℕ). getD rs 4 0 ∷ l) (frames-in s k (drop width rs))
+frames-in : (s : List ℕ) (l : List (List ℕ)) → map headFrames l ≡ framesOf (map (segmentIn s) l)
+frames-in s [] = refl
+frames-in s (rs ∷ l) = ap (λ (ns : List ℕ). headFrames rs ∷ ns) (frames-in s l)
 
 -- ---- outcomes one after the other
 
@@ -105,15 +103,15 @@ module _ (room : Room) (set : Settings) where
       also-both (prepareAll (effective set q) (renewal set q) 0 (x ∷ xs)) _ _ _ _ (λ bs. refl))))))
 
   module _ (s rs : List ℕ) where
-    counted : (n : ℕ) → length rs / width ≡ n
-        → andAlso (assembled set (segmentsIn s n rs)) (fitted room) ≡ andAlso (andAlso (sized (set .gop) (framesIn rs)) (λ _. fromKey s rs set)) (handed (framesIn rs))
-    unfolding assembled andAlso segmentsIn framesFrom fromKey fromHeader fromTiming
-    counted zero e = let f : framesIn rs ≡ [] = ap (λ (k : ℕ). framesFrom k rs) e in rw f
+    counted : (n : ℕ) → segmentCount rs ≡ n
+        → andAlso (assembled set (map (segmentIn s) (recordsFrom n rs))) (fitted room) ≡ andAlso (andAlso (sized (set .gop) (framesIn rs)) (λ _. fromKey s rs set)) (handed (framesIn rs))
+    unfolding assembled andAlso recordsFrom fromKey fromHeader fromTiming
+    counted zero e = let f : framesIn rs ≡ [] = ap (λ (k : ℕ). map headFrames (recordsFrom k rs)) e in rw f
     counted (suc m) e =
-        staged (segmentIn s rs) (segmentsIn s m (drop width rs)) (allSegments s rs) (laterSegments s rs) (framesIn rs)
-        (ap (λ (k : ℕ). segmentsIn s k rs) e) (ap (λ (k : ℕ). segmentsIn s k (drop width rs)) less) (ap (λ (k : ℕ). framesFrom k rs) e ∙ frames-in s (suc m) rs)
+        staged (segmentIn s rs) (map (segmentIn s) (recordsFrom m (rest rs))) (allSegments s rs) (laterSegments s rs) (framesIn rs)
+        (ap (λ (k : ℕ). map (segmentIn s) (recordsFrom k rs)) e) (ap (λ (k : ℕ). map (segmentIn s) (recordsFrom k (rest rs))) less) (ap (λ (k : ℕ). map headFrames (recordsFrom k rs)) e ∙ frames-in s (recordsFrom (suc m) rs))
       where
-        less : length rs / width - 1 ≡ m
+        less : segmentCount rs - 1 ≡ m
         less = omega (arith, e)
 
     -- the whole is what goes out, handed out if it fits
@@ -126,7 +124,7 @@ module _ (room : Room) (set : Settings) where
             ≡ andAlso (andAlso (pick t (stopped 34 none) (andAlso (overall (judged a)) (λ _. sized (set .gop) (framesIn rs)))) (λ _. fromKey s rs set)) (handed (framesIn rs))
         go true a e = refl
         go false (refused k) e = refl
-        go false (accepted xs) e = ap (λ (l : List Segment). andAlso (assembled set l) (fitted room)) (segments-are s rs xs e) ∙ counted (length rs / width) refl
+        go false (accepted xs) e = ap (λ (l : List Segment). andAlso (assembled set l) (fitted room)) (segments-are s rs xs e) ∙ counted (segmentCount rs) refl
 
 -- ---- what the checks tell
 
@@ -147,8 +145,8 @@ filled i (n ∷ ns) e = go (filled (suc i) ns) (eqb n 0) refl e
 pub record Sound (gop : ℕ) (rs : List ℕ) : Type 0 where
   pub gop-size : 2 ≤ gop
   pub small : total (framesIn rs) ≤ 5000000
-  pub some-there : 1 ≤ length rs / width
-  pub count : length rs / width ≤ 5000000
+  pub some-there : 1 ≤ segmentCount rs
+  pub count : segmentCount rs ≤ 5000000
 
 sized-sound : (gop : ℕ) (rs ns : List ℕ) → framesIn rs ≡ ns → sized gop ns ≡ fine → Sound gop rs
 unfolding sizes andAlso
@@ -166,7 +164,7 @@ sized-sound gop rs (n ∷ ns) f e = go (ltb gop 2) (ltb (total (n ∷ ns)) 2) (n
         let t = ltb-false 5000000 (total (n ∷ ns)) k in
         let l = filled 0 (n ∷ ns) j in
         let w = ap total f in
-        let m = sym (frames-length (length rs / width) rs) ∙ ap length f in
+        let m = sym (frames-length rs) ∙ ap length f in
         record { gop-size = g; small = omega arith; some-there = omega arith; count = omega arith }
 
 pub checked-sound : (s rs : List ℕ) (gop : ℕ) → checked s rs gop ≡ fine → Sound gop rs
@@ -200,7 +198,7 @@ pub planned-weighed : (s rs : List ℕ) (set : Settings) (g : Going) → planned
 unfolding planned fromKey fromHeader fromTiming
 planned-weighed s rs set =
     also-weighed (checked s rs (set .gop)) _ (λ _.
-    also-weighed (inSegment 0 (firstSequence (firstKey s rs))) _ (λ o.
+    also-weighed (inSegment 0 (firstSequence (headKey s rs))) _ (λ o.
     also-weighed (inSegment 0 (readHeader (o .payload))) _ (λ q.
     also-weighed (sameHeaders (o .payload) 1 (laterSegments s rs)) _ (λ _.
     also-weighed (prepareAll (effective set q) (renewal set q) 0 (allSegments s rs)) _ (λ bs g e.

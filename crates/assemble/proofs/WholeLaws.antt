@@ -1,9 +1,8 @@
 -- Laws of the whole of assembly: what is asked before it is written, and that the lent memory holds what is handed out. Assumes nothing.
-use Rattle.blocks.specs.Numbers.{width}
-use Prim.Native.Nat.{ℕ, zero, suc, _*_, _/_, _≤_}
+use Prim.Native.Nat.{ℕ, zero, suc, _*_, _≤_}
 use native.Mathlib.Omega.{arith}
 use mathlib.Core.Path.{_≡_, refl, sym, ap, _∙_}
-use mathlib.Core.List.{List, flatMap}
+use mathlib.Core.List.{List, map, flatMap}
 use mathlib.Core.Bool.{Bool, true, false, cond as pick}
 use mathlib.Core.Option.{Option, none, some}
 use lib.ListN.{length}
@@ -12,13 +11,15 @@ use Rattle.bitio.specs.Lent.{pasted}
 use Rattle.header.specs.Sequence.{Sequence, sequenceOf}
 use Rattle.header.specs.declared.seq_header.OperatingPoint.{OperatingPoint}
 use Rattle.blocks.specs.Blocks.{listOf, cuesOf}
-use Rattle.blocks.specs.Lay.{framesIn, CanLayAll}
+use Rattle.blocks.specs.Numbers.{headKey, headGolden, segmentCount, recordsFrom, framesIn}
+use Rattle.blocks.specs.Lay.{CanLayAll}
+use Rattle.pictures.specs.Segments.{segmentIn}
 use Rattle.pictures.specs.Prepare.{Prepared, showUnit}
 use Rattle.pictures.specs.declared.settings.Settings.{Settings}
 use Rattle.pictures.specs.Assemble.{Outcome, stopped, made, andAlso, pictureOf, endsFrom, showsOf, firstSlot, Output, outputOf, Room, fits, fitted}
-use Rattle.pictures.specs.Code.{segmentsIn, allSegments, judged, orElse, allPrepared, allSent, slotsOf, capped}
+use Rattle.pictures.specs.Code.{allSegments, judged, orElse, allPrepared, allSent, slotsOf, capped}
 use Rattle.assemble.specs.Whole.{counts, countsOf, assembledSays, Lent, outcome, lentAfter, Handed}
-use Rattle.assemble.specs.Stages.{Going, planned, firstKey, firstGolden, headerIn, newIn, basisSays, answerSays, planSays, needed, fitsIn, roomOf}
+use Rattle.assemble.specs.Stages.{Going, planned, headerIn, newIn, basisSays, answerSays, planSays, needed, fitsIn, roomOf}
 use Rattle.assemble.specs.declared.multi.Counts.{Counts}
 use Rattle.assemble.specs.declared.multi.Assembled.{Assembled}
 use Rattle.assemble.specs.declared.multi.Assembled.the-variants.{Made, Refused as AllRefused, RefusedIn as SegmentRefused}
@@ -39,8 +40,8 @@ plan-ready s rs p b n new x e i f = sym f ∙ ap (answerSays s rs (p .points) (p
 
 -- the first segment's slot
 slot-first : (s rs : List ℕ) (q : Sequence) (rewriting : Bool) (new : List ℕ) (n : ℕ) → 1 ≤ n
-    → orElse 0 (judged q rewriting (firstKey s rs) (firstGolden s rs)) ≡ firstSlot (allPrepared q rewriting new (segmentsIn s n rs))
-unfolding segmentsIn
+    → orElse 0 (judged q rewriting (headKey s rs) (headGolden s rs)) ≡ firstSlot (allPrepared q rewriting new (map (segmentIn s) (recordsFrom n rs)))
+unfolding recordsFrom
 slot-first s rs q rewriting new zero h = absurd (omega arith)
 slot-first s rs q rewriting new (suc n) h = refl
 
@@ -98,13 +99,13 @@ module _ (s rs : List ℕ) (set : Settings) (d : Lent) where
     weighed : n ≡ capped (length (pictureOf units))
     weighed = planned-weighed s rs set (basisSays s rs points new b n) ready
 
-    length-units : length units ≡ length rs / width
+    length-units : length units ≡ segmentCount rs
     length-units = length-prepared (sequenceOf (b .header) points) (b .rewriting) new (allSegments s rs) ∙ length-all s rs
 
-    ends-are : 2 * (length rs / width) ≡ length (endsFrom 0 units)
+    ends-are : 2 * segmentCount rs ≡ length (endsFrom 0 units)
     ends-are = omega (arith, length-ends 0 units, length-units)
 
-    shows-are : 5 * (length rs / width) ≡ length (showsOf units)
+    shows-are : 5 * segmentCount rs ≡ length (showsOf units)
     shows-are = omega (arith, length-shows units, length-units)
 
     whole-is : whole ≡ fitted room out
@@ -128,7 +129,7 @@ module _ (s rs : List ℕ) (set : Settings) (d : Lent) where
       counts-are : need ≡ counts out
       counts-are =
           same-counts refl refl (omega (arith, weighed, roomy .bytes)) ends-are shows-are (omega (arith, roomy .bytes))
-          (slot-first s rs (sequenceOf (b .header) points) (b .rewriting) new (length rs / width) (sound .some-there))
+          (slot-first s rs (sequenceOf (b .header) points) (b .rewriting) new (segmentCount rs) (sound .some-there))
 
       pub can-lay : CanLayAll (d .list) (d .cues) (set .gop) rs
       can-lay =
@@ -147,8 +148,8 @@ module _ (s rs : List ℕ) (set : Settings) (d : Lent) where
       pub can-shows : 5 * length (allSegments s rs) ≤ length (d .shows)
       can-shows = omega (arith, length-all s rs, shows-are, roomy .shows)
 
-      pub can-header : (width ≤ length rs) × (length (headerIn s rs new b) ≤ length (d .header))
-      can-header = (omega (arith, sound .some-there), roomy .header)
+      pub can-header : (1 ≤ segmentCount rs) × (length (headerIn s rs new b) ≤ length (d .header))
+      can-header = (sound .some-there, roomy .header)
 
       pub all-made : (r : Counts) (d′ : Lent) → r ≡ need → d′ .list ≡ pasted (d .list) 0 (listOf (set .gop) (framesIn rs)) → d′ .cues ≡ pasted (d .cues) 0 (cuesOf (listOf (set .gop) (framesIn rs)))
           → d′ .pictures ≡ pasted (d .pictures) 0 (pictureOf sents) → d′ .ends ≡ pasted (d .ends) 0 (endsFrom 0 sents)

@@ -1,29 +1,30 @@
 -- Segments as structs (01: a lent list of range records), and assembly from them by way of a lent slice of numbers. Assumes nothing.
-use Prim.Native.Nat.{ℕ, _*_}
+use Prim.Native.Nat.{ℕ, _/_}
 use mathlib.Core.List.{List, [], _∷_, _++_}
 use mathlib.Core.Bool.{Bool, cond as pick}
 use mathlib.Core.Option.{none}
-use lib.ListN.{length, take}
+use lib.ListN.{length}
 use lib.Dec.{leb, ltb}
 use Rattle.bitio.specs.Limits.{limit}
 use Rattle.bitio.specs.Lent.{pasted}
+use Rattle.blocks.specs.Numbers.{width, recordOf, segmentCount, firstRecords}
 use Rattle.pictures.specs.Assemble.{Outcome, stopped, Output}
 use Rattle.pictures.specs.declared.settings.Settings.{Settings}
 use Rattle.assemble.specs.Whole.{Lent, outcome}
 use Rattle.assemble.specs.declared.segments.Segment.{Segment}
 
--- the five numbers of a segment, as assembly reads them
-abbrev pub fiveOf : Segment → List ℕ
-fiveOf x = x .«key_start» ∷ x .«key_end» ∷ x .«golden_start» ∷ x .«golden_end» ∷ x .frames ∷ []
+-- a segment's numbers, as assembly reads them
+abbrev pub recordIn : Segment → List ℕ
+recordIn x = recordOf (x .«key_start») (x .«key_end») (x .«golden_start») (x .«golden_end») (x .frames)
 
 -- those of all segments, one after the other
 unfoldable pub numbersOf : List Segment → List ℕ
 numbersOf [] = []
-numbersOf (x ∷ xs) = fiveOf x ++ numbersOf xs
+numbersOf (x ∷ xs) = recordIn x ++ numbersOf xs
 
--- room for five numbers a segment
+-- room for so many records
 abbrev pub held : ℕ → List ℕ → Bool
-held count d = leb (5 * count) (length d)
+held count d = leb count (segmentCount d)
 
 -- what the lent numbers hold afterwards: those of the segments at their head, or, without room, what they held
 unfoldable pub numbersAfter : List Segment → List ℕ → List ℕ
@@ -42,9 +43,9 @@ recordsOutcome s xs d set l =
 
 -- how many of count segments are copied: all, or none without room
 abbrev pub copyCount : ℕ → ℕ → ℕ
-copyCount count room = pick (leb (5 * count) room) count 0
+copyCount count room = pick (leb count (room / width)) count 0
 
 -- assembly from the first count segments whose numbers stand in d, if it has room for so many
 unfoldable pub copiedOutcome : (s : List ℕ) (count : ℕ) (d : List ℕ) → Settings → Lent → Outcome Output
 copiedOutcome s count d set l =
-    pick (held count d) (outcome s (take (5 * count) d) set l) (noRoom s)
+    pick (held count d) (outcome s (firstRecords count d) set l) (noRoom s)

@@ -1,11 +1,10 @@
 -- Assembly as the code decides it, stage by stage, before anything is written: each stage goes on to the end. Assumes nothing.
-use Rattle.blocks.specs.Numbers.{width}
-use Prim.Native.Nat.{ℕ, _+_, _*_, _/_}
+use Prim.Native.Nat.{ℕ, _+_, _*_}
 use mathlib.Core.Path.{_≡_}
 use mathlib.Core.List.{List}
 use mathlib.Core.Bool.{Bool, cond as pick, _&&_}
 use mathlib.Core.Option.{none, some}
-use lib.ListN.{length, getD}
+use lib.ListN.{length}
 use lib.Dec.{leb, ltb}
 use Rattle.bitio.specs.Parse.{accepted}
 use Rattle.bitio.specs.Limits.{limit}
@@ -15,7 +14,7 @@ use Rattle.obu.specs.Write.{obu}
 use Rattle.header.specs.Sequence.{Sequence, sequenceOf}
 use Rattle.header.specs.declared.seq_header.OperatingPoint.{OperatingPoint}
 use Rattle.blocks.specs.Blocks.{listOf, cuesOf}
-use Rattle.blocks.specs.Lay.{framesIn}
+use Rattle.blocks.specs.Numbers.{headKey, headGolden, segmentCount, framesIn}
 use Rattle.pictures.specs.Prepare.{effective, renewal, Prepared}
 use Rattle.pictures.specs.declared.settings.Settings.{Settings}
 use Rattle.pictures.specs.Assemble.{Outcome, stopped, made, andAlso, inSegment, readHeader, sameHeaders, headerObu, prepareAll, pictureOf, Room}
@@ -38,20 +37,10 @@ pub record Going : Type 0 where
 abbrev pub going : List ℕ → List Prepared → Going
 going header bs = record { header = header; units = bs; bytes = capped (length (pictureOf bs)) }
 
--- the rate alone: the stages do not look at gop_size
-abbrev pub rateOf : ℕ → ℕ → Settings
-rateOf fps den = record { gop = 0; fps = fps; den = den }
-
 -- some payload reads as q, and is supported
 pub record WasRead (q : Sequence) : Type 0 where
   pub payload : List ℕ
   pub read : readHeader payload ≡ accepted q
-
-abbrev pub firstKey : List ℕ → List ℕ → List ℕ
-firstKey s rs = part s (getD rs 0 0) (getD rs 1 0)
-
-abbrev pub firstGolden : List ℕ → List ℕ → List ℕ
-firstGolden s rs = part s (getD rs 2 0) (getD rs 3 0)
 
 module _ (s rs : List ℕ) where
   -- per segment: 1 to 5, 28, 14, 29 to 33
@@ -73,7 +62,7 @@ module _ (s rs : List ℕ) where
 
   -- first key 1 to 5, 26
   unfoldable pub fromKey : Settings → Outcome Going
-  fromKey set = andAlso (inSegment 0 (firstSequence (firstKey s rs))) (λ o. fromHeader set o)
+  fromKey set = andAlso (inSegment 0 (firstSequence (headKey s rs))) (λ o. fromHeader set o)
 
   -- 34, 36, 21 to 25
   unfoldable pub checked : ℕ → Outcome Unit
@@ -90,7 +79,7 @@ abbrev pub newIn : List ℕ → Basis → List ℕ
 newIn array b = part array 0 (b .«new_len»)
 
 abbrev pub ownIn : List ℕ → List ℕ → Basis → List ℕ
-ownIn s rs b = part (firstKey s rs) (b .start) (b .end)
+ownIn s rs b = part (headKey s rs) (b .start) (b .end)
 
 -- the sequence header OBU handed out
 unfoldable pub headerIn : List ℕ → List ℕ → List ℕ → Basis → List ℕ
@@ -121,10 +110,10 @@ needed gop s rs points new b n =
       units = length (listOf gop (framesIn rs));
       cues = length (cuesOf (listOf gop (framesIn rs)));
       picture = n;
-      ends = 2 * (length rs / width);
-      shows = 5 * (length rs / width);
+      ends = 2 * segmentCount rs;
+      shows = 5 * segmentCount rs;
       header = capped (length (headerIn s rs new b));
-      «golden_slot» = orElse 0 (judged (sequenceOf (b .header) points) (b .rewriting) (firstKey s rs) (firstGolden s rs));
+      «golden_slot» = orElse 0 (judged (sequenceOf (b .header) points) (b .rewriting) (headKey s rs) (headGolden s rs));
     }
 
 -- the bytes, all together, are within the limit, and each lent slice has room

@@ -1,21 +1,22 @@
 // Assembly (assemble_multi, decoder_model false): segments in, the unit list and the cue list out.
-ghost use Rattle.blocks.specs.Numbers.{width};
 ghost use mathlib.Core.Path.{_≡_};
 ghost use Prim.Native.Nat.{_+_, _≤_};
 ghost use lib.ListN.{length};
 ghost use Rattle.bitio.specs.Lent.{pasted};
 ghost use Rattle.header.specs.Sequence.{sequenceOf};
 ghost use Rattle.blocks.specs.Blocks.{total};
-ghost use Rattle.blocks.specs.Lay.{framesIn};
+ghost use Rattle.blocks.specs.Numbers.{headKey, headGolden, segmentCount, framesIn};
 ghost use Rattle.pictures.specs.Code.{judged, orElse, capped};
-ghost use Rattle.assemble.specs.Stages.{firstKey, firstGolden, ownIn, headerIn, needed, fitsIn, roomOf};
+ghost use Rattle.assemble.specs.Stages.{ownIn, headerIn, needed, fitsIn, roomOf};
 ghost use Rattle.assemble.specs.Whole.{outcome, slices, Handed};
 use crate::plan::Basis;
 use crate::plan::Planned;
 use crate::plan::plan_multi;
 use blocks::blocks::count_cues;
 use blocks::blocks::put_list;
-use blocks::numbers::WIDTH;
+use blocks::numbers::golden_of;
+use blocks::numbers::key_of;
+use blocks::numbers::segment_count;
 use header::seq_header::OperatingPoint;
 use obu::reader::payload;
 use obu::writer::obu_len;
@@ -23,7 +24,6 @@ use obu::writer::put_measured;
 use pictures::pictures::put_pictures;
 use pictures::pictures::put_shows;
 use pictures::pictures::slot_or_zero;
-use pictures::pictures::unit_at;
 use pictures::settings::Settings;
 use pictures::sizes::total_frames;
 
@@ -48,26 +48,26 @@ pub enum Assembled {
 
 // The slot that the show units of the first segment name.
 fn first_slot(picture: &[u8], segments: &[u64], basis: Basis, points: [OperatingPoint; 32]) -> u64
-    requires { ⌜ width ≤ length (now segments) ⌝ }
-    ensures { λ r. ⌜ r ≡ orElse 0 (judged (sequenceOf (basis .header) points) (basis .rewriting) (firstKey (now (picture .entry)) (now (segments .entry))) (firstGolden (now (picture .entry)) (now (segments .entry)))) ⌝ }
+    requires { ⌜ 1 ≤ segmentCount (now segments) ⌝ }
+    ensures { λ r. ⌜ r ≡ orElse 0 (judged (sequenceOf (basis .header) points) (basis .rewriting) (headKey (now (picture .entry)) (now (segments .entry))) (headGolden (now (picture .entry)) (now (segments .entry)))) ⌝ }
 {
-    let key = unit_at(picture, segments, 0);
-    let golden = unit_at(picture, segments, 2);
+    let key = key_of(picture, segments, 0);
+    let golden = golden_of(picture, segments, 0);
     let header = basis.header;
     slot_or_zero(key, golden, header, points, basis.rewriting)
 }
 
 // The payload of the first key's own sequence header.
 fn own_payload<'a, 'b>(picture: &'a [u8], segments: &'b [u64], basis: Basis) -> &'a [u8]
-    requires { ⌜ width ≤ length (now segments) ⌝ }
+    requires { ⌜ 1 ≤ segmentCount (now segments) ⌝ }
     ensures { λ r. ⌜ now r ≡ ownIn (now (picture .entry)) (now (segments .entry)) basis ⌝ }
 {
-    payload(unit_at(picture, segments, 0), basis.start, basis.end)
+    payload(key_of(picture, segments, 0), basis.start, basis.end)
 }
 
 // How many bytes the sequence header OBU handed out has, as far as a usize counts them.
 fn header_len(picture: &[u8], segments: &[u64], new: &[u8], basis: Basis) -> usize
-    requires { ⌜ width ≤ length (now segments) ⌝ }
+    requires { ⌜ 1 ≤ segmentCount (now segments) ⌝ }
     ensures { λ r. ⌜ r ≡ capped (length (headerIn (now (picture .entry)) (now (segments .entry)) (now (new .entry)) basis)) ⌝ }
 {
     let extension = basis.extension;
@@ -79,7 +79,7 @@ fn header_len(picture: &[u8], segments: &[u64], new: &[u8], basis: Basis) -> usi
 
 // Writes that OBU, where its room is known.
 fn put_header(out: &mut [u8], picture: &[u8], segments: &[u64], new: &[u8], basis: Basis)
-    requires some { ⌜ width ≤ length (now segments) ⌝ }
+    requires some { ⌜ 1 ≤ segmentCount (now segments) ⌝ }
     requires room { ⌜ length (headerIn (now picture) (now segments) (now new) basis) ≤ length (now out) ⌝ }
     ensures { λ _. ⌜ now (out .exit) ≡ pasted (now (out .entry)) 0 (headerIn (now (picture .entry)) (now (segments .entry)) (now (new .entry)) basis) ⌝ }
 {
@@ -102,11 +102,11 @@ fn count_all(
     bytes: usize,
 ) -> Counts
     requires gop { ⌜ 1 ≤ gop ⌝ }
-    requires some { ⌜ width ≤ length (now segments) ⌝ }
+    requires some { ⌜ 1 ≤ segmentCount (now segments) ⌝ }
     requires small { ⌜ total (framesIn (now segments)) ≤ 5000000 ⌝ }
     ensures { λ r. ⌜ r ≡ needed gop (now (picture .entry)) (now (segments .entry)) points (now (new .entry)) basis bytes ⌝ }
 {
-    let count = segments.len() / WIDTH;
+    let count = segment_count(segments);
     Counts {
         units: total_frames(segments) as usize,
         cues: count_cues(gop, segments),
@@ -147,8 +147,7 @@ fn fits_room(
         & (need.header <= header.len())
 }
 
-// From picture bytes and the segments' numbers, five each: where its key starts and ends in the picture bytes, where its
-// golden does, and its frames.
+// From picture bytes and the segments' numbers.
 pub fn assemble_multi(
     picture: &[u8],
     segments: &[u64],

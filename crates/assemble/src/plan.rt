@@ -1,20 +1,19 @@
 // What is decided before anything is written: the refusals in 01's order, and what the units are written from.
-ghost use Rattle.blocks.specs.Numbers.{width};
+ghost use Rattle.blocks.specs.Numbers.{headKey, segmentCount};
 ghost use mathlib.Core.Path.{_≡_};
 ghost use mathlib.Core.Bool.{true};
 ghost use mathlib.Core.Option.{none};
-ghost use Prim.Native.Nat.{_+_, _≤_};
-ghost use lib.ListN.{length, getD};
+ghost use Prim.Native.Nat.{_≤_};
 ghost use Rattle.obu.specs.Obu.{obuBytes};
-ghost use Rattle.obu.specs.Place.{part};
 ghost use Rattle.obu.specs.Write.{obu};
 ghost use Rattle.header.specs.Sequence.{sequenceOf};
 ghost use Rattle.emit.specs.Emit.{sequenceBytes, emitSays};
 ghost use Rattle.emittable.specs.Emittable.{emittable};
 ghost use Rattle.pictures.specs.Sizes.{checkedSays};
 ghost use Rattle.pictures.specs.Code.{orElse};
-ghost use Rattle.assemble.specs.Stages.{WasRead, rateOf, firstKey, fromPictures, fromTiming, fromHeader, checked, planned, newIn, headerIn, planSays};
+ghost use Rattle.assemble.specs.Stages.{WasRead, fromPictures, fromTiming, fromHeader, checked, planned, newIn, headerIn, planSays};
 ghost use Rattle.pictures.specs.Rewrite.{obuIn};
+use blocks::numbers::key_of;
 use emit::seq_header::emit::emit_sequence_header;
 use header::seq_header::Emitted;
 use header::seq_header::OperatingPoint;
@@ -31,7 +30,6 @@ use pictures::headers::read_supported;
 use pictures::headers::same_headers;
 use pictures::pictures::Measured;
 use pictures::pictures::measure_pictures;
-use pictures::pictures::unit_at;
 use pictures::settings::Settings;
 use pictures::sizes::Checked;
 use pictures::sizes::check_ranges;
@@ -158,12 +156,11 @@ fn plan_timing(
     header: SequenceHeader,
     points: [OperatingPoint; 32],
     obu: Obu,
-    fps: u32,
-    fps_den: u32,
+    settings: Settings,
 ) -> Plan
     requires sequence { ⌜ obu .«obu_type» ≡ 1 ⌝ }
     requires read { ⌜ WasRead (sequenceOf header points) ⌝ }
-    ensures { λ r. ⌜ planSays (now (picture .entry)) (now (segments .entry)) r ≡ fromTiming (now (picture .entry)) (now (segments .entry)) (rateOf fps «fps_den») (obuIn (firstKey (now (picture .entry)) (now (segments .entry))) obu) (sequenceOf header points) ⌝ }
+    ensures { λ r. ⌜ planSays (now (picture .entry)) (now (segments .entry)) r ≡ fromTiming (now (picture .entry)) (now (segments .entry)) settings (obuIn (headKey (now (picture .entry)) (now (segments .entry))) obu) (sequenceOf header points) ⌝ }
 {
     let new = [0u8; 400];
     let extension = obu.extension;
@@ -178,19 +175,19 @@ fn plan_timing(
         };
         return plan_pictures(picture, segments, points, new, basis);
     }
-    match with_timing_info_rate(header, fps, fps_den) {
+    match with_timing_info_rate(header, settings.fps, settings.den) {
         SequenceAnswer::Refused(k) => no_plan(Planned::Refused(k)),
         SequenceAnswer::Header(timed) => plan_renewed(picture, segments, timed, points),
     }
 }
 
 // The first key's header, 14 to 20, and the same in later keys: 1 to 5, 27.
-fn plan_header(picture: &[u8], segments: &[u64], obu: Obu, fps: u32, fps_den: u32) -> Plan
-    requires some { ⌜ width ≤ length (now segments) ⌝ }
+fn plan_header(picture: &[u8], segments: &[u64], obu: Obu, settings: Settings) -> Plan
+    requires some { ⌜ 1 ≤ segmentCount (now segments) ⌝ }
     requires sequence { ⌜ obu .«obu_type» ≡ 1 ⌝ }
-    ensures { λ r. ⌜ planSays (now (picture .entry)) (now (segments .entry)) r ≡ fromHeader (now (picture .entry)) (now (segments .entry)) (rateOf fps «fps_den») (obuIn (firstKey (now (picture .entry)) (now (segments .entry))) obu) ⌝ }
+    ensures { λ r. ⌜ planSays (now (picture .entry)) (now (segments .entry)) r ≡ fromHeader (now (picture .entry)) (now (segments .entry)) settings (obuIn (headKey (now (picture .entry)) (now (segments .entry))) obu) ⌝ }
 {
-    let key = unit_at(picture, segments, 0);
+    let key = key_of(picture, segments, 0);
     let first = payload(key, obu.start, obu.end);
     let read = read_supported(first);
     let answer = read.answer;
@@ -200,7 +197,7 @@ fn plan_header(picture: &[u8], segments: &[u64], obu: Obu, fps: u32, fps_den: u3
         SequenceAnswer::Header(header) => match same_headers(picture, segments, first) {
             Checked::Refused(k) => no_plan(Planned::Refused(k as u64)),
             Checked::RefusedIn(k, i) => no_plan(Planned::RefusedIn(k as u64, i)),
-            Checked::Fit => plan_timing(picture, segments, header, points, obu, fps, fps_den),
+            Checked::Fit => plan_timing(picture, segments, header, points, obu, settings),
         },
     }
 }
@@ -212,9 +209,9 @@ pub(crate) fn plan_multi(picture: &[u8], segments: &[u64], settings: Settings) -
     match check_input(picture, segments, settings.gop) {
         Checked::Refused(k) => no_plan(Planned::Refused(k as u64)),
         Checked::RefusedIn(k, i) => no_plan(Planned::RefusedIn(k as u64, i)),
-        Checked::Fit => match first_sequence(unit_at(picture, segments, 0)) {
+        Checked::Fit => match first_sequence(key_of(picture, segments, 0)) {
             FoundObu::Refused(k) => no_plan(Planned::RefusedIn(k as u64, 0)),
-            FoundObu::Found(obu) => plan_header(picture, segments, obu, settings.fps, settings.den),
+            FoundObu::Found(obu) => plan_header(picture, segments, obu, settings),
         },
     }
 }

@@ -1,13 +1,16 @@
 // Assembly from a lent list of range records (document 01): each is copied into the flat numbers that the core takes.
 // A slice of structs is proved by hand, so that copy_segments and assemble_segments do no more than they must.
 ghost use mathlib.Core.Path.{_≡_};
-ghost use Prim.Native.Nat.{_+_, _≤_};
+ghost use Prim.Native.Nat.{_+_, _*_, _<_};
 ghost use lib.ListN.{length};
 ghost use Rattle.bitio.specs.Lent.{pasted};
+ghost use Rattle.blocks.specs.Numbers.{width, segmentCount};
 ghost use Rattle.assemble.specs.Whole.{slices, Handed};
-ghost use Rattle.assemble.specs.Records.{fiveOf, copyCount, numbersAfter, copiedOutcome, recordsOutcome};
+ghost use Rattle.assemble.specs.Records.{recordIn, copyCount, numbersAfter, copiedOutcome, recordsOutcome};
 use crate::multi::Assembled;
 use crate::multi::assemble_multi;
+use blocks::numbers::WIDTH;
+use blocks::numbers::put_record;
 use pictures::settings::Settings;
 
 // Where its key and its golden lie in the picture bytes, and its frames.
@@ -19,27 +22,31 @@ pub struct Segment {
     pub frames: u64,
 }
 
-// How many of count segments are copied: all, or none where there is no room for five numbers each.
+// How many of count segments are copied: all, or none where there is no room for their numbers.
 fn copy_count(count: usize, room: usize) -> usize
     ensures { λ r. ⌜ r ≡ copyCount count room ⌝ }
 {
-    if count <= room / 5 {
+    if count <= room / WIDTH {
         return count;
     }
     0
 }
 
-// One segment. Says where the next one goes.
+// One segment, as record `at`. Says which is the next.
 fn put_numbers(at: usize, segment: Segment, numbers: &mut [u64]) -> usize
-    requires { ⌜ at + 5 ≤ length (now numbers) ⌝ }
-    ensures { λ r. ⌜ (r ≡ at + 5) × (now (numbers .exit) ≡ pasted (now (numbers .entry)) at (fiveOf segment)) ⌝ }
+    requires { ⌜ at < segmentCount (now numbers) ⌝ }
+    ensures { λ r. ⌜ (r ≡ at + 1) × (now (numbers .exit) ≡ pasted (now (numbers .entry)) (width * at) (recordIn segment)) ⌝ }
 {
-    numbers[at] = segment.key_start;
-    numbers[at + 1] = segment.key_end;
-    numbers[at + 2] = segment.golden_start;
-    numbers[at + 3] = segment.golden_end;
-    numbers[at + 4] = segment.frames;
-    at + 5
+    put_record(
+        numbers,
+        at,
+        segment.key_start,
+        segment.key_end,
+        segment.golden_start,
+        segment.golden_end,
+        segment.frames,
+    );
+    at + 1
 }
 
 // All segments, or none without room. Says how many there are.
@@ -61,9 +68,7 @@ fn assemble_copied(
     picture: &[u8],
     count: usize,
     numbers: &mut [u64],
-    gop_size: u64,
-    fps: u32,
-    fps_den: u32,
+    settings: Settings,
     list: &mut [u32],
     cues: &mut [u32],
     pictures: &mut [u8],
@@ -71,10 +76,10 @@ fn assemble_copied(
     shows: &mut [u8],
     header: &mut [u8],
 ) -> Assembled
-    ensures handed { λ r. ⌜ Handed (copiedOutcome (now (picture .entry)) count (now (numbers .entry)) (record { gop = «gop_size»; fps = fps; den = «fps_den» })) r (slices list cues pictures ends shows header) ⌝ }
+    ensures handed { λ r. ⌜ Handed (copiedOutcome (now (picture .entry)) count (now (numbers .entry)) settings) r (slices list cues pictures ends shows header) ⌝ }
     ensures numbers { λ _. ⌜ now (numbers .exit) ≡ now (numbers .entry) ⌝ }
 {
-    if count > numbers.len() / 5 {
+    if count > numbers.len() / WIDTH {
         if picture.len() > 4_000_000_000 {
             return Assembled::Refused(34);
         }
@@ -82,12 +87,8 @@ fn assemble_copied(
     }
     assemble_multi(
         picture,
-        &numbers[0..5 * count],
-        Settings {
-            gop: gop_size,
-            fps: fps,
-            den: fps_den,
-        },
+        &numbers[0..WIDTH * count],
+        settings,
         list,
         cues,
         pictures,
@@ -97,15 +98,13 @@ fn assemble_copied(
     )
 }
 
-// Assembly from segments. The lent numbers are working memory, of which document 01 says nothing: five a segment, put at
-// their head. Where there is no room for them the answer is 35, behind 34 alone: no segment can be read without.
+// Assembly from segments. The lent numbers are working memory, of which document 01 says nothing: a record a segment,
+// put at their head. Where there is no room for them the answer is 35, behind 34 alone: no segment can be read without.
 pub fn assemble_segments(
     picture: &[u8],
     segments: &[Segment],
     numbers: &mut [u64],
-    gop_size: u64,
-    fps: u32,
-    fps_den: u32,
+    settings: Settings,
     list: &mut [u32],
     cues: &mut [u32],
     pictures: &mut [u8],
@@ -113,7 +112,7 @@ pub fn assemble_segments(
     shows: &mut [u8],
     header: &mut [u8],
 ) -> Assembled
-    ensures handed { λ r. ⌜ Handed (recordsOutcome (now (picture .entry)) (now (segments .entry)) (now (numbers .entry)) (record { gop = «gop_size»; fps = fps; den = «fps_den» })) r (slices list cues pictures ends shows header) ⌝ }
+    ensures handed { λ r. ⌜ Handed (recordsOutcome (now (picture .entry)) (now (segments .entry)) (now (numbers .entry)) settings) r (slices list cues pictures ends shows header) ⌝ }
     ensures numbers { λ _. ⌜ now (numbers .exit) ≡ numbersAfter (now (segments .entry)) (now (numbers .entry)) ⌝ }
 {
     let count = copy_segments(segments, &mut *numbers);
@@ -121,9 +120,7 @@ pub fn assemble_segments(
         picture,
         count,
         numbers,
-        gop_size,
-        fps,
-        fps_den,
+        settings,
         list,
         cues,
         pictures,

@@ -1,18 +1,21 @@
 -- Laws of cues counted: as many as key units, wherever they stand. Assumes nothing.
-use Rattle.blocks.specs.Numbers.{width}
-use Prim.Native.Nat.{ℕ, suc, _+_, _*_, _-_, _/_, _%_, _≤_, _<_, min}
+use Prim.Native.Nat.{ℕ, suc, _+_, _*_, _-_, _%_, _≤_, _<_}
 use native.Mathlib.Omega.{arith}
 use native.Mathlib.Numerals.{add-one}
 use mathlib.Core.Path.{_≡_, refl, ap, _∙_}
 use mathlib.Core.List.{List, [], _∷_, _++_, map}
-use mathlib.Core.Bool.{Bool, true, false, not, cond as pick, _||_}
-use lib.ListN.{length, getD, drop, length-append, length-map}
-use lib.Dec.{leb, eqb}
-use Rattle.blocks.specs.Blocks.{Kind, code, block, blocks, kinds, positions, isKeyEntry, number, layout, listOf, total}
-use Rattle.blocks.specs.Lay.{framesFrom, framesIn, entriesOf, cuesFrom, blockCue}
+use mathlib.Core.Bool.{Bool, true, false, cond as pick}
+use lib.ListN.{length, length-append, length-map}
+use lib.Dec.{eqb}
+use Rattle.blocks.specs.Blocks.{Kind, code, block, nextBlock, standing, blocks, kinds, positions, isKeyEntry, number, layout, listOf, total}
+use Rattle.blocks.specs.declared.blocks.Block.{Block}
+use Rattle.blocks.specs.declared.blocks.Standing.{Standing}
+use Rattle.blocks.specs.Numbers.{headFrames, segmentCount, recordsBehind, framesAt, framesIn}
+use Rattle.blocks.specs.Lay.{entriesOf, cuesFrom, blockCue}
+use Rattle.blocks.proofs.NumberLaws.{behind-start, behind-end, behind-more}
 use Rattle.blocks.proofs.BlockLaws.{length-layout}
-use Rattle.blocks.proofs.LayLaws.{cues-append, block-cue, blocks-none, blocks-more, entries-append}
-use Rattle.blocks.proofs.ListLaws.{from, list-more, list-none, frames-more, frames-none}
+use Rattle.blocks.proofs.LayLaws.{cues-append, next-cue, blocks-none, next-some, next-left, blocks-more, entries-append}
+use Rattle.blocks.proofs.ListLaws.{from, list-more, list-none}
 
 -- ---- positions counted
 
@@ -83,69 +86,71 @@ cue-most false = omega arith
 
 -- ---- a segment's cues
 
--- n are counted, and `left` frames are left
-pub record Counting (gop frames left n : ℕ) (after : Bool) : Type 0 where
+-- n are counted, and the segment stands at t
+pub record Counting (gop frames n : ℕ) (t : Standing) : Type 0 where
   pub fuel : ℕ
-  pub enough : left ≤ fuel
-  pub sum : n + count (entriesOf 0 (blocks fuel gop after left)) ≡ count (entriesOf 0 (kinds gop frames))
-  pub small : n + left ≤ frames
+  pub enough : t .left ≤ fuel
+  pub sum : n + count (entriesOf 0 (blocks fuel gop (t .after) (t .left))) ≡ count (entriesOf 0 (kinds gop frames))
+  pub small : n + t .left ≤ frames
 
-pub counting-start : (gop frames : ℕ) → Counting gop frames frames 0 false
+pub counting-start : (gop frames : ℕ) → Counting gop frames 0 (standing false frames)
 counting-start gop frames = record { fuel = frames; enough = omega arith; sum = omega arith; small = omega arith }
 
-module _ {gop frames left n : ℕ} {after : Bool} (s : Counting gop frames left n after) where
-  pub counting-end : left ≤ 0 → n ≡ count (entriesOf 0 (kinds gop frames))
+module _ {gop frames n : ℕ} {t : Standing} (s : Counting gop frames n t) where
+  pub counting-end : t .left ≤ 0 → n ≡ count (entriesOf 0 (kinds gop frames))
   counting-end h =
-      let z : left ≡ 0 = omega arith in
-      let e : count (entriesOf 0 (blocks (s .fuel) gop after left)) ≡ 0 =
-      ap (λ (m : ℕ). count (entriesOf 0 (blocks (s .fuel) gop after m))) z ∙ ap (λ (l : List Kind). count (entriesOf 0 l)) (blocks-none (s .fuel) gop after) ∙ count-none in
+      let z : t .left ≡ 0 = omega arith in
+      let e : count (entriesOf 0 (blocks (s .fuel) gop (t .after) (t .left))) ≡ 0 =
+      ap (λ (m : ℕ). count (entriesOf 0 (blocks (s .fuel) gop (t .after) m))) z ∙ ap (λ (l : List Kind). count (entriesOf 0 l)) (blocks-none (s .fuel) gop (t .after)) ∙ count-none in
       omega (arith, s .sum, e)
 
-  pub counting-turn : (m n′ : ℕ) → 1 ≤ left → 1 ≤ gop → m ≡ min left gop → n′ ≡ n + length (blockCue (not after || leb 2 m) 0) → Counting gop frames (left - m) n′ (after || leb 2 m)
-  counting-turn m n′ h g e w =
-      let a = ap (λ (l : List Kind). count (entriesOf 0 l)) (blocks-more (s .fuel) gop after left m h (s .enough) e) in
-      let b = ap count (entries-append 0 (block after m) (blocks (s .fuel - 1) gop (after || leb 2 m) (left - m))) in
-      let k = count-append (entriesOf 0 (block after m)) (entriesOf 0 (blocks (s .fuel - 1) gop (after || leb 2 m) (left - m))) in
-      let q = ap length (block-cue 0 0 m after (omega arith)) in
-      let u = cue-most (not after || leb 2 m) in
+  pub counting-turn : {b : Block} (n′ : ℕ) → b ≡ nextBlock gop t → 1 ≤ t .left → 1 ≤ gop → n′ ≡ n + length (blockCue (b .key) 0) → Counting gop frames n′ (b .behind)
+  counting-turn {b} n′ is h g w =
+      let behind = blocks (s .fuel - 1) gop (b .behind .after) (b .behind .left) in
+      let m = next-some gop t is h g in
+      let a = ap (λ (l : List Kind). count (entriesOf 0 l)) (blocks-more gop t is (s .fuel) h (s .enough)) in
+      let e = ap count (entries-append 0 (block (t .after) (b .size)) behind) in
+      let k = count-append (entriesOf 0 (block (t .after) (b .size))) (entriesOf 0 behind) in
+      let q = ap length (next-cue gop t 0 0 is m) in
+      let u = cue-most (b .key) in
+      let f = next-left gop t is in
       record {
         fuel = s .fuel - 1;
         enough = omega (arith, s .enough);
-        sum = omega (arith, s .sum, a, b, k, q);
+        sum = omega (arith, s .sum, a, e, k, q);
         small = omega (arith, s .small);
       }
 
 -- ---- all segments' cues
 
 pub record CountingAll (gop : ℕ) (rs : List ℕ) (i n : ℕ) : Type 0 where
-  pub within : i ≤ length rs / width
+  pub within : i ≤ segmentCount rs
   pub sum : n + count (from gop rs i) ≡ count (listOf gop (framesIn rs))
 
 pub all-start : (gop : ℕ) (rs : List ℕ) → CountingAll gop rs 0 0
 all-start gop rs =
-    let z : length rs / width - 0 ≡ length rs / width = omega arith in
-    record { within = omega arith; sum = omega (arith, ap (λ (m : ℕ). count (map number (layout gop 0 (framesFrom m rs)))) z) }
+    record { within = omega arith; sum = omega (arith, ap (λ (l : List (List ℕ)). count (map number (layout gop 0 (map headFrames l)))) (behind-start rs)) }
 
 pub all-most : (gop : ℕ) (rs : List ℕ) → 1 ≤ gop → count (listOf gop (framesIn rs)) ≤ total (framesIn rs)
 all-most gop rs g =
     omega (arith, count-most isKeyEntry 1 (listOf gop (framesIn rs)), length-map (layout gop 0 (framesIn rs)) number, length-layout gop 0 (framesIn rs) g)
 
 module _ {gop : ℕ} {rs : List ℕ} {i n : ℕ} (s : CountingAll gop rs i n) where
-  pub all-end : length rs / width ≤ i → n ≡ count (listOf gop (framesIn rs))
+  pub all-end : segmentCount rs ≤ i → n ≡ count (listOf gop (framesIn rs))
   all-end h =
       let e : count (from gop rs i) ≡ 0 =
-      ap (λ (l : List ℕ). count (map number (layout gop i l))) (frames-none (length rs / width) i (drop (width * i) rs) h) ∙ ap count (list-none gop i) ∙ count-none in
+      ap (λ (l : List (List ℕ)). count (map number (layout gop i (map headFrames l)))) (behind-end rs i h) ∙ ap count (list-none gop i) ∙ count-none in
       omega (arith, s .sum, e)
 
-  module _ (h : i < length rs / width) where
+  module _ (h : i < segmentCount rs) where
     abbrev mine : ℕ
-    mine = count (entriesOf 0 (kinds gop (getD rs (width * i + 4) 0)))
+    mine = count (entriesOf 0 (kinds gop (framesAt rs i)))
 
     parts : count (from gop rs i) ≡ mine + count (from gop rs (i + 1))
     parts =
-        let frames = getD rs (width * i + 4) 0 in
-        let ns = framesFrom (length rs / width - (i + 1)) (drop (width * (i + 1)) rs) in
-        let a = ap (λ (l : List ℕ). count (map number (layout gop i l))) (frames-more (length rs / width) i rs h) in
+        let frames = framesAt rs i in
+        let ns = map headFrames (recordsBehind rs (i + 1)) in
+        let a = ap (λ (l : List (List ℕ)). count (map number (layout gop i (map headFrames l)))) (behind-more rs i h) in
         let b = ap count (list-more gop i frames ns) in
         let k = count-append (entriesOf i (kinds gop frames)) (map number (layout gop (suc i) ns)) in
         let m = count-segment i (kinds gop frames) in

@@ -11,7 +11,9 @@ use borrow.Author.Tests.{le-leb}
 use Rattle.bitio.specs.Lent.{pasted}
 use Rattle.bitio.proofs.LentLaws.{pasted-nil, pasted-one, pasted-more, pasted-length, pasted-set}
 use Rattle.blocks.proofs.BlockLaws.{length-block}
-use Rattle.blocks.specs.Blocks.{Kind, Key, Show, code, block, blocks, kinds, positions, isKeyEntry}
+use Rattle.blocks.specs.Blocks.{Kind, Key, Show, code, block, nextBlock, standing, blocks, kinds, positions, isKeyEntry}
+use Rattle.blocks.specs.declared.blocks.Block.{Block}
+use Rattle.blocks.specs.declared.blocks.Standing.{Standing}
 use Rattle.blocks.specs.Lay.{entriesOf, cuesFrom, blockCue, CanLay, Laid}
 
 -- ---- stores
@@ -172,17 +174,28 @@ blocks-none (suc k) gop after =
     let n : min 0 gop ≡ 0 = omega arith in
     rw n (blocks-none k gop (after || leb 2 0))
 
-pub blocks-more : (k gop : ℕ) (after : Bool) (left n : ℕ) → 1 ≤ left → left ≤ k → n ≡ min left gop
-    → blocks k gop after left ≡ block after n ++ blocks (k - 1) gop (after || leb 2 n) (left - n)
-unfolding blocks
-blocks-more zero gop after left n h w e = absurd (omega arith)
-blocks-more (suc k) gop after left n h w e = let z : suc k - 1 ≡ k = omega arith in rw (z, e)
+pub next-is : (gop n : ℕ) (s : Standing) → n ≡ min (s .left) gop
+    → _≡_ {A = Block} (record { size = n; key = not (s .after) || leb 2 n; behind = record { left = s .left - n; after = s .after || leb 2 n } }) (nextBlock gop s)
+next-is gop n s e = rw e
 
--- what is left of a segment in `left` frames, with k blocks at most
-pub record Segmenting (d₀ e₀ : List ℕ) (p₀ c₀ i gop frames : ℕ) (d e : List ℕ) (p c : ℕ) (after : Bool) (left : ℕ) : Type 0 where
+module _ (gop : ℕ) (s : Standing) {b : Block} (is : b ≡ nextBlock gop s) where
+  -- a block has some units, and leaves the others
+  pub next-some : 1 ≤ s .left → 1 ≤ gop → 1 ≤ b .size
+  next-some h g = omega (arith, ap (λ (x : Block). x .size) is)
+
+  pub next-left : b .size + b .behind .left ≡ s .left
+  next-left = omega (arith, ap (λ (x : Block). x .size) is, ap (λ (x : Block). x .behind .left) is)
+
+  pub blocks-more : (k : ℕ) → 1 ≤ s .left → s .left ≤ k → blocks k gop (s .after) (s .left) ≡ block (s .after) (b .size) ++ blocks (k - 1) gop (b .behind .after) (b .behind .left)
+  unfolding blocks
+  blocks-more zero h w = absurd (omega arith)
+  blocks-more (suc k) h w = let z : suc k - 1 ≡ k = omega arith in rw (z, is)
+
+-- what is left of a segment that stands at s, with k blocks at most
+pub record Segmenting (d₀ e₀ : List ℕ) (p₀ c₀ i gop frames : ℕ) (d e : List ℕ) (p c : ℕ) (s : Standing) : Type 0 where
   pub fuel : ℕ
-  pub enough : left ≤ fuel
-  pub laying : Laying d₀ e₀ p₀ c₀ (entriesOf i (kinds gop frames)) d e p c (entriesOf i (blocks fuel gop after left))
+  pub enough : s .left ≤ fuel
+  pub laying : Laying d₀ e₀ p₀ c₀ (entriesOf i (kinds gop frames)) d e p c (entriesOf i (blocks fuel gop (s .after) (s .left)))
 
 -- ---- a block's cue is the position of its key
 
@@ -216,12 +229,18 @@ cues-more p i n after =
     cue-yes p (i * 4 + 0) ((i * 4 + 1) ∷ entriesOf i (replicate n Show)) (key-yes i)
     ∙ ap (λ (l : List ℕ). suc p ∷ l) (cue-no (suc p) (i * 4 + 1) (entriesOf i (replicate n Show)) (key-golden i) ∙ cues-shows (suc (suc p)) i n)
 
-pub block-cue : (p i n : ℕ) (after : Bool) → 1 ≤ n → cuesFrom p (entriesOf i (block after n)) ≡ blockCue (not after || leb 2 n) p
+block-cue : (p i n : ℕ) (after : Bool) → 1 ≤ n → cuesFrom p (entriesOf i (block after n)) ≡ blockCue (not after || leb 2 n) p
 block-cue p i zero after h = absurd (omega arith)
 block-cue p i (suc zero) true h = cue-no p (i * 4 + 2) [] (key-show i) ∙ cues-none (suc p)
 block-cue p i (suc zero) false h = cue-yes p (i * 4 + 0) [] (key-yes i) ∙ ap (λ (l : List ℕ). suc p ∷ l) (cues-none (suc p))
 block-cue p i (suc (suc n)) true h = rw (le-leb 2 (suc (suc n)) (omega arith)) (cues-more p i n true)
 block-cue p i (suc (suc n)) false h = cues-more p i n false
+
+pub next-cue : (gop : ℕ) (s : Standing) {b : Block} (p i : ℕ) → b ≡ nextBlock gop s → 1 ≤ b .size → cuesFrom p (entriesOf i (block (s .after) (b .size))) ≡ blockCue (b .key) p
+next-cue gop s {b} p i is h =
+    let n = ap (λ (x : Block). x .size) is in
+    block-cue p i (b .size) (s .after) h
+    ∙ ap (λ (k : Bool). blockCue k p) (ap (λ (m : ℕ). not (s .after) || leb 2 m) n ∙ sym (ap (λ (x : Block). x .key) is))
 
 -- ---- a turn: one block of the segment
 
@@ -229,25 +248,26 @@ pub entries-append : (i : ℕ) (ks ms : List Kind) → entriesOf i (ks ++ ms) �
 entries-append i [] ms = refl
 entries-append i (k ∷ ks) ms = ap (λ (l : List ℕ). (i * 4 + code k) ∷ l) (entries-append i ks ms)
 
-pub segment-start : (d e : List ℕ) (p c i gop frames : ℕ) → CanLay d e p c (entriesOf i (kinds gop frames)) → Segmenting d e p c i gop frames d e p c false frames
+pub segment-start : (d e : List ℕ) (p c i gop frames : ℕ) → CanLay d e p c (entriesOf i (kinds gop frames)) → Segmenting d e p c i gop frames d e p c (standing false frames)
 segment-start d e p c i gop frames h =
     record { fuel = frames; enough = omega arith; laying = laying-start d e p c (entriesOf i (kinds gop frames)) h }
 
-module _ {d₀ e₀ : List ℕ} {p₀ c₀ i gop frames : ℕ} {d e : List ℕ} {p c : ℕ} {after : Bool} {left : ℕ} (s : Segmenting d₀ e₀ p₀ c₀ i gop frames d e p c after left) where
-  pub segment-end : left ≤ 0 → Laid d₀ e₀ d e p₀ c₀ c (entriesOf i (kinds gop frames))
+module _ {d₀ e₀ : List ℕ} {p₀ c₀ i gop frames : ℕ} {d e : List ℕ} {p c : ℕ} {t : Standing} (s : Segmenting d₀ e₀ p₀ c₀ i gop frames d e p c t) where
+  pub segment-end : t .left ≤ 0 → Laid d₀ e₀ d e p₀ c₀ c (entriesOf i (kinds gop frames))
   segment-end h =
-      let z : left ≡ 0 = omega arith in
-      laying-end (entriesOf i (blocks (s .fuel) gop after left)) (s .laying) (ap (λ (k : ℕ). entriesOf i (blocks (s .fuel) gop after k)) z ∙ ap (entriesOf i) (blocks-none (s .fuel) gop after))
+      let z : t .left ≡ 0 = omega arith in
+      laying-end (entriesOf i (blocks (s .fuel) gop (t .after) (t .left))) (s .laying)
+      (ap (λ (k : ℕ). entriesOf i (blocks (s .fuel) gop (t .after) k)) z ∙ ap (entriesOf i) (blocks-none (s .fuel) gop (t .after)))
 
-  module _ (n : ℕ) (some : 1 ≤ left) (least : n ≡ min left gop) where
+  module _ {b : Block} (some : 1 ≤ t .left) (is : b ≡ nextBlock gop t) where
     abbrev front : List ℕ
-    front = entriesOf i (block after n)
+    front = entriesOf i (block (t .after) (b .size))
 
     abbrev behind : List ℕ
-    behind = entriesOf i (blocks (s .fuel - 1) gop (after || leb 2 n) (left - n))
+    behind = entriesOf i (blocks (s .fuel - 1) gop (b .behind .after) (b .behind .left))
 
-    split : entriesOf i (blocks (s .fuel) gop after left) ≡ front ++ behind
-    split = ap (entriesOf i) (blocks-more (s .fuel) gop after left n some (s .enough) least) ∙ entries-append i (block after n) _
+    split : entriesOf i (blocks (s .fuel) gop (t .after) (t .left)) ≡ front ++ behind
+    split = ap (entriesOf i) (blocks-more gop t is (s .fuel) some (s .enough)) ∙ entries-append i (block (t .after) (b .size)) _
 
     here : Laying d₀ e₀ p₀ c₀ (entriesOf i (kinds gop frames)) d e p c (front ++ behind)
     here = rw (← split) (s .laying)
@@ -255,22 +275,22 @@ module _ {d₀ e₀ : List ℕ} {p₀ c₀ i gop frames : ℕ} {d e : List ℕ} 
     room : CanLay d e p c front
     room = can-front front behind (laying-can (front ++ behind) here)
 
-    pub segment-list-room : p + n ≤ length d
-    segment-list-room = omega (arith, room .list, length-block-entries i n after)
+    pub segment-list-room : p + b .size ≤ length d
+    segment-list-room = omega (arith, room .list, length-block-entries i (b .size) (t .after))
 
-    pub segment-small : p + n < 4294967296
-    segment-small = omega (arith, room .small, length-block-entries i n after)
+    pub segment-small : p + b .size < 4294967296
+    segment-small = omega (arith, room .small, length-block-entries i (b .size) (t .after))
 
-    pub segment-cue-room : 1 ≤ n → c + length (blockCue (not after || leb 2 n) p) ≤ length e
-    segment-cue-room h = omega (arith, room .cues, ap length (block-cue p i n after h))
+    pub segment-cue-room : 1 ≤ b .size → c + length (blockCue (b .key) p) ≤ length e
+    segment-cue-room h = omega (arith, room .cues, ap length (next-cue gop t p i is h))
 
-    pub segment-turn : (d′ e′ : List ℕ) (c′ : ℕ) → 1 ≤ n → d′ ≡ pasted d p front → e′ ≡ pasted e c (blockCue (not after || leb 2 n) p) → c′ ≡ c + length (blockCue (not after || leb 2 n) p)
-        → Segmenting d₀ e₀ p₀ c₀ i gop frames d′ e′ (p + n) c′ (after || leb 2 n) (left - n)
-    segment-turn d′ e′ c′ h a b k =
-        let q = block-cue p i n after h in
-        let w : Laid d e d′ e′ p c c′ front = record { list = a; cues = b ∙ ap (pasted e c) (sym q); next = omega (arith, k, ap length q) } in
+    pub segment-turn : (d′ e′ : List ℕ) (c′ : ℕ) → 1 ≤ b .size → d′ ≡ pasted d p front → e′ ≡ pasted e c (blockCue (b .key) p) → c′ ≡ c + length (blockCue (b .key) p)
+        → Segmenting d₀ e₀ p₀ c₀ i gop frames d′ e′ (p + b .size) c′ (b .behind)
+    segment-turn d′ e′ c′ h x y k =
+        let q = next-cue gop t p i is h in
+        let w : Laid d e d′ e′ p c c′ front = record { list = x; cues = y ∙ ap (pasted e c) (sym q); next = omega (arith, k, ap length q) } in
         record {
           fuel = s .fuel - 1;
-          enough = omega (arith, s .enough);
-          laying = subst (λ (m : ℕ). Laying d₀ e₀ p₀ c₀ (entriesOf i (kinds gop frames)) d′ e′ (p + m) c′ behind) (length-block-entries i n after) (laying-more front behind d′ e′ c′ here w);
+          enough = omega (arith, s .enough, next-left gop t is);
+          laying = subst (λ (m : ℕ). Laying d₀ e₀ p₀ c₀ (entriesOf i (kinds gop frames)) d′ e′ (p + m) c′ behind) (length-block-entries i (b .size) (t .after)) (laying-more front behind d′ e′ c′ here w);
         }

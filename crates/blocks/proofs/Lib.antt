@@ -1,3 +1,4 @@
+pub mod NumberLaws
 pub mod BlockLaws
 pub mod LayLaws
 pub mod ListLaws

@@ -1,15 +1,15 @@
 -- Laws of the list of all segments, laid out one segment after the other. Assumes nothing.
-use Rattle.blocks.specs.Numbers.{width}
-use Prim.Native.Nat.{ℕ, suc, _+_, _*_, _-_, _/_, _≤_, _<_}
+use Prim.Native.Nat.{ℕ, suc, _+_, _≤_, _<_}
 use native.Mathlib.Omega.{arith}
 use native.Mathlib.Numerals.{add-one}
-use mathlib.Core.Path.{_≡_, refl, sym, ap, ap₂, subst, _∙_}
+use mathlib.Core.Path.{_≡_, refl, sym, ap, subst, _∙_}
 use mathlib.Core.List.{List, [], _∷_, _++_, map, map-append}
 use mathlib.Core.Bool.{false}
-use lib.ListN.{length, getD, drop}
-use lib.Seq.{getD-drop, drop-drop}
+use lib.ListN.{length}
 use Rattle.blocks.specs.Blocks.{kinds, number, layout, listOf}
-use Rattle.blocks.specs.Lay.{framesFrom, framesIn, entriesOf, CanLay, Laid, CanLayAll}
+use Rattle.blocks.specs.Numbers.{headFrames, segmentCount, recordsBehind, framesAt, framesIn}
+use Rattle.blocks.specs.Lay.{entriesOf, CanLay, Laid, CanLayAll}
+use Rattle.blocks.proofs.NumberLaws.{behind-start, behind-end, behind-more}
 use Rattle.blocks.proofs.BlockLaws.{length-blocks}
 use Rattle.blocks.proofs.LayLaws.{length-entries, can-front, Laying, laying-start, laying-can, laying-more, laying-end}
 
@@ -25,55 +25,41 @@ pub list-none : (gop i : ℕ) → map number (layout gop i []) ≡ []
 unfolding layout
 list-none gop i = refl
 
--- the frames of segment i and of those behind it
-pub frames-more : (k i : ℕ) (rs : List ℕ) → i < k → framesFrom (k - i) (drop (width * i) rs) ≡ getD rs (width * i + 4) 0 ∷ framesFrom (k - (i + 1)) (drop (width * (i + 1)) rs)
-unfolding framesFrom
-frames-more k i rs h =
-    let a : k - i ≡ suc (k - (i + 1)) = omega arith in
-    let b : width * i + width ≡ width * (i + 1) = omega arith in
-    ap (λ (m : ℕ). framesFrom m (drop (width * i) rs)) a
-    ∙ ap₂ (λ (x : ℕ) (l : List ℕ). x ∷ framesFrom (k - (i + 1)) l) (getD-drop (width * i) rs 4 0) (drop-drop width (width * i) rs ∙ ap (λ (m : ℕ). drop m rs) b)
-
-pub frames-none : (k i : ℕ) (l : List ℕ) → k ≤ i → framesFrom (k - i) l ≡ []
-unfolding framesFrom
-frames-none k i l h = let a : k - i ≡ 0 = omega arith in ap (λ (m : ℕ). framesFrom m l) a
-
 -- the entries of the segments from i on
 abbrev pub from : ℕ → List ℕ → ℕ → List ℕ
-from gop rs i = map number (layout gop i (framesFrom (length rs / width - i) (drop (width * i) rs)))
+from gop rs i = map number (layout gop i (map headFrames (recordsBehind rs i)))
 
 -- i segments are laid out
 pub record Listing (d₀ e₀ : List ℕ) (gop : ℕ) (rs d e : List ℕ) (i at c : ℕ) : Type 0 where
-  pub within : i ≤ length rs / width
+  pub within : i ≤ segmentCount rs
   pub laying : Laying d₀ e₀ 0 0 (listOf gop (framesIn rs)) d e at c (from gop rs i)
 
 pub list-start : (d e : List ℕ) (gop : ℕ) (rs : List ℕ) → CanLayAll d e gop rs → Listing d e gop rs d e 0 0 0
 list-start d e gop rs h =
-    let z : length rs / width ≡ length rs / width - 0 = omega arith in
     let all = listOf gop (framesIn rs) in
     record {
       within = omega arith;
-      laying = subst (λ (m : ℕ). Laying d e 0 0 all d e 0 0 (map number (layout gop 0 (framesFrom m rs)))) z (laying-start d e 0 0 all (h .room));
+      laying = subst (λ (l : List (List ℕ)). Laying d e 0 0 all d e 0 0 (map number (layout gop 0 (map headFrames l)))) (sym (behind-start rs)) (laying-start d e 0 0 all (h .room));
     }
 
 module _ {d₀ e₀ : List ℕ} {gop : ℕ} {rs d e : List ℕ} {i at c : ℕ} (s : Listing d₀ e₀ gop rs d e i at c) where
-  pub list-end : length rs / width ≤ i → Laid d₀ e₀ d e 0 0 c (listOf gop (framesIn rs))
+  pub list-end : segmentCount rs ≤ i → Laid d₀ e₀ d e 0 0 c (listOf gop (framesIn rs))
   list-end h =
       laying-end (from gop rs i) (s .laying)
-      (ap (λ (l : List ℕ). map number (layout gop i l)) (frames-none (length rs / width) i (drop (width * i) rs) h) ∙ list-none gop i)
+      (ap (λ (l : List (List ℕ)). map number (layout gop i (map headFrames l))) (behind-end rs i h) ∙ list-none gop i)
 
-  module _ (h : i < length rs / width) where
+  module _ (h : i < segmentCount rs) where
     abbrev frames : ℕ
-    frames = getD rs (width * i + 4) 0
+    frames = framesAt rs i
 
     abbrev front : List ℕ
     front = entriesOf i (kinds gop frames)
 
     split : from gop rs i ≡ front ++ from gop rs (i + 1)
     split =
-        ap (λ (l : List ℕ). map number (layout gop i l)) (frames-more (length rs / width) i rs h)
-        ∙ list-more gop i frames (framesFrom (length rs / width - (i + 1)) (drop (width * (i + 1)) rs))
-        ∙ ap (λ (k : ℕ). front ++ map number (layout gop k (framesFrom (length rs / width - (i + 1)) (drop (width * (i + 1)) rs)))) (sym (add-one i))
+        ap (λ (l : List (List ℕ)). map number (layout gop i (map headFrames l))) (behind-more rs i h)
+        ∙ list-more gop i frames (map headFrames (recordsBehind rs (i + 1)))
+        ∙ ap (λ (k : ℕ). front ++ map number (layout gop k (map headFrames (recordsBehind rs (i + 1))))) (sym (add-one i))
 
     here : Laying d₀ e₀ 0 0 (listOf gop (framesIn rs)) d e at c (front ++ from gop rs (i + 1))
     here = subst (λ (l : List ℕ). Laying d₀ e₀ 0 0 (listOf gop (framesIn rs)) d e at c l) split (s .laying)

@@ -1,9 +1,11 @@
 -- The blocks of a segment, the unit list and the cue list (01, 'Unit list and cue list'). Assumes nothing.
 use Prim.Native.Nat.{ℕ, zero, suc, _+_, _*_, _-_, _%_, min}
 use mathlib.Core.List.{List, [], _∷_, _++_, map}
-use mathlib.Core.Bool.{Bool, false, cond as pick, _||_}
+use mathlib.Core.Bool.{Bool, false, not, cond as pick, _||_}
 use lib.ListN.{replicate}
 use lib.Dec.{leb, eqb}
+use Rattle.blocks.specs.declared.blocks.Block.{Block}
+use Rattle.blocks.specs.declared.blocks.Standing.{Standing}
 
 -- 01: the kinds of a list's units
 pub data Kind : Type 0 where
@@ -17,11 +19,24 @@ block after zero = []
 block after (suc zero) = pick after Show Key ∷ []
 block after (suc (suc n)) = Key ∷ Golden ∷ replicate n Show
 
--- 01: blocks of min(frames left, gop_size), k at most; after: the segment has had a golden
+-- 01: the next block of a segment has min(frames left, gop_size) units, and starts with a key unless it is one unit after a golden
+abbrev pub nextBlock : ℕ → Standing → Block
+nextBlock gop s =
+    record {
+      size = min (s .left) gop;
+      key = not (s .after) || leb 2 (min (s .left) gop);
+      behind = record { left = s .left - min (s .left) gop; after = s .after || leb 2 (min (s .left) gop) };
+    }
+
+abbrev pub standing : Bool → ℕ → Standing
+standing after left = record { left = left; after = after }
+
+-- one block behind the other, k at most; after: the segment has had a golden
 unfoldable pub blocks : ℕ → ℕ → Bool → ℕ → List Kind
 blocks zero gop after left = []
 blocks (suc k) gop after left =
-    block after (min left gop) ++ blocks k gop (after || leb 2 (min left gop)) (left - min left gop)
+    block after (nextBlock gop (standing after left) .size)
+    ++ blocks k gop (nextBlock gop (standing after left) .behind .after) (nextBlock gop (standing after left) .behind .left)
 
 -- the units of a segment of n frames
 abbrev pub kinds : ℕ → ℕ → List Kind

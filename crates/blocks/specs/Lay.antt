@@ -1,21 +1,12 @@
 -- Lists and cues laid out in lent memory, from the flat numbers of the segments. Assumes nothing.
-use Rattle.blocks.specs.Numbers.{width}
-use Prim.Native.Nat.{ℕ, zero, suc, _+_, _≤_, _<_, _/_}
+use Prim.Native.Nat.{ℕ, suc, _+_, _≤_, _<_}
 use mathlib.Core.Path.{_≡_}
 use mathlib.Core.List.{List, [], _∷_, map}
 use mathlib.Core.Bool.{Bool, cond as pick}
-use lib.ListN.{length, getD, drop}
+use lib.ListN.{length}
 use Rattle.bitio.specs.Lent.{pasted}
+use Rattle.blocks.specs.Numbers.{segmentCount, framesIn}
 use Rattle.blocks.specs.Blocks.{Kind, number, positions, isKeyEntry, listOf}
-
--- the frames of k segments, five numbers each, the frames last
-unfoldable pub framesFrom : ℕ → List ℕ → List ℕ
-framesFrom zero rs = []
-framesFrom (suc k) rs = getD rs 4 0 ∷ framesFrom k (drop width rs)
-
--- the frames of all segments
-abbrev pub framesIn : List ℕ → List ℕ
-framesIn rs = framesFrom (length rs / width) rs
 
 -- the entries of segment i with these units
 abbrev pub entriesOf : ℕ → List Kind → List ℕ
@@ -43,6 +34,6 @@ pub record Laid (d₀ e₀ d e : List ℕ) (p c n : ℕ) (xs : List ℕ) : Type 
 
 -- what laying out all segments asks: segments that an entry can name, a gop_size, and room
 pub record CanLayAll (d e : List ℕ) (gop : ℕ) (rs : List ℕ) : Type 0 where
-  pub segments : length rs / width ≤ 1073741823
+  pub segments : segmentCount rs ≤ 1073741823
   pub gop-size : 1 ≤ gop
   pub room : CanLay d e 0 0 (listOf gop (framesIn rs))

@@ -5,9 +5,11 @@ ghost use mathlib.Core.Bool.{cond as pick};
 ghost use Prim.Native.Nat.{_+_, _≤_, _<_, min};
 ghost use lib.ListN.{length, replicate};
 ghost use Rattle.bitio.specs.Lent.{pasted};
-ghost use Rattle.blocks.specs.Blocks.{Show, Key, code, block, kinds, listOf, cuesOf, total};
-ghost use Rattle.blocks.specs.Lay.{entriesOf, cuesFrom, blockCue, framesIn, CanLay, Laid, CanLayAll};
-use crate::numbers::WIDTH;
+ghost use Rattle.blocks.specs.Blocks.{Show, Key, code, block, nextBlock, kinds, listOf, cuesOf, total};
+ghost use Rattle.blocks.specs.Numbers.{framesIn};
+ghost use Rattle.blocks.specs.Lay.{entriesOf, cuesFrom, blockCue, CanLay, Laid, CanLayAll};
+use crate::numbers::frames_of;
+use crate::numbers::segment_count;
 
 // The lesser of two numbers.
 fn least(a: usize, b: usize) -> usize
@@ -17,6 +19,34 @@ fn least(a: usize, b: usize) -> usize
         return a;
     }
     b
+}
+
+// Where a segment stands: its frames left, and whether it has had a golden.
+struct Standing {
+    left: usize,
+    after: bool,
+}
+
+// A block: how many units it has, whether its first is a key, and where the segment stands behind it.
+struct Block {
+    size: usize,
+    key: bool,
+    behind: Standing,
+}
+
+// The next block of a segment.
+fn next_block(gop: usize, s: Standing) -> Block
+    ensures { λ r. ⌜ r ≡ nextBlock gop s ⌝ }
+{
+    let n = least(s.left, gop);
+    Block {
+        size: n,
+        key: !s.after | (n >= 2),
+        behind: Standing {
+            left: s.left - n,
+            after: s.after | (n >= 2),
+        },
+    }
 }
 
 // Writes n times v.
@@ -88,32 +118,33 @@ fn put_segment(
     requires small { ⌜ segment < 1073741823 ⌝ }
     ensures { λ r. ⌜ Laid (now (list .entry)) (now (cues .entry)) (now (list .exit)) (now (cues .exit)) at c r (entriesOf segment (kinds gop frames)) ⌝ }
 {
-    let mut left = frames;
+    let mut s = Standing {
+        left: frames,
+        after: false,
+    };
     let mut p = at;
     let mut q = c;
-    let mut after = false;
-    while left > 0 {
-        let n = least(left, gop);
-        put_block(list, p, segment, after, n);
-        q = put_cue(cues, q, p, !after | (n >= 2));
-        after = after | (n >= 2);
-        p = p + n;
-        left = left - n;
+    while s.left > 0 {
+        let b = next_block(gop, s);
+        put_block(list, p, segment, s.after, b.size);
+        q = put_cue(cues, q, p, b.key);
+        p = p + b.size;
+        s = b.behind;
     }
     q
 }
 
-// Writes the list and the cues of all segments, five numbers each in `segments`, the frames last; returns how many cues.
+// Writes the list and the cues of all segments; returns how many cues.
 pub fn put_list(list: &mut [u32], cues: &mut [u32], gop: u64, segments: &[u64]) -> usize
     requires { ⌜ CanLayAll (now list) (now cues) gop (now segments) ⌝ }
     ensures { λ r. ⌜ Laid (now (list .entry)) (now (cues .entry)) (now (list .exit)) (now (cues .exit)) 0 0 r (listOf gop (framesIn (now (segments .entry)))) ⌝ }
 {
-    let count = segments.len() / WIDTH;
+    let count = segment_count(segments);
     let mut i: usize = 0;
     let mut at: usize = 0;
     let mut c: usize = 0;
     while i < count {
-        let frames = segments[WIDTH * i + 4] as usize;
+        let frames = frames_of(segments, i) as usize;
         c = put_segment(list, cues, at, c, i as u32, gop as usize, frames);
         at = at + frames;
         i = i + 1;
@@ -137,14 +168,15 @@ fn count_segment(gop: usize, frames: usize) -> usize
     requires { ⌜ 1 ≤ gop ⌝ }
     ensures { λ r. ⌜ r ≡ length (cuesFrom 0 (entriesOf 0 (kinds gop frames))) ⌝ }
 {
-    let mut left = frames;
+    let mut s = Standing {
+        left: frames,
+        after: false,
+    };
     let mut count: usize = 0;
-    let mut after = false;
-    while left > 0 {
-        let n = least(left, gop);
-        count = count_cue(count, !after | (n >= 2));
-        after = after | (n >= 2);
-        left = left - n;
+    while s.left > 0 {
+        let b = next_block(gop, s);
+        count = count_cue(count, b.key);
+        s = b.behind;
     }
     count
 }
@@ -155,11 +187,11 @@ pub fn count_cues(gop: u64, segments: &[u64]) -> usize
     requires small { ⌜ total (framesIn (now segments)) ≤ 5000000 ⌝ }
     ensures { λ r. ⌜ r ≡ length (cuesOf (listOf gop (framesIn (now (segments .entry))))) ⌝ }
 {
-    let count = segments.len() / WIDTH;
+    let count = segment_count(segments);
     let mut i: usize = 0;
     let mut n: usize = 0;
     while i < count {
-        let frames = segments[WIDTH * i + 4] as usize;
+        let frames = frames_of(segments, i) as usize;
         n = n + count_segment(gop as usize, frames);
         i = i + 1;
     }

@@ -9,6 +9,7 @@ use Rattle.bitio.specs.Parse.{Answer, accepted}
 use Rattle.bitio.specs.Lent.{pasted, placed, lent}
 use Rattle.bitio.proofs.LentLaws.{pasted-take-end, pasted-length, placed-says-room}
 use Rattle.pictures.specs.Assemble.{Outcome, stopped, made, andAlso, Output}
+use Rattle.blocks.specs.Numbers.{width}
 use Rattle.assemble.specs.Whole.{counts, countsOf, Lent, outcome, lentAfter, Handed}
 use Rattle.assemble.specs.declared.multi.Counts.{Counts}
 use Rattle.assemble.specs.declared.multi.Assembled.the-variants.{Made}
@@ -96,12 +97,12 @@ module _ (s numbers : List ℕ) (d : Lent) where
         let n = ap length (w ∙ a .after) ∙ pasted-length numbers 0 (numbersOf s) (omega (arith, a .room)) in
         record { start-first = omega (arith, x, y); picture = omega (arith, y, a .whole .sized); numbers-there = omega (arith, n, a .room, a .count) }
 
-    pub read-text : textOf (outcome (between (l .start) (l .end) s) (between 0 (5 * l .segments) numbers′) (settingsOf l) d) ≡ text
+    pub read-text : textOf (outcome (between (l .start) (l .end) s) (between 0 (width * l .segments) numbers′) (settingsOf l) d) ≡ text
     unfolding printed
     read-text =
         let a = after in
-        let n : between 0 (5 * l .segments) numbers′ ≡ numbersOf s =
-        ap (between 0 (5 * l .segments)) (w ∙ a .after) ∙ front-is numbers (numbersOf s) (5 * l .segments) (sym (a .count)) (a .room) in
+        let n : between 0 (width * l .segments) numbers′ ≡ numbersOf s =
+        ap (between 0 (width * l .segments)) (w ∙ a .after) ∙ front-is numbers (numbersOf s) (width * l .segments) (sym (a .count)) (a .room) in
         ap (λ (rs : List ℕ). textOf (outcome (between (l .start) (l .end) s) rs (settingsOf l) d)) n
         ∙ ap (λ (r : Reading). printedOf r s d) e
 

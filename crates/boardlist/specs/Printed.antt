@@ -3,6 +3,7 @@ use Prim.Native.Nat.{ℕ, _-_, _*_, _≤_}
 use mathlib.Core.List.{List}
 use mathlib.Core.Option.{none, some}
 use lib.ListN.{length, take, drop}
+use Rattle.blocks.specs.Numbers.{width}
 use Rattle.pictures.specs.Assemble.{Outcome, stopped, made, Output}
 use Rattle.pictures.specs.declared.settings.Settings.{Settings}
 use Rattle.assemble.specs.Whole.{Lent, outcome}
@@ -49,4 +50,4 @@ pub record CountsFit (c : Counts) (list pictures ends shows : List ℕ) : Type 0
 pub record LayoutFits (l : Layout) (s numbers : List ℕ) : Type 0 where
   pub start-first : l .start ≤ l .end
   pub picture : l .end ≤ length s
-  pub numbers-there : 5 * l .segments ≤ length numbers
+  pub numbers-there : width * l .segments ≤ length numbers

@@ -3,12 +3,14 @@ ghost use mathlib.Core.Path.{_≡_};
 ghost use Prim.Native.Nat.{_*_};
 ghost use Rattle.bitio.specs.Lent.{placed, lent};
 ghost use Rattle.bitio.specs.Leb.{putSays};
+ghost use Rattle.blocks.specs.Numbers.{width};
 ghost use Rattle.assemble.specs.Whole.{outcome, slices};
 ghost use Rattle.boardlist.specs.Printed.{textOf, settingsOf, madeText, CountsFit, LayoutFits, between, printed};
 use assemble::multi::Assembled;
 use assemble::multi::Counts;
 use assemble::multi::assemble_multi;
 use bitio::leb128::Put;
+use blocks::numbers::WIDTH;
 use listing::file::FileAnswer;
 use listing::file::Layout;
 use listing::file::read_file;
@@ -59,12 +61,12 @@ fn put_assembly(
     out: &mut [u8],
 ) -> Put
     requires { ⌜ LayoutFits layout (now file) (now numbers) ⌝ }
-    ensures answer { λ r. ⌜ putSays r ≡ placed (now (out .entry)) 0 (textOf (outcome (between (layout .start) (layout .end) (now (file .entry))) (between 0 (5 * layout .segments) (now (numbers .entry))) (settingsOf layout) (slices list cues pictures ends shows header .entry))) ⌝ }
-    ensures out { λ _. ⌜ now (out .exit) ≡ lent (now (out .entry)) 0 (textOf (outcome (between (layout .start) (layout .end) (now (file .entry))) (between 0 (5 * layout .segments) (now (numbers .entry))) (settingsOf layout) (slices list cues pictures ends shows header .entry))) ⌝ }
+    ensures answer { λ r. ⌜ putSays r ≡ placed (now (out .entry)) 0 (textOf (outcome (between (layout .start) (layout .end) (now (file .entry))) (between 0 (width * layout .segments) (now (numbers .entry))) (settingsOf layout) (slices list cues pictures ends shows header .entry))) ⌝ }
+    ensures out { λ _. ⌜ now (out .exit) ≡ lent (now (out .entry)) 0 (textOf (outcome (between (layout .start) (layout .end) (now (file .entry))) (between 0 (width * layout .segments) (now (numbers .entry))) (settingsOf layout) (slices list cues pictures ends shows header .entry))) ⌝ }
 {
     let start = layout.start;
     let end = layout.end;
-    let n = 5 * layout.segments;
+    let n = WIDTH * layout.segments;
     let made = assemble_multi(
         &file[start..end],
         &numbers[0..n],

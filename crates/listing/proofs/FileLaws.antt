@@ -10,6 +10,7 @@ use lib.Dec.{leb, eqb}
 use borrow.Author.Tests.{le-leb, lt-leb, eq-eqb, ne-eqb, leb-true, eqb-true}
 use Rattle.bitio.specs.Lent.{pasted, hasRoom}
 use Rattle.bitio.proofs.LentLaws.{lent-room, lent-full}
+use Rattle.blocks.specs.Numbers.{width}
 use Rattle.listing.specs.declared.file.Layout.{Layout}
 use Rattle.listing.specs.File.{numberAt, u32At, pictureCount, segmentCount, segmentsAt, settingsAt, fpsAt, denAt, lengths, numbersFrom, numbersOf, isWhole, layoutOf, layoutIn, bad, full, read, readInto, numbersAfter, Records, Sized}
 use Rattle.listing.proofs.NumberLaws.{numbers-length}
@@ -181,21 +182,21 @@ module _ (d s : List ℕ) where
     count-is : l .segments ≡ segmentCount s
     count-is = ap (λ (x : Layout). x .segments) (w .layout)
 
-    all-length : length (numbersOf s) ≡ 5 * l .segments
-    all-length = numbers-length s (segmentCount s) (segmentsAt s) 0 ∙ ap (λ (k : ℕ). 5 * k) (sym count-is)
+    all-length : length (numbersOf s) ≡ width * l .segments
+    all-length = numbers-length s (segmentCount s) (segmentsAt s) 0 ∙ ap (λ (k : ℕ). width * k) (sym count-is)
 
     pub whole-records : Records s (l .end + 4) (l .segments)
     whole-records =
         let e : l .end ≡ 4 + pictureCount s = ap (λ (x : Layout). x .end) (w .layout) in
         record { small = w .small; there = omega (arith, w .sized, e, count-is) }
 
-    pub read-full : length d / 5 < l .segments → (full ≡ readInto d s) × (d ≡ numbersAfter d s)
+    pub read-full : length d / width < l .segments → (full ≡ readInto d s) × (d ≡ numbersAfter d s)
     unfolding readInto numbersAfter hasRoom
     read-full h =
         let k : length d < 0 + length (numbersOf s) = omega (arith, all-length) in
         rw (w .is) (rw (lt-leb (0 + length (numbersOf s)) (length d) k) refl, sym (lent-full d 0 (numbersOf s) k))
 
-    pub read-whole : {d′ : List ℕ} → l .segments ≤ length d / 5 → d′ ≡ pasted d 0 (numbersFrom s (l .segments) (l .end + 4) 0) → (read l ≡ readInto d s) × (d′ ≡ numbersAfter d s)
+    pub read-whole : {d′ : List ℕ} → l .segments ≤ length d / width → d′ ≡ pasted d 0 (numbersFrom s (l .segments) (l .end + 4) 0) → (read l ≡ readInto d s) × (d′ ≡ numbersAfter d s)
     unfolding readInto numbersAfter hasRoom
     read-whole {d′} h e =
         let k : 0 + length (numbersOf s) ≤ length d = omega (arith, all-length) in
@@ -209,7 +210,7 @@ module _ (d s : List ℕ) where
 pub record ReadIs (d s : List ℕ) (l : Layout) : Type 0 where
   pub whole : Whole s l
   pub room : length (numbersOf s) ≤ length d
-  pub count : length (numbersOf s) ≡ 5 * l .segments
+  pub count : length (numbersOf s) ≡ width * l .segments
   pub after : numbersAfter d s ≡ pasted d 0 (numbersOf s)
 
 pub read-is : (d s : List ℕ) (l : Layout) → read l ≡ readInto d s → ReadIs d s l

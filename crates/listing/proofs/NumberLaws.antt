@@ -1,15 +1,16 @@
--- Laws of the file's numbers: read, summed, and written five a segment. Assumes nothing.
+-- Laws of the file's numbers: read, summed, and written a record a segment. Assumes nothing.
 use Prim.Native.Nat.{ℕ, zero, suc, _+_, _-_, _*_, _/_, _%_, _^_, _≤_, _<_}
 use native.Mathlib.Omega.{arith}
 use native.Mathlib.Nat.{pow-suc}
 use native.Mathlib.Numerals.{add-one}
 use mathlib.Core.Path.{_≡_, refl, sym, ap, ap₂, _∙_}
 use mathlib.Core.List.{List, [], _∷_, _++_, append-assoc}
-use lib.ListN.{length, getD, set, length-append}
+use lib.ListN.{length, getD, length-append}
 use lib.Pow.{pow-mono, pow-add}
 use lib.Seq.{getD-append-seam}
 use Rattle.bitio.specs.Lent.{pasted}
-use Rattle.bitio.proofs.LentLaws.{pasted-sets, pasted-nil, pasted-more, pasted-length}
+use Rattle.bitio.proofs.LentLaws.{pasted-nil, pasted-more, pasted-length}
+use Rattle.blocks.specs.Numbers.{width, recordOf, segmentCount}
 use Rattle.listing.specs.File.{numberAt, u32At, lengths, segmentEnd, segmentNumbers, numbersFrom}
 
 -- ---- a number, from its highest byte down
@@ -81,24 +82,14 @@ module _ {s : List ℕ} {from count i sum : ℕ} (r : Summing s from count i sum
       let z : lengths s (count - i) (from + 16 * i) ≡ 0 = rw k in
       omega (arith, r .whole, z)
 
--- ---- five numbers a segment
+-- ---- a record a segment
 
--- five stores
-pub five : (d : List ℕ) (w a b c e f : ℕ) → w + 5 ≤ length d
-    → set (set (set (set (set d w a) (w + 1) b) (w + 2) c) (w + 3) e) (w + 4) f ≡ pasted d w (a ∷ b ∷ c ∷ e ∷ f ∷ [])
-five d w a b c e f h =
-    let k₁ : w + 1 ≡ suc w = omega arith in
-    let k₂ : w + 2 ≡ suc (suc w) = omega arith in
-    let k₃ : w + 3 ≡ suc (suc (suc w)) = omega arith in
-    let k₄ : w + 4 ≡ suc (suc (suc (suc w))) = omega arith in
-    rw (k₁, k₂, k₃, k₄) (pasted-sets d w (a ∷ b ∷ c ∷ e ∷ f ∷ []) h)
-
--- the five numbers of a segment, from what was read
+-- the record of a segment, from what was read
 pub segment-put : (s d : List ℕ) {d′ : List ℕ} (w q a : ℕ) {x y z : ℕ} → x ≡ u32At s q → y ≡ u32At s (q + 4) → z ≡ numberAt s (q + 8) 8
-    → d′ ≡ pasted d w (a ∷ (a + x) ∷ (a + x) ∷ (a + x + y) ∷ z ∷ []) → d′ ≡ pasted d w (segmentNumbers s q a)
+    → d′ ≡ pasted d w (recordOf a (a + x) (a + x) (a + x + y) z) → d′ ≡ pasted d w (segmentNumbers s q a)
 segment-put s d {d′} w q a {x} {y} {z} e f g h =
-    h ∙ ap₂ (λ (m n : ℕ). pasted d w (a ∷ (a + m) ∷ (a + m) ∷ (a + m + n) ∷ z ∷ [])) e f
-    ∙ ap (λ (n : ℕ). pasted d w (a ∷ (a + u32At s q) ∷ (a + u32At s q) ∷ segmentEnd s q a ∷ n ∷ [])) g
+    h ∙ ap₂ (λ (m n : ℕ). pasted d w (recordOf a (a + m) (a + m) (a + m + n) z)) e f
+    ∙ ap (λ (n : ℕ). pasted d w (recordOf a (a + u32At s q) (a + u32At s q) (segmentEnd s q a) n)) g
 
 numbers-none : (s : List ℕ) (q a : ℕ) → numbersFrom s 0 q a ≡ []
 unfolding numbersFrom
@@ -108,7 +99,7 @@ numbers-more : (s : List ℕ) (k q a : ℕ) → numbersFrom s (suc k) q a ≡ se
 unfolding numbersFrom
 numbers-more s k q a = refl
 
-pub numbers-length : (s : List ℕ) (k q a : ℕ) → length (numbersFrom s k q a) ≡ 5 * k
+pub numbers-length : (s : List ℕ) (k q a : ℕ) → length (numbersFrom s k q a) ≡ width * k
 numbers-length s zero q a = ap length (numbers-none s q a)
 numbers-length s (suc k) q a =
     let i = numbers-length s k (q + 16) (segmentEnd s q a) in
@@ -119,7 +110,7 @@ pub record Numbering (s d₀ : List ℕ) (from count : ℕ) (d : List ℕ) (i a 
   pub within : i ≤ count
   pub small : a ≤ i * 8589934592
   pub kept : length d ≡ length d₀
-  pub same : pasted d (5 * i) (numbersFrom s (count - i) (from + 16 * i) a) ≡ pasted d₀ 0 (numbersFrom s count from 0)
+  pub same : pasted d (width * i) (numbersFrom s (count - i) (from + 16 * i) a) ≡ pasted d₀ 0 (numbersFrom s count from 0)
 
 pub numbering-start : (s d : List ℕ) (from count : ℕ) → Numbering s d from count d 0 0
 numbering-start s d from count =
@@ -128,12 +119,12 @@ numbering-start s d from count =
     record { within = omega arith; small = omega arith; kept = refl; same = ap₂ (λ (m n : ℕ). pasted d 0 (numbersFrom s m n 0)) k q }
 
 module _ {s d₀ : List ℕ} {from count : ℕ} {d : List ℕ} {i a : ℕ} (r : Numbering s d₀ from count d i a) where
-  pub numbering-turn : (d′ : List ℕ) (b : ℕ) → i < count → 5 * count ≤ length d₀ → (b ≡ segmentEnd s (from + 16 * i) a) × (b < a + 2 ^ 33)
-      → d′ ≡ pasted d (5 * i) (segmentNumbers s (from + 16 * i) a) → Numbering s d₀ from count d′ (i + 1) b
+  pub numbering-turn : (d′ : List ℕ) (b : ℕ) → i < count → count ≤ segmentCount d₀ → (b ≡ segmentEnd s (from + 16 * i) a) × (b < a + 2 ^ 33)
+      → d′ ≡ pasted d (width * i) (segmentNumbers s (from + 16 * i) a) → Numbering s d₀ from count d′ (i + 1) b
   numbering-turn d′ b h room e w =
       let q : from + 16 * i + 16 ≡ from + 16 * (i + 1) = omega arith in
       let k : count - i ≡ suc (count - (i + 1)) = omega arith in
-      let t : 5 * i + 5 ≡ 5 * (i + 1) = omega arith in
+      let t : width * i + width ≡ width * (i + 1) = omega arith in
       let x = segmentNumbers s (from + 16 * i) a in
       let y = numbersFrom s (count - (i + 1)) (from + 16 * (i + 1)) b in
       let m : numbersFrom s (count - i) (from + 16 * i) a ≡ x ++ y =
@@ -142,16 +133,16 @@ module _ {s d₀ : List ℕ} {from count : ℕ} {d : List ℕ} {i a : ℕ} (r : 
       record {
         within = omega arith;
         small = omega (arith, e .1, r .small);
-        kept = ap length w ∙ pasted-length d (5 * i) x (omega (arith, r .kept)) ∙ r .kept;
+        kept = ap length w ∙ pasted-length d (width * i) x (omega (arith, r .kept)) ∙ r .kept;
         same =
-            ap₂ (λ (l : List ℕ) (n : ℕ). pasted l n y) w (sym t) ∙ pasted-more d (5 * i) x (omega (arith, r .kept)) y ∙ ap (pasted d (5 * i)) (sym m) ∙ r .same;
+            ap₂ (λ (l : List ℕ) (n : ℕ). pasted l n y) w (sym t) ∙ pasted-more d (width * i) x (omega (arith, r .kept)) y ∙ ap (pasted d (width * i)) (sym m) ∙ r .same;
       }
 
   pub numbering-end : count ≤ i → d ≡ pasted d₀ 0 (numbersFrom s count from 0)
   numbering-end h =
       let k : count - i ≡ 0 = omega arith in
       let z : numbersFrom s (count - i) (from + 16 * i) a ≡ [] = ap (λ (n : ℕ). numbersFrom s n (from + 16 * i) a) k ∙ numbers-none s (from + 16 * i) a in
-      sym (pasted-nil d (5 * i)) ∙ ap (pasted d (5 * i)) (sym z) ∙ r .same
+      sym (pasted-nil d (width * i)) ∙ ap (pasted d (width * i)) (sym z) ∙ r .same
 
 -- ---- a number written, the lowest byte first, and read back
 

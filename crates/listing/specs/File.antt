@@ -1,12 +1,13 @@
 -- The file that boardlist reads (01, 'Unit list and cue list'). Assumes nothing.
 use Prim.Native.Nat.{ℕ, zero, suc, _+_, _*_, _≤_}
 use mathlib.Core.Path.{_≡_}
-use mathlib.Core.List.{List, [], _∷_, _++_}
+use mathlib.Core.List.{List, [], _++_}
 use mathlib.Core.Bool.{Bool, cond as pick, _&&_}
 use mathlib.Core.Option.{Option, none, some}
 use lib.ListN.{length, getD}
 use lib.Dec.{leb, eqb}
 use Rattle.bitio.specs.Lent.{hasRoom, lent}
+use Rattle.blocks.specs.Numbers.{recordOf}
 use Rattle.listing.specs.declared.file.Layout.{Layout}
 
 -- ---- numbers
@@ -68,9 +69,9 @@ lengths s (suc k) q = keyLength s q + goldenLength s q + lengths s k (q + 16)
 abbrev pub segmentEnd : List ℕ → ℕ → ℕ → ℕ
 segmentEnd s q a = a + keyLength s q + goldenLength s q
 
--- its five numbers: where its key starts and ends, where its golden does, and its frames
+-- its record: the golden starts where the key ends
 abbrev pub segmentNumbers : List ℕ → ℕ → ℕ → List ℕ
-segmentNumbers s q a = a ∷ (a + keyLength s q) ∷ (a + keyLength s q) ∷ segmentEnd s q a ∷ framesAt s q ∷ []
+segmentNumbers s q a = recordOf a (a + keyLength s q) (a + keyLength s q) (segmentEnd s q a) (framesAt s q)
 
 -- 01: units lie in segment order: those of k segments, the first standing at q and its key starting at a
 unfoldable pub numbersFrom : List ℕ → ℕ → ℕ → ℕ → List ℕ

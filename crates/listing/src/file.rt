@@ -1,11 +1,13 @@
 // The file of boardlist: picture bytes, segments and settings, each after its u32 count, little-endian.
 ghost use mathlib.Core.Path.{_≡_};
 ghost use Prim.Native.Nat.{_+_, _*_, _≤_, _<_, _^_};
-ghost use mathlib.Core.List.{[], _∷_};
 ghost use lib.ListN.{length};
 ghost use Rattle.bitio.specs.Lent.{pasted};
+ghost use Rattle.blocks.specs.Numbers.{width, segmentCount};
 ghost use Rattle.listing.specs.File.{numberAt, lengths, segmentNumbers, segmentEnd, numbersFrom, Sized, Records, layoutIn, readInto, numbersAfter};
 ghost use Rattle.listing.specs.Says.{foundSays, fileSays};
+use blocks::numbers::WIDTH;
+use blocks::numbers::put_record;
 
 // What a file holds. The picture bytes lie from start to end.
 pub struct Layout {
@@ -114,48 +116,36 @@ fn find(file: &[u8]) -> Found
     settings(file, picture, count)
 }
 
-fn put_five(numbers: &mut [u64], to: usize, start: u64, key: u64, golden: u64, frames: u64)
-    requires { ⌜ to + 5 ≤ length (now numbers) ⌝ }
-    ensures { λ _. ⌜ now (numbers .exit) ≡ pasted (now (numbers .entry)) to (start ∷ key ∷ key ∷ golden ∷ frames ∷ []) ⌝ }
-{
-    numbers[to] = start;
-    numbers[to + 1] = key;
-    numbers[to + 2] = key;
-    numbers[to + 3] = golden;
-    numbers[to + 4] = frames;
-}
-
-// Writes the numbers of the segment at `from`, whose key starts at `start`, and returns where its golden ends.
-fn put_segment(numbers: &mut [u64], to: usize, file: &[u8], from: usize, start: u64) -> u64
-    requires room { ⌜ to + 5 ≤ length (now numbers) ⌝ }
+// Writes the segment at `from`, whose key starts at `start`, as record i, and returns where its golden ends.
+fn put_segment(numbers: &mut [u64], i: usize, file: &[u8], from: usize, start: u64) -> u64
+    requires room { ⌜ i < segmentCount (now numbers) ⌝ }
     requires there { ⌜ from + 16 ≤ length (now file) ⌝ }
     requires small { ⌜ start < 2 ^ 62 ⌝ }
     ensures { λ r. ⌜ (r ≡ segmentEnd (now (file .entry)) from start) × (r < start + 2 ^ 33) ⌝ }
-    ensures { λ _. ⌜ now (numbers .exit) ≡ pasted (now (numbers .entry)) to (segmentNumbers (now (file .entry)) from start) ⌝ }
+    ensures { λ _. ⌜ now (numbers .exit) ≡ pasted (now (numbers .entry)) (width * i) (segmentNumbers (now (file .entry)) from start) ⌝ }
 {
     let key = start + number(file, from, 4);
     let golden = key + number(file, from + 4, 4);
     let frames = number(file, from + 8, 8);
-    put_five(numbers, to, start, key, golden, frames);
+    put_record(numbers, i, start, key, key, golden, frames);
     golden
 }
 
-// Writes five numbers for each of the segments that stand at `from`.
+// Writes a record for each of the segments that stand at `from`.
 fn put_numbers(numbers: &mut [u64], file: &[u8], from: usize, count: usize)
     requires there { ⌜ Records (now file) from count ⌝ }
-    requires room { ⌜ 5 * count ≤ length (now numbers) ⌝ }
+    requires room { ⌜ count ≤ segmentCount (now numbers) ⌝ }
     ensures { λ _. ⌜ now (numbers .exit) ≡ pasted (now (numbers .entry)) 0 (numbersFrom (now (file .entry)) count from 0) ⌝ }
 {
     let mut start: u64 = 0;
     let mut i: usize = 0;
     while i < count {
-        start = put_segment(numbers, 5 * i, file, from + 16 * i, start);
+        start = put_segment(numbers, i, file, from + 16 * i, start);
         i = i + 1;
     }
 }
 
-// Reads a file. Where it is whole and there is room, five numbers a segment are written: where its key starts and ends in
-// the picture bytes, where its golden does, and its frames.
+// Reads a file. Where it is whole and there is room, a record is written for each segment.
 pub fn read_file(file: &[u8], numbers: &mut [u64]) -> FileAnswer
     ensures answer { λ r. ⌜ fileSays r ≡ readInto (now (numbers .entry)) (now (file .entry)) ⌝ }
     ensures numbers { λ _. ⌜ now (numbers .exit) ≡ numbersAfter (now (numbers .entry)) (now (file .entry)) ⌝ }
@@ -164,7 +154,7 @@ pub fn read_file(file: &[u8], numbers: &mut [u64]) -> FileAnswer
         return FileAnswer::Bad;
     };
     let count = layout.segments;
-    if numbers.len() / 5 < count {
+    if numbers.len() / WIDTH < count {
         return FileAnswer::Full;
     }
     put_numbers(numbers, file, layout.end + 4, count);

@@ -8,7 +8,7 @@ use Rattle.obu.specs.Obu.{Obu, obus, unitBytes}
 use Rattle.obu.specs.Unit.{has}
 use Rattle.header.specs.Sequence.{Sequence}
 use Rattle.pictures.specs.Segments.{Segment}
-use Rattle.pictures.specs.Prepare.{isSequence, renewed, sent, firstFrame, keyOk, goldenFlags, slotOf, Prepared, prepare}
+use Rattle.pictures.specs.Prepare.{isSequence, renewed, sent, firstFrame, keyOk, goldenFlags, asked, Prepared, prepare}
 use Rattle.pictures.specs.Code.{judged, renewing, orElse, sentBytes}
 
 -- ---- chains of answers
@@ -25,22 +25,13 @@ next-same (accepted a) f g e = e a
 
 -- ---- what is asked of the frames, and then the slot
 
-module _ (q : Sequence) (k g : List ℕ) where
-  abbrev asked : {A : Type 0} → (ℕ → Answer A) → Answer A
-  asked f =
-      andNext (firstFrame q k) (λ y.
-      andNext (keyOk y) (λ _.
-      andNext (firstFrame q g) (λ z.
-      andNext (goldenFlags z) (λ flags.
-      f (slotOf flags)))))
-
-  asked-out : {A : Type 0} (f : ℕ → Answer A) → andNext (asked (λ n. accepted n)) f ≡ asked f
-  unfolding andNext
-  asked-out f =
-      next-chain (firstFrame q k) _ f
-      ∙ next-same (firstFrame q k) _ _ (λ y. next-chain (keyOk y) _ f
-      ∙ next-same (keyOk y) _ _ (λ _. next-chain (firstFrame q g) _ f
-      ∙ next-same (firstFrame q g) _ _ (λ z. next-chain (goldenFlags z) _ f)))
+asked-out : {A : Type 0} (q : Sequence) (k g : List ℕ) (f : ℕ → Answer A) → andNext (asked q k g (λ n. accepted n)) f ≡ asked q k g f
+unfolding andNext
+asked-out q k g f =
+    next-chain (firstFrame q k) _ f
+    ∙ next-same (firstFrame q k) _ _ (λ y. next-chain (keyOk y) _ f
+    ∙ next-same (keyOk y) _ _ (λ _. next-chain (firstFrame q g) _ f
+    ∙ next-same (firstFrame q g) _ _ (λ z. next-chain (goldenFlags z) _ f)))
 
 -- ---- a segment is prepared if it is judged, and then its units are those that go out
 

@@ -1,15 +1,15 @@
 -- Laws of the picture bytes measured one segment after the other. Assumes nothing.
-use Rattle.blocks.specs.Numbers.{width}
-use Prim.Native.Nat.{ℕ, suc, _+_, _*_, _/_, _≤_, _<_, min}
+use Prim.Native.Nat.{ℕ, suc, _+_, _≤_, _<_, min}
 use native.Mathlib.Omega.{arith}
 use native.Mathlib.Numerals.{add-one}
 use mathlib.Core.Path.{_≡_, refl, sym, ap, _∙_}
 use mathlib.Core.List.{List, [], _∷_, _++_, flatMap}
 use mathlib.Core.Bool.{Bool}
 use mathlib.Core.Option.{some}
-use lib.ListN.{length, getD, length-append}
+use lib.ListN.{length, length-append}
 use Rattle.bitio.specs.Parse.{Answer, refused, accepted, answer, andNext}
 use Rattle.header.specs.Sequence.{Sequence}
+use Rattle.blocks.specs.Numbers.{segmentCount, keyAt, goldenAt, framesAt}
 use Rattle.pictures.specs.Segments.{Segment}
 use Rattle.pictures.specs.Prepare.{Prepared}
 use Rattle.pictures.specs.Assemble.{Outcome, stopped, made, andAlso, inSegment, prepareAll, pictureOf}
@@ -19,7 +19,7 @@ use Rattle.pictures.specs.declared.pictures.Measured.{Measured}
 use Rattle.pictures.specs.declared.pictures.Measured.the-variants.{Bytes, RefusedIn}
 use Rattle.pictures.proofs.JudgeLaws.{prepare-judged}
 use Rattle.pictures.proofs.SizeLaws.{most}
-use Rattle.pictures.proofs.SegmentLaws.{unitAt, segmentOf, behind, behind-start, behind-end, behind-is}
+use Rattle.pictures.proofs.SegmentLaws.{behind, behind-start, behind-end, behind-is}
 
 also-same : {A B : Type 0} (o : Outcome A) (f g : A → Outcome B) → ((a : A) → f a ≡ g a) → andAlso o f ≡ andAlso o g
 unfolding andAlso
@@ -92,7 +92,7 @@ goes i size (accepted k) o m n w e =
 
 -- `sum` is the saturated sum of i segments
 pub record Measuring (q : Sequence) (rewriting : Bool) (new s rs : List ℕ) (i sum : ℕ) : Type 0 where
-  pub within : i ≤ length rs / width
+  pub within : i ≤ segmentCount rs
   pub small : sum ≤ most
   pub whole : measured q rewriting new (allSegments s rs) ≡ countedFrom q rewriting new i (behind s rs i) sum
 
@@ -108,12 +108,12 @@ measure-start q rewriting new s rs =
     }
 
 module _ {q : Sequence} {rewriting : Bool} {new s rs : List ℕ} {i sum : ℕ} (r : Measuring q rewriting new s rs i sum) where
-  pub measure-end : length rs / width ≤ i → made sum ≡ measured q rewriting new (allSegments s rs)
+  pub measure-end : segmentCount rs ≤ i → made sum ≡ measured q rewriting new (allSegments s rs)
   measure-end h =
       let e : capped (sum + 0) ≡ sum = omega (arith, r .small) in
       sym (r .whole ∙ ap (λ (xs : List Segment). countedFrom q rewriting new i xs sum) (behind-end s rs i h) ∙ counted-none q rewriting new i sum ∙ ap made e)
 
-  module _ (h : i < length rs / width) (m : Measured) (key golden : List ℕ) (is-key : key ≡ unitAt s rs (width * i)) (is-golden : golden ≡ unitAt s rs (width * i + 2))
+  module _ (h : i < segmentCount rs) (m : Measured) (key golden : List ℕ) (is-key : key ≡ keyAt s rs i) (is-golden : golden ≡ goldenAt s rs i)
       (says : measuredSays m ≡ inSegment i (measuredUnits q rewriting new key golden)) where
     abbrev size : ℕ
     size = length (sentBytes rewriting new key) + length (sentBytes rewriting new golden)
@@ -121,7 +121,7 @@ module _ {q : Sequence} {rewriting : Bool} {new s rs : List ℕ} {i sum : ℕ} (
     here : measured q rewriting new (allSegments s rs) ≡ andAlso (inSegment i (judged q rewriting key golden)) (λ _. countedFrom q rewriting new (suc i) (behind s rs (i + 1)) (sum + size))
     here =
         r .whole ∙ ap (λ (xs : List Segment). countedFrom q rewriting new i xs sum) (behind-is s rs i h key golden is-key is-golden)
-        ∙ counted-more q rewriting new i (segmentOf key golden (getD rs (width * i + 4) 0)) (behind s rs (i + 1)) sum
+        ∙ counted-more q rewriting new i (record { key = key; golden = golden; frames = framesAt rs i }) (behind s rs (i + 1)) sum
 
     pub measure-stop : (k j : ℕ) → m ≡ RefusedIn k j → measuredSays m ≡ measured q rewriting new (allSegments s rs)
     measure-stop k j w = stays i (λ _. capped size) (judged q rewriting key golden) _ m k j w says ∙ sym here

@@ -1,17 +1,18 @@
 -- Laws of all segments prepared: what goes out is what is judged and sent one by one, and how much that is. Assumes nothing.
-use Rattle.blocks.specs.Numbers.{width}
-use Prim.Native.Nat.{ℕ, zero, suc, _+_, _*_, _/_}
+use Prim.Native.Nat.{ℕ, suc, _+_, _*_}
 use native.Mathlib.Omega.{arith}
 use mathlib.Core.Path.{_≡_, refl, sym, ap, ap₂, _∙_}
 use mathlib.Core.List.{List, [], _∷_, _++_, flatMap}
 use mathlib.Core.Bool.{Bool}
-use lib.ListN.{length, drop, length-map}
+use lib.ListN.{length, length-map}
 use Rattle.bitio.specs.Parse.{Answer, refused, accepted, andNext}
 use Rattle.header.specs.Sequence.{Sequence}
-use Rattle.pictures.specs.Segments.{Segment}
+use Rattle.blocks.specs.Numbers.{segmentCount, records}
+use Rattle.blocks.proofs.NumberLaws.{records-length}
+use Rattle.pictures.specs.Segments.{Segment, segmentIn}
 use Rattle.pictures.specs.Prepare.{Prepared, prepare, showUnit}
 use Rattle.pictures.specs.Assemble.{Outcome, stopped, made, andAlso, inSegment, prepareAll, pictureOf, endsFrom, showsOf}
-use Rattle.pictures.specs.Code.{segmentsIn, allSegments, judged, renewing, orElse, sentBytes, preparedOf, allPrepared, allSent, slotsOf}
+use Rattle.pictures.specs.Code.{allSegments, judged, renewing, orElse, sentBytes, preparedOf, allPrepared, allSent, slotsOf}
 use Rattle.pictures.proofs.JudgeLaws.{prepare-judged}
 
 -- ---- all segments prepared
@@ -79,10 +80,5 @@ unfolding flatMap
 length-shows [] = refl
 length-shows (b ∷ bs) = let ih = length-shows bs in omega arith
 
-pub length-segments : (s : List ℕ) (k : ℕ) (rs : List ℕ) → length (segmentsIn s k rs) ≡ k
-unfolding segmentsIn
-length-segments s zero rs = refl
-length-segments s (suc k) rs = ap suc (length-segments s k (drop width rs))
-
-pub length-all : (s rs : List ℕ) → length (allSegments s rs) ≡ length rs / width
-length-all s rs = length-segments s (length rs / width) rs
+pub length-all : (s rs : List ℕ) → length (allSegments s rs) ≡ segmentCount rs
+length-all s rs = length-map (records rs) (segmentIn s) ∙ records-length (segmentCount rs) rs

@@ -1,6 +1,5 @@
 -- Laws of the picture bytes and their ends written one segment after the other. Assumes nothing.
-use Rattle.blocks.specs.Numbers.{width}
-use Prim.Native.Nat.{ℕ, suc, _+_, _*_, _/_, _≤_, _<_}
+use Prim.Native.Nat.{ℕ, suc, _+_, _*_, _≤_, _<_}
 use native.Mathlib.Omega.{arith}
 use mathlib.Core.Path.{_≡_, refl, sym, ap, ap₂, _∙_}
 use mathlib.Core.List.{List, [], _∷_, _++_, flatMap}
@@ -8,11 +7,12 @@ use mathlib.Core.Bool.{Bool}
 use lib.ListN.{length, set, length-append}
 use Rattle.bitio.specs.Lent.{pasted}
 use Rattle.bitio.proofs.LentLaws.{pasted-nil, pasted-sets, pasted-more, pasted-length}
+use Rattle.blocks.specs.Numbers.{segmentCount, keyAt, goldenAt}
 use Rattle.pictures.specs.Segments.{Segment}
 use Rattle.pictures.specs.Assemble.{pictureOf, endsFrom}
 use Rattle.pictures.specs.Code.{allSegments, sentBytes, allSent}
 use Rattle.pictures.proofs.PrepareLaws.{length-all}
-use Rattle.pictures.proofs.SegmentLaws.{unitAt, behind, behind-start, behind-end, behind-is}
+use Rattle.pictures.proofs.SegmentLaws.{behind, behind-start, behind-end, behind-is}
 
 -- ---- one segment
 
@@ -30,7 +30,7 @@ two-ends e w x y z h n =
 
 -- the units of i segments stand there, and their ends
 pub record Putting (rewriting : Bool) (new s rs d₀ e₀ d e : List ℕ) (i at : ℕ) : Type 0 where
-  pub within : i ≤ length rs / width
+  pub within : i ≤ segmentCount rs
   pub pictures : pasted d at (pictureOf (allSent rewriting new (behind s rs i))) ≡ pasted d₀ 0 (pictureOf (allSent rewriting new (allSegments s rs)))
   pub ends : pasted e (2 * i) (endsFrom at (allSent rewriting new (behind s rs i))) ≡ pasted e₀ 0 (endsFrom 0 (allSent rewriting new (allSegments s rs)))
   pub place : at + length (pictureOf (allSent rewriting new (behind s rs i))) ≡ length (pictureOf (allSent rewriting new (allSegments s rs)))
@@ -50,7 +50,7 @@ put-start rewriting new s rs d e =
     }
 
 module _ {rewriting : Bool} {new s rs d₀ e₀ d e : List ℕ} {i at : ℕ} (r : Putting rewriting new s rs d₀ e₀ d e i at) where
-  pub put-end : length rs / width ≤ i → (d ≡ pasted d₀ 0 (pictureOf (allSent rewriting new (allSegments s rs)))) × (e ≡ pasted e₀ 0 (endsFrom 0 (allSent rewriting new (allSegments s rs))))
+  pub put-end : segmentCount rs ≤ i → (d ≡ pasted d₀ 0 (pictureOf (allSent rewriting new (allSegments s rs)))) × (e ≡ pasted e₀ 0 (endsFrom 0 (allSent rewriting new (allSegments s rs))))
   unfolding flatMap endsFrom
   put-end h =
       let b = sym (behind-end s rs i h) in (
@@ -58,7 +58,7 @@ module _ {rewriting : Bool} {new s rs d₀ e₀ d e : List ℕ} {i at : ℕ} (r 
         sym (pasted-nil e (2 * i)) ∙ ap (λ (xs : List Segment). pasted e (2 * i) (endsFrom at (allSent rewriting new xs))) b ∙ r .ends,
       )
 
-  module _ (h : i < length rs / width) (key golden : List ℕ) (is-key : key ≡ unitAt s rs (width * i)) (is-golden : golden ≡ unitAt s rs (width * i + 2)) where
+  module _ (h : i < segmentCount rs) (key golden : List ℕ) (is-key : key ≡ keyAt s rs i) (is-golden : golden ≡ goldenAt s rs i) where
     abbrev k : List ℕ
     k = sentBytes rewriting new key
 

@@ -1,6 +1,5 @@
 -- Laws of payloads compared: bytes, the last sequence payload of a key, and later keys one after the other. Assumes nothing.
-use Rattle.blocks.specs.Numbers.{width}
-use Prim.Native.Nat.{ℕ, suc, _+_, _*_, _-_, _/_, _≤_, _<_}
+use Prim.Native.Nat.{ℕ, suc, _+_, _-_, _≤_, _<_}
 use native.Mathlib.Omega.{arith}
 use native.Mathlib.Numerals.{add-one}
 use mathlib.Core.Path.{_≡_, refl, sym, ap, ap₂, _∙_}
@@ -8,17 +7,18 @@ use mathlib.Core.List.{List, [], _∷_}
 use mathlib.Core.Bool.{Bool, true, false, not, cond as pick, _&&_}
 use mathlib.Core.Option.{some}
 use lib.ListN.{length, getD, drop, drop-of-length-le}
-use lib.Seq.{getD-drop, drop-drop, drop-cons}
+use lib.Seq.{drop-cons}
 use lib.Dec.{eqb, leb}
 use borrow.Author.Tests.{eq-eqb, ne-eqb, le-leb}
 use Rattle.bitio.specs.Parse.{Answer, refused, accepted, answer, andNext}
 use Rattle.obu.specs.Obu.{Obu, obus}
-use Rattle.obu.specs.Place.{part}
 use Rattle.obu.specs.Unit.{count, has, lastPayload, ofUnit}
 use Rattle.obu.proofs.UnitLaws.{has-count}
+use Rattle.blocks.specs.Numbers.{segmentCount, keyAt, goldenAt}
 use Rattle.pictures.specs.Prepare.{isSequence}
 use Rattle.pictures.specs.Assemble.{Outcome, stopped, made, andAlso, inSegment, sameBytes, sameHeader, sameHeaders}
-use Rattle.pictures.specs.Code.{segmentsIn, laterSegments}
+use Rattle.pictures.specs.Code.{laterSegments}
+use Rattle.pictures.proofs.SegmentLaws.{behind, behind-end, behind-is}
 use Rattle.pictures.proofs.RangeLaws.{denied, granted}
 
 -- ---- bytes compared
@@ -113,30 +113,20 @@ all f s rs = sameHeaders f 1 (laterSegments s rs)
 
 -- the keys before i, but for the first, have the header f
 pub record Agree (f s rs : List ℕ) (i : ℕ) : Type 0 where
-  pub same : all f s rs ≡ sameHeaders f i (segmentsIn s (length rs / width - i) (drop (width * i) rs))
+  pub same : all f s rs ≡ sameHeaders f i (behind s rs i)
 
 pub agree-start : (f s rs : List ℕ) → Agree f s rs 1
 agree-start f s rs = record { same = refl }
 
 module _ {f s rs : List ℕ} {i : ℕ} (a : Agree f s rs i) where
-  pub agree-end : length rs / width ≤ i → made tt ≡ all f s rs
-  unfolding segmentsIn sameHeaders
-  agree-end h =
-      let z : length rs / width - i ≡ 0 = omega arith in
-      sym (a .same ∙ ap (λ (k : ℕ). sameHeaders f i (segmentsIn s k (drop (width * i) rs))) z)
+  pub agree-end : segmentCount rs ≤ i → made tt ≡ all f s rs
+  unfolding sameHeaders
+  agree-end h = sym (a .same ∙ ap (sameHeaders f i) (behind-end s rs i h))
 
-  module _ (h : i < length rs / width) (u : List ℕ) (e : u ≡ part s (getD rs (width * i) 0) (getD rs (width * i + 1) 0)) where
-    key : part s (getD (drop (width * i) rs) 0 0) (getD (drop (width * i) rs) 1 0) ≡ u
-    key =
-        let z : width * i + 0 ≡ width * i = omega arith in
-        ap₂ (λ (x y : ℕ). part s x y) (getD-drop (width * i) rs 0 0 ∙ ap (λ (k : ℕ). getD rs k 0) z) (getD-drop (width * i) rs 1 0) ∙ sym e
-
-    next-key : all f s rs ≡ andAlso (inSegment i (compared f (obus u))) (λ _. sameHeaders f (suc i) (segmentsIn s (length rs / width - (i + 1)) (drop width (drop (width * i) rs))))
-    unfolding segmentsIn sameHeaders
-    next-key =
-        let z : length rs / width - i ≡ suc (length rs / width - (i + 1)) = omega arith in
-        a .same ∙ ap (λ (k : ℕ). sameHeaders f i (segmentsIn s k (drop (width * i) rs))) z
-        ∙ ap (λ (l : List ℕ). andAlso (inSegment i (compared f (obus l))) (λ _. sameHeaders f (suc i) (segmentsIn s (length rs / width - (i + 1)) (drop width (drop (width * i) rs))))) key
+  module _ (h : i < segmentCount rs) (u : List ℕ) (e : u ≡ keyAt s rs i) where
+    next-key : all f s rs ≡ andAlso (inSegment i (compared f (obus u))) (λ _. sameHeaders f (suc i) (behind s rs (i + 1)))
+    unfolding sameHeaders
+    next-key = a .same ∙ ap (sameHeaders f i) (behind-is s rs i h u (goldenAt s rs i) e refl)
 
     pub agree-refused : (k : ℕ) → compared f (obus u) ≡ refused k → stopped k (some i) ≡ all f s rs
     unfolding andAlso inSegment
@@ -144,10 +134,4 @@ module _ {f s rs : List ℕ} {i : ℕ} (a : Agree f s rs i) where
 
     pub agree-turn : compared f (obus u) ≡ accepted tt → Agree f s rs (i + 1)
     unfolding andAlso inSegment
-    agree-turn g =
-        let z : width * i + width ≡ width * (i + 1) = omega arith in
-        record {
-          same =
-              next-key ∙ rw g
-              (ap₂ (λ (n : ℕ) (l : List ℕ). sameHeaders f n (segmentsIn s (length rs / width - (i + 1)) l)) (sym (add-one i)) (drop-drop width (width * i) rs ∙ ap (λ (m : ℕ). drop m rs) z));
-        }
+    agree-turn g = record { same = next-key ∙ rw g (ap (λ (n : ℕ). sameHeaders f n (behind s rs (i + 1))) (sym (add-one i))) }

@@ -1,11 +1,10 @@
 -- Laws of the show bytes, written one segment after the other. Assumes nothing.
-use Rattle.blocks.specs.Numbers.{width}
 use Prim.Native.Nat.{ℕ, zero, suc, _+_, _*_, _/_, _%_, _^_, _≤_, _<_}
 use native.Mathlib.Omega.{arith}
 use mathlib.Core.Path.{_≡_, refl, sym, ap, ap₂, _∙_}
 use mathlib.Core.List.{List, [], _∷_, _++_, flatMap}
 use mathlib.Core.Bool.{Bool, true, false, cond as pick}
-use lib.ListN.{length, getD, set}
+use lib.ListN.{length, set}
 use lib.Dec.{eqb}
 use borrow.Author.Tests.{eqb-false}
 use Rattle.bitio.specs.Parse.{Answer, refused, accepted, andNext}
@@ -18,11 +17,12 @@ use Rattle.frame.specs.Frame.{keyFrame, parseFrame}
 use Rattle.frame.specs.declared.frame_header.FrameHeaderInfo.{FrameHeaderInfo}
 use Rattle.frame.specs.declared.frame_header.FrameHeaderInfo.the-variants.{Existing, Frame}
 use Rattle.frame.proofs.FrameLaws.{HeaderIs, header-is}
+use Rattle.blocks.specs.Numbers.{segmentCount, keyAt, goldenAt, framesAt}
 use Rattle.pictures.specs.Segments.{Segment}
 use Rattle.pictures.specs.Prepare.{isFrame, firstOf, firstFrame, keyOk, goldenFlags, lowest, showUnit}
 use Rattle.pictures.specs.Code.{allSegments, readable, judged, orElse, slotsOf}
 use Rattle.pictures.proofs.PrepareLaws.{length-all}
-use Rattle.pictures.proofs.SegmentLaws.{unitAt, segmentOf, behind, behind-start, behind-end, behind-is}
+use Rattle.pictures.proofs.SegmentLaws.{behind, behind-start, behind-end, behind-is}
 
 -- ---- a slot that is named is below 8
 
@@ -115,7 +115,7 @@ unfolding flatMap
 shows-more q rewriting x xs = refl
 
 pub record Showing (q : Sequence) (rewriting : Bool) (s rs d₀ d : List ℕ) (i : ℕ) : Type 0 where
-  pub within : i ≤ length rs / width
+  pub within : i ≤ segmentCount rs
   pub shows : pasted d (5 * i) (showsFrom q rewriting (behind s rs i)) ≡ pasted d₀ 0 (showsFrom q rewriting (allSegments s rs))
   pub len : length d ≡ length d₀
 
@@ -124,15 +124,15 @@ show-start q rewriting s rs d =
     record { within = omega arith; shows = ap (λ (xs : List Segment). pasted d 0 (showsFrom q rewriting xs)) (behind-start s rs); len = refl }
 
 module _ {q : Sequence} {rewriting : Bool} {s rs d₀ d : List ℕ} {i : ℕ} (r : Showing q rewriting s rs d₀ d i) where
-  pub show-end : length rs / width ≤ i → d ≡ pasted d₀ 0 (showsFrom q rewriting (allSegments s rs))
+  pub show-end : segmentCount rs ≤ i → d ≡ pasted d₀ 0 (showsFrom q rewriting (allSegments s rs))
   show-end h =
       sym (pasted-nil d (5 * i)) ∙ ap (pasted d (5 * i)) (sym (ap (showsFrom q rewriting) (behind-end s rs i h) ∙ shows-none q rewriting)) ∙ r .shows
 
-  module _ (h : i < length rs / width) (room : 5 * length (allSegments s rs) ≤ length d₀) where
+  module _ (h : i < segmentCount rs) (room : 5 * length (allSegments s rs) ≤ length d₀) where
     pub show-room : 5 * i + 5 ≤ length d
     show-room = omega (arith, r .len, length-all s rs)
 
-    pub show-turn : (d′ key golden : List ℕ) (slot : ℕ) → key ≡ unitAt s rs (width * i) → golden ≡ unitAt s rs (width * i + 2)
+    pub show-turn : (d′ key golden : List ℕ) (slot : ℕ) → key ≡ keyAt s rs i → golden ≡ goldenAt s rs i
         → slot ≡ orElse 0 (judged q rewriting key golden) → d′ ≡ pasted d (5 * i) (showUnit slot) → Showing q rewriting s rs d₀ d′ (i + 1)
     show-turn d′ key golden slot is-key is-golden is put =
         let n : 5 * (i + 1) ≡ 5 * i + 5 = omega arith in
@@ -143,7 +143,7 @@ module _ {q : Sequence} {rewriting : Bool} {s rs d₀ d : List ℕ} {i : ℕ} (r
               ap₂ (λ (l : List ℕ) (m : ℕ). pasted l m rest) put n
               ∙ pasted-more d (5 * i) (showUnit slot) (omega (arith, show-room)) rest
               ∙ ap (λ (m : ℕ). pasted d (5 * i) (showUnit m ++ rest)) is
-              ∙ ap (pasted d (5 * i)) (sym (ap (showsFrom q rewriting) (behind-is s rs i h key golden is-key is-golden) ∙ shows-more q rewriting (segmentOf key golden (getD rs (width * i + 4) 0)) (behind s rs (i + 1))))
+              ∙ ap (pasted d (5 * i)) (sym (ap (showsFrom q rewriting) (behind-is s rs i h key golden is-key is-golden) ∙ shows-more q rewriting (record { key = key; golden = golden; frames = framesAt rs i }) (behind s rs (i + 1))))
               ∙ r .shows;
           len = ap length put ∙ pasted-length d (5 * i) (showUnit slot) show-room ∙ r .len;
         }

@@ -1,36 +1,25 @@
 -- The parts of assembly on the flat numbers of the segments, once their ranges are known to lie within the picture bytes. Assumes nothing.
-use Rattle.blocks.specs.Numbers.{width}
-use Prim.Native.Nat.{ℕ, zero, suc, _+_, _-_, _^_, _/_, min}
-use mathlib.Core.List.{List, [], _∷_, map}
+use Prim.Native.Nat.{ℕ, _+_, _-_, _^_, min}
+use mathlib.Core.List.{List, [], map}
 use mathlib.Core.Bool.{Bool, cond as pick}
 use mathlib.Core.Option.{Option, none, some}
-use lib.ListN.{length, getD, drop}
+use lib.ListN.{length}
 use Rattle.bitio.specs.Parse.{Answer, refused, accepted, answer, andNext}
 use Rattle.obu.specs.Obu.{Obu, obus}
-use Rattle.obu.specs.Place.{part}
 use Rattle.header.specs.Sequence.{Sequence}
-use Rattle.pictures.specs.Segments.{Segment}
-use Rattle.pictures.specs.Prepare.{isSequence, firstOf, sent, firstFrame, keyOk, goldenFlags, slotOf, Prepared}
-use Rattle.pictures.specs.Assemble.{Outcome, stopped, made, andAlso, readHeader, prepareAll, pictureOf}
+use Rattle.blocks.specs.Numbers.{records, recordsBehind}
+use Rattle.pictures.specs.Segments.{Segment, segmentIn}
+use Rattle.pictures.specs.Prepare.{isSequence, firstOf, sent, asked, Prepared}
+use Rattle.pictures.specs.Assemble.{Outcome, made, andAlso, prepareAll, pictureOf}
 
 -- ---- segments
 
--- the segment whose five numbers stand at the head of rs
-abbrev pub segmentIn : List ℕ → List ℕ → Segment
-segmentIn s rs = record { key = part s (getD rs 0 0) (getD rs 1 0); golden = part s (getD rs 2 0) (getD rs 3 0); frames = getD rs 4 0 }
-
--- k segments, whose numbers follow each other
-unfoldable pub segmentsIn : List ℕ → ℕ → List ℕ → List Segment
-segmentsIn s zero rs = []
-segmentsIn s (suc k) rs = segmentIn s rs ∷ segmentsIn s k (drop width rs)
-
--- all segments
 abbrev pub allSegments : List ℕ → List ℕ → List Segment
-allSegments s rs = segmentsIn s (length rs / width) rs
+allSegments s rs = map (segmentIn s) (records rs)
 
 -- all but the first
 abbrev pub laterSegments : List ℕ → List ℕ → List Segment
-laterSegments s rs = segmentsIn s (length rs / width - 1) (drop width rs)
+laterSegments s rs = map (segmentIn s) (recordsBehind rs 1)
 
 -- ---- the list's sequence header
 
@@ -49,11 +38,7 @@ unfoldable pub judged : Sequence → Bool → List ℕ → List ℕ → Answer �
 judged q rewriting k g =
     andNext (readable rewriting k) (λ _.
     andNext (readable rewriting g) (λ _.
-    andNext (firstFrame q k) (λ y.
-    andNext (keyOk y) (λ _.
-    andNext (firstFrame q g) (λ z.
-    andNext (goldenFlags z) (λ flags.
-    accepted (slotOf flags)))))))
+    asked q k g (λ slot. accepted slot)))
 
 -- ---- units as they go out
 

@@ -88,16 +88,21 @@ pub record Prepared : Type 0 where
   pub golden : List ℕ
   pub slot : ℕ
 
--- golden 1 to 5 if rewriting; key 28, 14, 29; golden 1 to 5, 28, 14, 30 to 33
+-- what is asked of a key and a golden, and then f of the slot: key 1 to 5, 28, 14, 29; golden 1 to 5, 28, 14, 30 to 33
+abbrev pub asked : {A : Type 0} → Sequence → (key golden : List ℕ) → (ℕ → Answer A) → Answer A
+asked q key golden f =
+    andNext (firstFrame q key) (λ y.
+    andNext (keyOk y) (λ _.
+    andNext (firstFrame q golden) (λ z.
+    andNext (goldenFlags z) (λ flags.
+    f (slotOf flags)))))
+
+-- key, then golden, 1 to 5 if rewriting; then what is asked of them
 unfoldable pub prepare : Sequence → Option (List ℕ) → Segment → Answer Prepared
 prepare q new x =
     andNext (sent new (x .key)) (λ k.
     andNext (sent new (x .golden)) (λ g.
-    andNext (firstFrame q (x .key)) (λ y.
-    andNext (keyOk y) (λ _.
-    andNext (firstFrame q (x .golden)) (λ z.
-    andNext (goldenFlags z) (λ flags.
-    accepted (record { key = k; golden = g; slot = slotOf flags })))))))
+    asked q (x .key) (x .golden) (λ slot. accepted (record { key = k; golden = g; slot = slot }))))
 
 -- ---- show units
 

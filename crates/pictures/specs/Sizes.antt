@@ -2,11 +2,9 @@
 use Prim.Native.Nat.{ℕ}
 use mathlib.Core.List.{List, [], _∷_}
 use mathlib.Core.Option.{none, some}
-use mathlib.Core.Bool.{Bool, _&&_}
-use lib.ListN.{getD}
 use Rattle.bitio.specs.Parse.{answer}
 use Rattle.pictures.specs.Assemble.{Outcome, stopped, made, overall, sizes}
-use Rattle.pictures.specs.Segments.{inside, segmentsOf}
+use Rattle.pictures.specs.Segments.{segmentsOf}
 use Rattle.pictures.specs.declared.sizes.Checked.{Checked}
 use Rattle.pictures.specs.declared.sizes.Checked.the-variants.{Fit, Refused, RefusedIn}
 
@@ -20,10 +18,6 @@ checkedSays (RefusedIn k i) = stopped k (some i)
 abbrev pub sized : ℕ → List ℕ → Outcome Unit
 sized gop [] = stopped 21 none
 sized gop (n ∷ ns) = sizes gop (n ∷ ns)
-
--- the ranges at the head of rs lie within s
-unfoldable pub rangesFit : List ℕ → List ℕ → Bool
-rangesFit s rs = inside s (getD rs 0 0) (getD rs 1 0) && inside s (getD rs 2 0) (getD rs 3 0)
 
 -- 36, or all ranges lie within s
 abbrev pub ranged : List ℕ → List ℕ → Outcome Unit

@@ -8,7 +8,8 @@ ghost use Rattle.pictures.specs.Sizes.{checkedSays};
 ghost use Rattle.pictures.specs.Code.{firstSequence, laterSegments};
 ghost use Rattle.pictures.specs.Says.{foundSays, readSays};
 use crate::sizes::Checked;
-use blocks::numbers::WIDTH;
+use blocks::numbers::key_of;
+use blocks::numbers::segment_count;
 use header::seq_header::SequenceAnswer;
 use header::seq_header::SequenceRead;
 use header::seq_header::Support;
@@ -17,7 +18,6 @@ use header::seq_header::read::read_sequence;
 use obu::reader::Obu;
 use obu::reader::ObuAt;
 use obu::reader::obu_at;
-use obu::reader::payload;
 use obu::reader::refusal;
 use obu::unit::Counted;
 use obu::unit::Kind;
@@ -111,14 +111,10 @@ fn count_same(unit: &[u8], first: &[u8]) -> Counted
 pub fn same_headers(picture: &[u8], segments: &[u64], first: &[u8]) -> Checked
     ensures { λ r. ⌜ checkedSays r ≡ sameHeaders (now (first .entry)) 1 (laterSegments (now (picture .entry)) (now (segments .entry))) ⌝ }
 {
-    let count = segments.len() / WIDTH;
+    let count = segment_count(segments);
     let mut i: usize = 1;
     while i < count {
-        let key = payload(
-            picture,
-            segments[WIDTH * i] as usize,
-            segments[WIDTH * i + 1] as usize,
-        );
+        let key = key_of(picture, segments, i);
         match count_same(key, first) {
             Counted::Refused(k) => {
                 return Checked::RefusedIn(k, i);

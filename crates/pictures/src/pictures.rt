@@ -2,10 +2,9 @@
 ghost use mathlib.Core.Path.{_≡_};
 ghost use mathlib.Core.List.{[], _∷_, _++_, flatMap};
 ghost use Prim.Native.Nat.{_+_, _*_, _≤_, _<_};
-ghost use lib.ListN.{length, getD};
+ghost use lib.ListN.{length};
 ghost use Rattle.bitio.specs.Limits.{limit};
 ghost use Rattle.bitio.specs.Lent.{pasted};
-ghost use Rattle.obu.specs.Place.{part};
 ghost use Rattle.header.specs.Sequence.{sequenceOf};
 ghost use Rattle.pictures.specs.Prepare.{showUnit};
 ghost use Rattle.pictures.specs.Assemble.{inSegment, pictureOf, endsFrom};
@@ -16,26 +15,16 @@ use crate::frames::golden_slot;
 use crate::rewrite::put_sent;
 use crate::rewrite::sent_len;
 use crate::sizes::plus;
-use blocks::numbers::WIDTH;
 use blocks::numbers::golden_of;
 use blocks::numbers::key_of;
 use blocks::numbers::segment_count;
 use header::seq_header::OperatingPoint;
 use header::seq_header::SequenceHeader;
-use obu::reader::payload;
 
 pub enum Measured {
     Bytes(usize),
     // document 01's number, and the segment from 0
     RefusedIn(u64, usize),
-}
-
-// The unit that starts and ends where the two numbers at `at` say.
-pub fn unit_at<'a, 'b>(picture: &'a [u8], segments: &'b [u64], at: usize) -> &'a [u8]
-    requires { ⌜ at + 2 ≤ length (now segments) ⌝ }
-    ensures { λ r. ⌜ now r ≡ part (now (picture .entry)) (getD (now (segments .entry)) at 0) (getD (now (segments .entry)) (at + 1) 0) ⌝ }
-{
-    payload(picture, segments[at] as usize, segments[at + 1] as usize)
 }
 
 // How many picture bytes the units of segment i have as they go out, or its first refusal.
@@ -127,12 +116,12 @@ pub fn put_pictures(
     ensures pictures { λ _. ⌜ now (pictures .exit) ≡ pasted (now (pictures .entry)) 0 (pictureOf (allSent rewriting (now (new .entry)) (allSegments (now (picture .entry)) (now (segments .entry))))) ⌝ }
     ensures ends { λ _. ⌜ now (ends .exit) ≡ pasted (now (ends .entry)) 0 (endsFrom 0 (allSent rewriting (now (new .entry)) (allSegments (now (picture .entry)) (now (segments .entry))))) ⌝ }
 {
-    let count = segments.len() / WIDTH;
+    let count = segment_count(segments);
     let mut i: usize = 0;
     let mut at: usize = 0;
     while i < count {
-        let key = unit_at(picture, segments, WIDTH * i);
-        let golden = unit_at(picture, segments, WIDTH * i + 2);
+        let key = key_of(picture, segments, i);
+        let golden = golden_of(picture, segments, i);
         at = put_units(pictures, ends, at, i, key, golden, new, rewriting);
         i = i + 1;
     }
@@ -179,11 +168,11 @@ pub fn put_shows(
     requires { ⌜ 5 * length (allSegments (now picture) (now segments)) ≤ length (now shows) ⌝ }
     ensures { λ _. ⌜ now (shows .exit) ≡ pasted (now (shows .entry)) 0 (flatMap showUnit (slotsOf (sequenceOf header points) rewriting (allSegments (now (picture .entry)) (now (segments .entry))))) ⌝ }
 {
-    let count = segments.len() / WIDTH;
+    let count = segment_count(segments);
     let mut i: usize = 0;
     while i < count {
-        let key = unit_at(picture, segments, WIDTH * i);
-        let golden = unit_at(picture, segments, WIDTH * i + 2);
+        let key = key_of(picture, segments, i);
+        let golden = golden_of(picture, segments, i);
         let slot = slot_or_zero(key, golden, header, points, rewriting);
         put_show(shows, 5 * i, slot);
         i = i + 1;

@@ -1,19 +1,17 @@
-// The frames ordered and the ranges of the segments, judged over their flat numbers: five for each segment, where its key
-// starts and ends in the picture bytes, where its golden does, and its frames.
-ghost use Rattle.blocks.specs.Numbers.{width};
+// The frames ordered and the ranges of the segments, judged over their flat numbers.
 ghost use mathlib.Core.Path.{_≡_};
 ghost use mathlib.Core.Bool.{cond as pick};
 ghost use mathlib.Core.Option.{some};
-ghost use Prim.Native.Nat.{_+_, _≤_, min};
-ghost use lib.ListN.{length, drop};
+ghost use Prim.Native.Nat.{_+_, min};
+ghost use lib.ListN.{length};
 ghost use lib.Dec.{ltb};
 ghost use Rattle.blocks.specs.Blocks.{total};
-ghost use Rattle.blocks.specs.Lay.{framesIn};
+ghost use Rattle.blocks.specs.Numbers.{framesIn};
 ghost use Rattle.pictures.specs.Assemble.{stopped, made, noneEmpty};
-ghost use Rattle.pictures.specs.Segments.{inside};
-ghost use Rattle.pictures.specs.Sizes.{checkedSays, sized, rangesFit, ranged};
-use blocks::numbers::WIDTH;
+ghost use Rattle.pictures.specs.Sizes.{checkedSays, sized, ranged};
 use blocks::numbers::frames_of;
+use blocks::numbers::is_whole;
+use blocks::numbers::is_within;
 use blocks::numbers::segment_count;
 
 pub enum Checked {
@@ -52,10 +50,10 @@ pub fn total_frames(segments: &[u64]) -> u64
 fn first_empty(segments: &[u64]) -> usize
     ensures { λ r. ⌜ noneEmpty 0 (framesIn (now (segments .entry))) ≡ pick (ltb r (length (framesIn (now (segments .entry))))) (stopped 24 (some r)) (made tt) ⌝ }
 {
-    let count = segments.len() / WIDTH;
+    let count = segment_count(segments);
     let mut i: usize = 0;
     while i < count {
-        if segments[WIDTH * i + 4] == 0 {
+        if frames_of(segments, i) == 0 {
             return i;
         }
         i = i + 1;
@@ -67,7 +65,7 @@ fn first_empty(segments: &[u64]) -> usize
 pub fn check_sizes(gop: u64, segments: &[u64]) -> Checked
     ensures { λ r. ⌜ checkedSays r ≡ sized gop (framesIn (now (segments .entry))) ⌝ }
 {
-    let count = segments.len() / WIDTH;
+    let count = segment_count(segments);
     if count == 0 {
         return Checked::Refused(21);
     }
@@ -88,34 +86,17 @@ pub fn check_sizes(gop: u64, segments: &[u64]) -> Checked
     Checked::Fit
 }
 
-// Whether the bytes from a to e lie within the picture bytes.
-fn is_inside(picture: &[u8], a: u64, e: u64) -> bool
-    ensures { λ r. ⌜ r ≡ inside (now (picture .entry)) a e ⌝ }
-{
-    (a <= e) & (e <= picture.len() as u64)
-}
-
-// Whether both ranges of the segment whose numbers start at `at` lie within the picture bytes.
-fn ranges_fit(picture: &[u8], segments: &[u64], at: usize) -> bool
-    requires { ⌜ at + width ≤ length (now segments) ⌝ }
-    ensures { λ r. ⌜ r ≡ rangesFit (now (picture .entry)) (drop at (now (segments .entry))) ⌝ }
-{
-    let key = is_inside(picture, segments[at], segments[at + 1]);
-    let golden = is_inside(picture, segments[at + 2], segments[at + 3]);
-    key & golden
-}
-
 // 36: numbers that are no whole record, or a range not within the picture bytes.
 pub fn check_ranges(picture: &[u8], segments: &[u64]) -> Checked
     ensures { λ r. ⌜ checkedSays r ≡ ranged (now (picture .entry)) (now (segments .entry)) ⌝ }
 {
-    if segments.len() % WIDTH != 0 {
+    if !is_whole(segments) {
         return Checked::Refused(36);
     }
-    let count = segments.len() / WIDTH;
+    let count = segment_count(segments);
     let mut i: usize = 0;
     while i < count {
-        if !ranges_fit(picture, segments, WIDTH * i) {
+        if !is_within(picture, segments, i) {
             return Checked::Refused(36);
         }
         i = i + 1;

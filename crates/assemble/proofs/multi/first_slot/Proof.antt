@@ -7,11 +7,11 @@ use Rattle.pictures.specs.Code.{judged, orElse}
 use Rattle.assemble.proofs.multi.first_slot.Statement.{statement}
 use Rattle.assemble.proofs.multi.first_slot.Tie as tie
 
-unit-at-requires : tie.Need-unit-at-requires
-unit-at-requires c κs = search needs
+key-of-requires : tie.Need-key-of-requires
+key-of-requires c κs = search needs
 
-unit-at-requires-2 : tie.Need-unit-at-requires-2
-unit-at-requires-2 c κs = search needs
+golden-of-requires : tie.Need-golden-of-requires
+golden-of-requires c κs = search needs
 
 slot-or-zero-requires : tie.Need-slot-or-zero-requires
 slot-or-zero-requires c κs = search needs
@@ -20,7 +20,7 @@ returns : tie.Need-returns
 returns g =
     let a = g .before .before .before .before .before .before .args in
     g .slot-or-zero .ensures
-    ∙ ap (orElse 0) (ap₂ (λ (k l : List ℕ). judged (sequenceOf (a .basis .header) (a .points)) (a .basis .rewriting) k l) (g .before .before .before .unit-at .ensures) (g .before .before .unit-at2 .ensures))
+    ∙ ap (orElse 0) (ap₂ (λ (k l : List ℕ). judged (sequenceOf (a .basis .header) (a .points)) (a .basis .rewriting) k l) (g .before .before .before .key-of .ensures) (g .before .before .golden-of .ensures))
 
 pub first-slot-spec : {M : Type 1} → statement M
-first-slot-spec = tie.close (tie.spec unit-at-requires unit-at-requires-2 slot-or-zero-requires returns)
+first-slot-spec = tie.close (tie.spec key-of-requires golden-of-requires slot-or-zero-requires returns)

@@ -43,8 +43,8 @@ no-plan-requires-2 c κs = search needs
 enum-told : tie.Need-enum-told
 enum-told c = search needs
 
-unit-at-requires : tie.Need-unit-at-requires
-unit-at-requires c κs = omega (arith, sound c .some-there)
+key-of-requires : tie.Need-key-of-requires
+key-of-requires c κs = omega (arith, sound c .some-there)
 
 first-sequence-requires : tie.Need-first-sequence-requires
 first-sequence-requires c κs = search needs
@@ -64,7 +64,7 @@ enum-known-obu c = search needs
 plan-header-requires : tie.Need-plan-header-requires
 plan-header-requires c κs =
     let f = c .before .before .before in
-    (omega (arith, sound (f .before .before) .some-there), found-type _ _ (sym (ap (foundSays (now (f .before .unit-at .result))) (c .before .obu .given .1)) ∙ f .first-sequence .ensures))
+    (omega (arith, sound (f .before .before) .some-there), found-type _ _ (sym (ap (foundSays (now (f .before .key-of .result))) (c .before .obu .given .1)) ∙ f .first-sequence .ensures))
 
 returns : tie.Need-returns
 returns c =
@@ -92,7 +92,7 @@ returns-3 c =
     let set = a .settings in
     let f = c .before .before .before .before in
     says-refused-in s rs _ _ _ (c .no-plan3 .ensures)
-    ∙ plan-unfound s rs set (fit (f .before .before)) _ (sym (ap (foundSays (now (f .before .unit-at .result))) (c .before .before .k3 .given .1)) ∙ f .first-sequence .ensures ∙ ap firstSequence (f .before .unit-at .ensures))
+    ∙ plan-unfound s rs set (fit (f .before .before)) _ (sym (ap (foundSays (now (f .before .key-of .result))) (c .before .before .k3 .given .1)) ∙ f .first-sequence .ensures ∙ ap firstSequence (f .before .key-of .ensures))
 
 returns-4 : tie.Need-returns-4
 returns-4 c =
@@ -101,7 +101,7 @@ returns-4 c =
     let rs = now (a .segments) in
     let set = a .settings in
     let f = c .before .before .before .before in
-    let u = f .before .unit-at .ensures in
+    let u = f .before .key-of .ensures in
     c .plan-header .ensures
     ∙ plan-found s rs set (fit (f .before .before)) _ (found-at _ _ _ _ (c .before .before .obu .given .1) (f .first-sequence .ensures) u)
 
@@ -117,7 +117,7 @@ plan-multi-spec =
     cast-t13
     no-plan-requires-2
     enum-told
-    unit-at-requires
+    key-of-requires
     first-sequence-requires
     enum-known-k-3
     cast-t18

@@ -3,7 +3,7 @@ use borrow.Author.Needs.{needs}
 use mathlib.Core.Path.{refl, sym, ap, _∙_}
 use denote.Ref.{now}
 use Rattle.header.specs.Sequence.{sequenceOf, sequenceSays}
-use Rattle.assemble.specs.Stages.{rateOf, firstKey}
+use Rattle.blocks.specs.Numbers.{headKey}
 use Rattle.pictures.specs.Rewrite.{obuIn}
 use Rattle.assemble.proofs.PlanLaws.{timing-there, timing-new, header-own, never-refused, timed-whole, timed-emits}
 use Rattle.assemble.proofs.plan.plan_timing.Statement.{statement}
@@ -18,7 +18,7 @@ returns c =
     let s = now (a .picture) in
     let rs = now (a .segments) in
     c .plan-pictures .ensures
-    ∙ timing-there s rs (rateOf (a .fps) (a .fps-den)) (obuIn (firstKey s rs) (a .obu)) (sequenceOf (a .header) (a .points)) _ _ (c .before .if1 .taken)
+    ∙ timing-there s rs (a .settings) (obuIn (headKey s rs) (a .obu)) (sequenceOf (a .header) (a .points)) _ _ (c .before .if1 .taken)
     (header-own s rs _ _ (a .obu) (c .before .before .before .before .pre .0) refl refl refl refl)
 
 with-timing-info-rate-requires : tie.Need-with-timing-info-rate-requires
@@ -38,14 +38,14 @@ plan-renewed-requires c κs =
     let m = c .before .before .before in
     let z = m .before .before .before .before in
     let a = z .args in
-    timed-emits (a .header) (a .points) (a .fps) (a .fps-den) (z .pre .1) _ (sym (ap sequenceSays (c .before .timed .given .1)) ∙ m .with-timing-info-rate .ensures)
-    (omega (arith, z .fits .fps)) (omega (arith, z .fits .fps-den))
+    timed-emits (a .header) (a .points) (a .settings) (z .pre .1) _ (sym (ap sequenceSays (c .before .timed .given .1)) ∙ m .with-timing-info-rate .ensures)
+    (omega (arith, z .good .1 .1 .1 .1 .1 .0)) (omega (arith, z .good .1 .1 .1 .1 .1 .0))
 
 returns-2 : tie.Need-returns-2
 returns-2 c =
     let m = c .before .before .before .before in
     let a = m .before .before .before .before .args in
-    never-refused (a .header) (a .points) (a .fps) (a .fps-den) (m .before .before .before .before .pre .1) _ (sym (ap sequenceSays (c .before .before .k .given .1)) ∙ m .with-timing-info-rate .ensures)
+    never-refused (a .header) (a .points) (a .settings) (m .before .before .before .before .pre .1) _ (sym (ap sequenceSays (c .before .before .k .given .1)) ∙ m .with-timing-info-rate .ensures)
 
 returns-3 : tie.Need-returns-3
 returns-3 c =
@@ -56,8 +56,8 @@ returns-3 c =
     let rs = now (a .segments) in
     let t = sym (ap sequenceSays (c .before .before .timed .given .1)) ∙ m .with-timing-info-rate .ensures in
     c .plan-renewed .ensures
-    ∙ timing-new s rs (rateOf (a .fps) (a .fps-den)) (obuIn (firstKey s rs) (a .obu)) (sequenceOf (a .header) (a .points)) _ (m .before .if1 .left)
-    (timed-whole (a .header) (a .points) (a .fps) (a .fps-den) (z .pre .1) _ t)
+    ∙ timing-new s rs (a .settings) (obuIn (headKey s rs) (a .obu)) (sequenceOf (a .header) (a .points)) _ (m .before .if1 .left)
+    (timed-whole (a .header) (a .points) (a .settings) (z .pre .1) _ t)
 
 pub plan-timing-spec : {M : Type 1} → statement M
 plan-timing-spec =

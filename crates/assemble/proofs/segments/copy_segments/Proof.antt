@@ -2,7 +2,7 @@
 -- The slice of segments is looked into once, before the loop, and shut after it. In a turn one segment is copied out, the numbers are lent again for a lifetime of the call, and come back as `put_numbers` ensures.
 -- The loop's state is the index, the place and the numbers, with what is known of them; its measure is what is left. Assumes nothing.
 use mathlib.Core.Path.{_≡_, refl, sym, ap, subst}
-use Prim.Native.Nat.{ℕ, _+_, _-_, _*_, _<_, _≤_, _^_}
+use Prim.Native.Nat.{ℕ, _+_, _-_, _*_, _<_, _^_}
 use native.Mathlib.Nat.{lt-of-le-of-lt}
 use native.Mathlib.Numerals.{add-one-le, add-one-dec}
 use native.Mathlib.Omega.{arith}
@@ -52,7 +52,8 @@ use denote.Triple.Table.{entered, cited}
 use denote.Triple.Walked.{says, Stays, stay-none-slice, stay-slice, walkOf, goes-none-slice, goes-slice, Walks, ends-at, walked, walk-meets}
 use denote.Exit.{yes}
 use Rattle.bitio.specs.Lent.{pasted}
-use Rattle.assemble.specs.Records.{fiveOf, copyCount, numbersAfter}
+use Rattle.blocks.specs.Numbers.{width, segmentCount}
+use Rattle.assemble.specs.Records.{recordIn, copyCount, numbersAfter}
 use Rattle.assemble.specs.declared.segments.Segment.{Segment}
 use Rattle.assemble.proofs.RecordLaws.{noSegment, Copying, copy-start, copy-end, copy-less, copy-room, copy-turn}
 use Rattle.assemble.proofs.Relend.{LentAgain, lends-again, comes-back}
@@ -168,13 +169,13 @@ module _ {M : Type 1} (𝓤 : URA M) (H : Heap 𝓤) (A : Atoms 𝓤) (W : Given
   abbrev to-put : ℕ → Segment → List ℕ → ℕ → GName → Put 𝓤 H A mem run .Ghost
   to-put m s zs ν δ = (((ν ∷ [], tt), (fullShare, tt), tt, args m s zs δ, (vint w64 m ∷ [], (vals s, (sv zs, tt)))), tt)
 
-  goes-put : (m : ℕ) (s : Segment) (zs : List ℕ) (ν : ℕ) (δ : GName) → m < 2 ^ 64 → Is T.the-row s (vals s) → m + 5 ≤ length zs
+  goes-put : (m : ℕ) (s : Segment) (zs : List ℕ) (ν : ℕ) (δ : GName) → m < 2 ^ 64 → Is T.the-row s (vals s) → m < segmentCount zs
       → ent 𝓤 (sep 𝓤 (A .lft (ν ∷ []) fullShare) (sem 𝓤 H A (MutSlice (named 0) (ν ∷ []) u64 .own (x′ δ zs) (sv zs)))) (Put 𝓤 H A mem run .pre (to-put m s zs ν δ))
   goes-put m s zs ν δ fits is fit =
       qed W (‵ (flft (ν ∷ []) fullShare) ∷ ‵ (MutSlice (named 0) (ν ∷ []) u64 .own (x′ δ zs) (sv zs)) ∷ []) ∵ says ! fit $ nothing ! $ move ! (1 ∷ 0 ∷ []) $ join ! $ frame ! $
       nothing ! $ move ! (1 ∷ 0 ∷ []) $ fjoin ! $ owned ! T.the-row (Is T.the-row) ((LL.makes T.the-type T′.the-plain) 𝓤 H A) s _ is $ fjoin ! $ owned ! usize (Is usize) (uint-makes 𝓤 H A W w64) m _ (refl, fits) $ fjoin ! $ done !
 
-  -- the loop's state: the index, the place of the next number, the numbers, and what is known of them
+  -- the loop's state: the index, the next record, the numbers, and what is known of them
   pub record State : Type 0 where
     pub i : ℕ
     pub to : ℕ
@@ -212,7 +213,7 @@ module _ {M : Type 1} (𝓤 : URA M) (H : Heap 𝓤) (A : Atoms 𝓤) (W : Given
 
     -- what `put_numbers` ensures of its result r and its last list zs
     abbrev Says : State → ℕ → List ℕ → Type 0
-    Says s r zs = (r ≡ s .to + 5) × (zs ≡ pasted (s .zs) (s .to) (fiveOf (getD ys (s .i) noSegment)))
+    Says s r zs = (r ≡ s .to + 1) × (zs ≡ pasted (s .zs) (width * s .to) (recordIn (getD ys (s .i) noSegment)))
 
     -- the state after one more segment
     abbrev next : (s : State) (r : ℕ) (zs : List ℕ) → s .i < end → r < 2 ^ 64 → Says s r zs → State

@@ -1,11 +1,10 @@
--- `assemble::blocks::put_list` meets its contract. Assumes nothing.
-use Rattle.blocks.specs.Numbers.{width}
+-- `blocks::blocks::put_list` meets its contract. Assumes nothing.
 use borrow.Author.Needs.{needs}
 use native.Mathlib.Omega.{arith}
-use Prim.Native.Nat.{_-_, _/_}
-use lib.ListN.{length}
-use denote.Ref.{now}
 use Rattle.blocks.proofs.ListLaws.{Listing, list-start, list-end, list-room, list-small, list-turn}
+use Rattle.blocks.specs.Numbers.{segmentCount}
+use denote.Ref.{now}
+use Prim.Native.Nat.{_-_}
 use Rattle.blocks.proofs.blocks.put_list.Statement.{statement}
 use Rattle.blocks.proofs.blocks.put_list.Tie as tie
 
@@ -13,34 +12,29 @@ abbrev Inv-loop : tie.InvT-loop
 Inv-loop list₀ cues₀ gop segments count i₀ at₀ c₀ list cues i at c = Listing list₀ cues₀ gop segments list cues i at c
 
 abbrev μ-loop : tie.MeasureT-loop
-μ-loop list₀ cues₀ gop segments count i₀ at₀ c₀ list cues i at c = length segments / width - i
+μ-loop list₀ cues₀ gop segments count i₀ at₀ c₀ list cues i at c = segmentCount segments - i
+
+segment-count-requires : tie.Need-segment-count-requires Inv-loop μ-loop
+segment-count-requires c κs = search needs
 
 loop-holds : tie.Need-loop-holds Inv-loop μ-loop
-loop-holds c = let s = c .before .before .before in list-start (now (s .args .list)) (now (s .args .cues)) (s .args .gop) (now (s .args .segments)) (s .pre)
+loop-holds c = let s = c .before .before .before .before in list-start (now (s .args .list)) (now (s .args .cues)) (s .args .gop) (now (s .args .segments)) (s .pre)
 
-mul-frames : tie.Need-mul-frames Inv-loop μ-loop
-mul-frames c = search needs
-
-add-frames : tie.Need-add-frames Inv-loop μ-loop
-add-frames c = search needs
-
-mul-frames-2 : tie.Need-mul-frames-2 Inv-loop μ-loop
-mul-frames-2 c = search needs
-
-shared-slice-read-frames : tie.Need-shared-slice-read-frames Inv-loop μ-loop
-shared-slice-read-frames c = search needs
+frames-of-requires : tie.Need-frames-of-requires Inv-loop μ-loop
+frames-of-requires c κs = search needs
 
 cast-put-segment : tie.Need-cast-put-segment Inv-loop μ-loop
-cast-put-segment c = omega (arith, c .before .before .before .loop-test .taken, c .before .before .before .before .before .before .before .before .pre .segments)
+cast-put-segment c = omega (arith, c .before .before .before .before .before .before .before .before .before .pre .segments)
 
 put-segment-requires : tie.Need-put-segment-requires Inv-loop μ-loop
 put-segment-requires c κs =
-    let g = c .before .before .before .before .before .before .before .before .pre in
-    let h = c .before .before .before .loop-test .taken in
-    (list-room (c .before .before .before .before .loop .inv) h, (g .gop-size, omega (arith, h, g .segments)))
+    let g = c .before .before .before .before .before .before .before .before .before .pre in
+    (rw (c .before .before .frames-of .ensures) (list-room (c .before .before .before .before .loop .inv) (omega arith)), (g .gop-size, omega (arith, g .segments)))
 
 add-at : tie.Need-add-at Inv-loop μ-loop
-add-at c = omega (arith, list-small (c .before .before .before .before .before .before .before .before .before .loop .inv) (c .before .before .before .before .before .before .before .before .loop-test .taken) (c .before .before .before .before .before .before .before .before .before .before .before .before .before .pre .gop-size))
+add-at c =
+    let g = c .before .before .before .before .before .before .before .before .before .before .before .before .before .before .pre in
+    omega (arith, list-small (c .before .before .before .before .before .before .before .before .before .loop .inv) (omega arith) (g .gop-size), c .before .before .before .before .before .before .before .frames-of .ensures)
 
 add-i : tie.Need-add-i Inv-loop μ-loop
 add-i c = search needs
@@ -49,7 +43,10 @@ loop-less : tie.Need-loop-less Inv-loop μ-loop
 loop-less c = search needs
 
 loop-again : tie.Need-loop-again Inv-loop μ-loop
-loop-again c = list-turn (c .before .before .before .before .before .before .before .before .before .loop .inv) (c .before .before .before .before .before .before .before .before .loop-test .taken) (c .before .before .before .before .before .before .before .before .before .before .before .before .before .pre .gop-size) _ _ _ (c .before .before .before .before .put-segment .ensures)
+loop-again c =
+    let g = c .before .before .before .before .before .before .before .before .before .before .before .before .before .before .pre in
+    let e = c .before .before .before .before .before .before .before .frames-of .ensures in
+    rw e (list-turn (c .before .before .before .before .before .before .before .before .before .loop .inv) (omega arith) (g .gop-size) _ _ _ (rw e at (c .before .before .before .before .put-segment .ensures)))
 
 same-length : tie.Need-same-length Inv-loop μ-loop
 same-length c = c .before .loop .inv .laying .list-len
@@ -58,7 +55,7 @@ same-length-2 : tie.Need-same-length-2 Inv-loop μ-loop
 same-length-2 c = c .before .loop .inv .laying .cues-len
 
 returns : tie.Need-returns Inv-loop μ-loop
-returns c = list-end (c .before .loop .inv) (c .loop-test .left)
+returns c = list-end (c .before .loop .inv) (omega arith)
 
 pub put-list-spec : {M : Type 1} → statement M
 put-list-spec =
@@ -66,11 +63,9 @@ put-list-spec =
     (tie.spec
     Inv-loop
     μ-loop
+    segment-count-requires
     loop-holds
-    mul-frames
-    add-frames
-    mul-frames-2
-    shared-slice-read-frames
+    frames-of-requires
     cast-put-segment
     put-segment-requires
     add-at

@@ -3,6 +3,7 @@ use borrow.Author.Needs.{needs}
 use denote.Ref.{now}
 use Prim.Native.Nat.{_*_}
 use mathlib.Core.Path.{sym, ap, _∙_}
+use Rattle.blocks.specs.Numbers.{width}
 use Rattle.assemble.specs.Whole.{assembledSays, six, outcome}
 use Rattle.boardlist.specs.Printed.{settingsOf, between}
 use Rattle.boardlist.proofs.MadeLaws.{outcome-held}
@@ -41,7 +42,7 @@ put-made-requires : tie.Need-put-made-requires
 put-made-requires c κs =
     let a = c .before .before .before .before .before .before .before .before .before .before .before .before .before .before .before .before .before .before .before .before .before .before .before .before .before .before .before .before .before .before .before .before .before .before .before .before .before .before .before .args in
     let e = c .before .before .before .before .before .before .before .before .before .before .before .before .before .before .before .before .before .before .before .before .assemble-multi .ensures in
-    let m = made-is (outcome (between (a .layout .start) (a .layout .end) (now (a .file))) (between 0 (5 * a .layout .segments) (now (a .numbers))) (settingsOf (a .layout))) _ (six (a .list) (a .cues) (a .pictures) (a .ends) (a .shows) (a .header)) _ (outcome-held (between (a .layout .start) (a .layout .end) (now (a .file))) (between 0 (5 * a .layout .segments) (now (a .numbers))) (settingsOf (a .layout)) (six (a .list) (a .cues) (a .pictures) (a .ends) (a .shows) (a .header))) (rw (c .before .before .before .before .before .before .made .given .1) at e) in
+    let m = made-is (outcome (between (a .layout .start) (a .layout .end) (now (a .file))) (between 0 (width * a .layout .segments) (now (a .numbers))) (settingsOf (a .layout))) _ (six (a .list) (a .cues) (a .pictures) (a .ends) (a .shows) (a .header)) _ (outcome-held (between (a .layout .start) (a .layout .end) (now (a .file))) (between 0 (width * a .layout .segments) (now (a .numbers))) (settingsOf (a .layout)) (six (a .list) (a .cues) (a .pictures) (a .ends) (a .shows) (a .header))) (rw (c .before .before .before .before .before .before .made .given .1) at e) in
     m .0
 
 enum-known-made-2 : tie.Need-enum-known-made-2
@@ -81,7 +82,7 @@ returns : tie.Need-returns
 returns c =
     let a = c .before .before .before .before .before .before .before .before .before .before .before .before .before .before .before .before .before .before .before .before .before .before .before .before .before .before .before .before .before .before .before .before .before .before .before .before .before .before .before .before .before .before .args in
     let e = c .before .before .before .before .before .before .before .before .before .before .before .before .before .before .before .before .before .before .before .before .before .before .before .assemble-multi .ensures in
-    let m = made-is (outcome (between (a .layout .start) (a .layout .end) (now (a .file))) (between 0 (5 * a .layout .segments) (now (a .numbers))) (settingsOf (a .layout))) _ (six (a .list) (a .cues) (a .pictures) (a .ends) (a .shows) (a .header)) _ (outcome-held (between (a .layout .start) (a .layout .end) (now (a .file))) (between 0 (5 * a .layout .segments) (now (a .numbers))) (settingsOf (a .layout)) (six (a .list) (a .cues) (a .pictures) (a .ends) (a .shows) (a .header))) (rw (c .before .before .before .before .before .before .before .before .before .made .given .1) at e) in
+    let m = made-is (outcome (between (a .layout .start) (a .layout .end) (now (a .file))) (between 0 (width * a .layout .segments) (now (a .numbers))) (settingsOf (a .layout))) _ (six (a .list) (a .cues) (a .pictures) (a .ends) (a .shows) (a .header)) _ (outcome-held (between (a .layout .start) (a .layout .end) (now (a .file))) (between 0 (width * a .layout .segments) (now (a .numbers))) (settingsOf (a .layout)) (six (a .list) (a .cues) (a .pictures) (a .ends) (a .shows) (a .header))) (rw (c .before .before .before .before .before .before .before .before .before .made .given .1) at e) in
     retold (now (a .out)) (m .1) (c .before .before .put-made .ensures)
 
 same-length-8 : tie.Need-same-length-8
@@ -109,7 +110,7 @@ returns-2 : tie.Need-returns-2
 returns-2 c =
     let a = c .before .before .before .before .before .before .before .before .before .before .before .before .before .before .before .before .before .before .before .before .before .before .before .before .before .before .before .before .before .before .before .before .before .before .before .before .before .before .args in
     let e = c .before .before .before .before .before .before .before .before .before .before .before .before .before .before .before .before .before .before .before .assemble-multi .ensures in
-    retold (now (a .out)) (refused-is (outcome (between (a .layout .start) (a .layout .end) (now (a .file))) (between 0 (5 * a .layout .segments) (now (a .numbers))) (settingsOf (a .layout)) (six (a .list) (a .cues) (a .pictures) (a .ends) (a .shows) (a .header))) _ (sym (ap assembledSays (c .before .before .before .before .before .made2 .given .1)) ∙ e .answer)) (c .before .before .put-refused .ensures)
+    retold (now (a .out)) (refused-is (outcome (between (a .layout .start) (a .layout .end) (now (a .file))) (between 0 (width * a .layout .segments) (now (a .numbers))) (settingsOf (a .layout)) (six (a .list) (a .cues) (a .pictures) (a .ends) (a .shows) (a .header))) _ (sym (ap assembledSays (c .before .before .before .before .before .made2 .given .1)) ∙ e .answer)) (c .before .before .put-refused .ensures)
 
 same-length-15 : tie.Need-same-length-15
 same-length-15 c = search needs
@@ -136,7 +137,7 @@ returns-3 : tie.Need-returns-3
 returns-3 c =
     let a = c .before .before .before .before .before .before .before .before .before .before .before .before .before .before .before .before .before .before .before .before .before .before .before .before .before .before .before .before .before .before .before .before .before .before .before .before .before .before .args in
     let e = c .before .before .before .before .before .before .before .before .before .before .before .before .before .before .before .before .before .before .before .assemble-multi .ensures in
-    retold (now (a .out)) (refused-in-is (outcome (between (a .layout .start) (a .layout .end) (now (a .file))) (between 0 (5 * a .layout .segments) (now (a .numbers))) (settingsOf (a .layout)) (six (a .list) (a .cues) (a .pictures) (a .ends) (a .shows) (a .header))) _ _ (sym (ap assembledSays (c .before .before .before .before .before .made3 .given .1)) ∙ e .answer)) (c .before .before .put-refused-in .ensures)
+    retold (now (a .out)) (refused-in-is (outcome (between (a .layout .start) (a .layout .end) (now (a .file))) (between 0 (width * a .layout .segments) (now (a .numbers))) (settingsOf (a .layout)) (six (a .list) (a .cues) (a .pictures) (a .ends) (a .shows) (a .header))) _ _ (sym (ap assembledSays (c .before .before .before .before .before .made3 .given .1)) ∙ e .answer)) (c .before .before .put-refused-in .ensures)
 
 pub put-assembly-spec : {M : Type 1} → statement M
 put-assembly-spec =

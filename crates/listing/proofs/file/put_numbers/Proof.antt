@@ -18,9 +18,6 @@ loop-holds c = numbering-start _ _ _ _
 mul-put-segment : tie.Need-mul-put-segment Inv-loop μ-loop
 mul-put-segment c = omega (arith, c .before .before .before .before .before .pre .0 .there, c .before .before .before .before .before .pre .0 .small)
 
-mul-put-segment-2 : tie.Need-mul-put-segment-2 Inv-loop μ-loop
-mul-put-segment-2 c = omega (arith, c .before .before .before .before .before .pre .0 .there, c .before .before .before .before .before .pre .0 .small)
-
 add-put-segment : tie.Need-add-put-segment Inv-loop μ-loop
 add-put-segment c = omega (arith, c .before .before .before .before .before .pre .0 .there, c .before .before .before .before .before .pre .0 .small)
 
@@ -55,7 +52,6 @@ put-numbers-spec =
     μ-loop
     loop-holds
     mul-put-segment
-    mul-put-segment-2
     add-put-segment
     put-segment-requires
     add-i

@@ -1,7 +1,9 @@
 -- `listing::file::put_segment` meets its contract. Assumes nothing.
 use borrow.Author.Needs.{needs}
 use native.Mathlib.Omega.{arith}
+use Prim.Native.Nat.{_*_}
 use denote.Ref.{now}
+use Rattle.blocks.specs.Numbers.{width}
 use Rattle.listing.proofs.NumberLaws.{segment-put}
 use Rattle.listing.proofs.file.put_segment.Statement.{statement}
 use Rattle.listing.proofs.file.put_segment.Tie as tie
@@ -27,8 +29,8 @@ add-number-2 c = search needs
 number-requires-3 : tie.Need-number-requires-3
 number-requires-3 c κs = search needs
 
-put-five-requires : tie.Need-put-five-requires
-put-five-requires c κs = search needs
+put-record-requires : tie.Need-put-record-requires
+put-record-requires c κs = search needs
 
 same-length : tie.Need-same-length
 same-length c = search needs
@@ -38,7 +40,7 @@ returns c =
     let k = c .before .before .before .before .before .before .number .ensures in
     let g = c .before .before .before .before .before .number2 .ensures in
     let f = c .before .before .before .before .number3 .ensures in
-    ((omega (arith, k .0, g .0), omega (arith, k .1, g .1)), segment-put (now (c .before .before .before .before .before .before .before .before .before .args .file)) (now (c .before .before .before .before .before .before .before .before .before .args .numbers)) (c .before .before .before .before .before .before .before .before .before .args .to) (c .before .before .before .before .before .before .before .before .before .args .from) (c .before .before .before .before .before .before .before .before .before .args .start) (k .0) (g .0) (f .0) (c .before .before .put-five .ensures))
+    ((omega (arith, k .0, g .0), omega (arith, k .1, g .1)), segment-put (now (c .before .before .before .before .before .before .before .before .before .args .file)) (now (c .before .before .before .before .before .before .before .before .before .args .numbers)) (width * c .before .before .before .before .before .before .before .before .before .args .i) (c .before .before .before .before .before .before .before .before .before .args .from) (c .before .before .before .before .before .before .before .before .before .args .start) (k .0) (g .0) (f .0) (c .before .before .put-record .ensures))
 
 pub put-segment-spec : {M : Type 1} → statement M
 put-segment-spec =
@@ -51,6 +53,6 @@ put-segment-spec =
     add-golden
     add-number-2
     number-requires-3
-    put-five-requires
+    put-record-requires
     same-length
     returns)

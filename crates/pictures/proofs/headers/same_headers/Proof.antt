@@ -1,12 +1,12 @@
--- `assemble::headers::same_headers` meets its contract. Assumes nothing.
-use Rattle.blocks.specs.Numbers.{width}
+-- `pictures::headers::same_headers` meets its contract. Assumes nothing.
 use borrow.Author.Needs.{needs}
-use mathlib.Core.Path.{sym, ap, _∙_}
-use Prim.Native.Nat.{_-_, _/_}
-use lib.ListN.{length}
+use native.Mathlib.Omega.{arith}
 use Rattle.obu.specs.Unit.{countedSays}
 use Rattle.pictures.proofs.FrameLaws.{legible}
 use Rattle.pictures.proofs.SameLaws.{Agree, agree-start, agree-refused, agree-turn, agree-end}
+use mathlib.Core.Path.{sym, ap, _∙_}
+use Prim.Native.Nat.{_-_}
+use Rattle.blocks.specs.Numbers.{segmentCount}
 use Rattle.pictures.proofs.headers.same_headers.Statement.{statement}
 use Rattle.pictures.proofs.headers.same_headers.Tie as tie
 
@@ -14,34 +14,16 @@ abbrev Inv-loop : tie.InvT-loop
 Inv-loop picture segments first count i₀ i = Agree first picture segments i
 
 abbrev μ-loop : tie.MeasureT-loop
-μ-loop picture segments first count i₀ i = length segments / width - i
+μ-loop picture segments first count i₀ i = segmentCount segments - i
+
+segment-count-requires : tie.Need-segment-count-requires Inv-loop μ-loop
+segment-count-requires c κs = search needs
 
 loop-holds : tie.Need-loop-holds Inv-loop μ-loop
 loop-holds c = agree-start _ _ _
 
-mul-payload : tie.Need-mul-payload Inv-loop μ-loop
-mul-payload c = search needs
-
-mul-payload-2 : tie.Need-mul-payload-2 Inv-loop μ-loop
-mul-payload-2 c = search needs
-
-shared-slice-read-payload : tie.Need-shared-slice-read-payload Inv-loop μ-loop
-shared-slice-read-payload c = search needs
-
-mul-payload-3 : tie.Need-mul-payload-3 Inv-loop μ-loop
-mul-payload-3 c = search needs
-
-add-payload : tie.Need-add-payload Inv-loop μ-loop
-add-payload c = search needs
-
-mul-payload-4 : tie.Need-mul-payload-4 Inv-loop μ-loop
-mul-payload-4 c = search needs
-
-shared-slice-read-payload-2 : tie.Need-shared-slice-read-payload-2 Inv-loop μ-loop
-shared-slice-read-payload-2 c = search needs
-
-payload-requires : tie.Need-payload-requires Inv-loop μ-loop
-payload-requires c κs = search needs
+key-of-requires : tie.Need-key-of-requires Inv-loop μ-loop
+key-of-requires c κs = search needs
 
 count-same-requires : tie.Need-count-same-requires Inv-loop μ-loop
 count-same-requires c κs = search needs
@@ -53,8 +35,7 @@ returns : tie.Need-returns Inv-loop μ-loop
 returns c =
     let k = c .before in
     let r = k .before .before in
-    let t = r .before .before .before .before in
-    agree-refused (t .before .loop .inv) (t .loop-test .taken) _ (r .before .payload .ensures) _ (sym (r .count-same .ensures) ∙ ap (λ y. legible (countedSays y)) (k .k .given .1))
+    agree-refused (r .before .before .before .loop .inv) (omega arith) _ (r .before .key-of .ensures) _ (sym (r .count-same .ensures) ∙ ap (λ y. legible (countedSays y)) (k .k .given .1))
 
 enum-told : tie.Need-enum-told Inv-loop μ-loop
 enum-told c = search needs
@@ -68,11 +49,10 @@ loop-less c = search needs
 loop-again : tie.Need-loop-again Inv-loop μ-loop
 loop-again c =
     let r = c .before .before in
-    let t = r .before .before .before .before in
-    agree-turn (t .before .loop .inv) (t .loop-test .taken) _ (r .before .payload .ensures) (sym (r .count-same .ensures) ∙ ap (λ y. legible (countedSays y)) (c .enum-told .given .1))
+    agree-turn (r .before .before .before .loop .inv) (omega arith) _ (r .before .key-of .ensures) (sym (r .count-same .ensures) ∙ ap (λ y. legible (countedSays y)) (c .enum-told .given .1))
 
 returns-2 : tie.Need-returns-2 Inv-loop μ-loop
-returns-2 c = agree-end (c .before .loop .inv) (c .loop-test .left)
+returns-2 c = agree-end (c .before .loop .inv) (omega arith)
 
 pub same-headers-spec : {M : Type 1} → statement M
 same-headers-spec =
@@ -80,15 +60,9 @@ same-headers-spec =
     (tie.spec
     Inv-loop
     μ-loop
+    segment-count-requires
     loop-holds
-    mul-payload
-    mul-payload-2
-    shared-slice-read-payload
-    mul-payload-3
-    add-payload
-    mul-payload-4
-    shared-slice-read-payload-2
-    payload-requires
+    key-of-requires
     count-same-requires
     enum-known-k
     returns

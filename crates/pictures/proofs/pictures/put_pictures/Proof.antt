@@ -1,10 +1,9 @@
--- `assemble::pictures::put_pictures` meets its contract. Assumes nothing.
-use Rattle.blocks.specs.Numbers.{width}
+-- `pictures::pictures::put_pictures` meets its contract. Assumes nothing.
 use borrow.Author.Needs.{needs}
 use native.Mathlib.Omega.{arith}
-use Prim.Native.Nat.{_-_, _/_}
-use lib.ListN.{length}
 use Rattle.pictures.proofs.PutLaws.{Putting, put-start, put-front, put-ends, put-turn, put-end}
+use Prim.Native.Nat.{_-_}
+use Rattle.blocks.specs.Numbers.{segmentCount}
 use Rattle.pictures.proofs.pictures.put_pictures.Statement.{statement}
 use Rattle.pictures.proofs.pictures.put_pictures.Tie as tie
 
@@ -12,35 +11,28 @@ abbrev Inv-loop : tie.InvT-loop
 Inv-loop pictures₀ ends₀ picture segments new rewriting count i₀ at₀ pictures ends i at = Putting rewriting new picture segments pictures₀ ends₀ pictures ends i at
 
 abbrev μ-loop : tie.MeasureT-loop
-μ-loop pictures₀ ends₀ picture segments new rewriting count i₀ at₀ pictures ends i at = length segments / width - i
+μ-loop pictures₀ ends₀ picture segments new rewriting count i₀ at₀ pictures ends i at = segmentCount segments - i
+
+segment-count-requires : tie.Need-segment-count-requires Inv-loop μ-loop
+segment-count-requires c κs = search needs
 
 loop-holds : tie.Need-loop-holds Inv-loop μ-loop
 loop-holds c = put-start _ _ _ _ _ _
 
-mul-unit-at : tie.Need-mul-unit-at Inv-loop μ-loop
-mul-unit-at c = search needs
+key-of-requires : tie.Need-key-of-requires Inv-loop μ-loop
+key-of-requires c κs = search needs
 
-unit-at-requires : tie.Need-unit-at-requires Inv-loop μ-loop
-unit-at-requires c κs = search needs
-
-mul-unit-at-2 : tie.Need-mul-unit-at-2 Inv-loop μ-loop
-mul-unit-at-2 c = search needs
-
-add-unit-at : tie.Need-add-unit-at Inv-loop μ-loop
-add-unit-at c = search needs
-
-unit-at-requires-2 : tie.Need-unit-at-requires-2 Inv-loop μ-loop
-unit-at-requires-2 c κs = search needs
+golden-of-requires : tie.Need-golden-of-requires Inv-loop μ-loop
+golden-of-requires c κs = search needs
 
 put-units-requires : tie.Need-put-units-requires Inv-loop μ-loop
 put-units-requires c κs =
     let l = c .before .before .before .before .before in
-    let g = l .before .before .before .before .before .before .pre in
-    let h = c .before .before .before .before .loop-test .taken in
-    let k = c .before .before .before .unit-at .ensures in
-    let u = c .before .before .unit-at2 .ensures in
-    let f = put-front (l .loop .inv) h _ _ k u in
-    (omega (arith, f, g .0), (omega (arith, f, g .1 .0, l .loop .inv .pictures-len), put-ends (l .loop .inv) h _ _ k u (g .1 .1)))
+    let g = l .before .before .before .before .before .before .before .pre in
+    let k = c .before .before .before .key-of .ensures in
+    let u = c .before .before .golden-of .ensures in
+    let f = put-front (l .loop .inv) (omega arith) _ _ k u in
+    (omega (arith, f, g .0), (omega (arith, f, g .1 .0, l .loop .inv .pictures-len), put-ends (l .loop .inv) (omega arith) _ _ k u (g .1 .1)))
 
 add-i : tie.Need-add-i Inv-loop μ-loop
 add-i c = search needs
@@ -52,9 +44,9 @@ loop-again : tie.Need-loop-again Inv-loop μ-loop
 loop-again c =
     let b = c .before .before .before .before in
     let l = b .before .before .before .before .before .before in
-    let g = l .before .before .before .before .before .before .pre in
+    let g = l .before .before .before .before .before .before .before .pre in
     let w = b .put-units .ensures in
-    put-turn (l .loop .inv) (b .before .before .before .before .before .loop-test .taken) _ _ (b .before .before .before .before .unit-at .ensures) (b .before .before .before .unit-at2 .ensures) (g .1 .0) (g .1 .1) _ _ _ (w .0) (w .1 .0) (w .1 .1)
+    put-turn (l .loop .inv) (omega arith) _ _ (b .before .before .before .before .key-of .ensures) (b .before .before .before .golden-of .ensures) (g .1 .0) (g .1 .1) _ _ _ (w .0) (w .1 .0) (w .1 .1)
 
 same-length : tie.Need-same-length Inv-loop μ-loop
 same-length c = c .before .loop .inv .pictures-len
@@ -63,7 +55,7 @@ same-length-2 : tie.Need-same-length-2 Inv-loop μ-loop
 same-length-2 c = c .before .loop .inv .ends-len
 
 returns : tie.Need-returns Inv-loop μ-loop
-returns c = put-end (c .before .loop .inv) (c .loop-test .left)
+returns c = put-end (c .before .loop .inv) (omega arith)
 
 pub put-pictures-spec : {M : Type 1} → statement M
 put-pictures-spec =
@@ -71,12 +63,10 @@ put-pictures-spec =
     (tie.spec
     Inv-loop
     μ-loop
+    segment-count-requires
     loop-holds
-    mul-unit-at
-    unit-at-requires
-    mul-unit-at-2
-    add-unit-at
-    unit-at-requires-2
+    key-of-requires
+    golden-of-requires
     put-units-requires
     add-i
     loop-less

@@ -1,11 +1,11 @@
--- `assemble::pictures::put_shows` meets its contract. Assumes nothing.
-use Rattle.blocks.specs.Numbers.{width}
+-- `pictures::pictures::put_shows` meets its contract. Assumes nothing.
 use borrow.Author.Needs.{needs}
-use Prim.Native.Nat.{ℕ, _-_, _/_, _<_}
+use native.Mathlib.Omega.{arith}
+use Prim.Native.Nat.{ℕ, _-_, _<_}
 use mathlib.Core.Path.{sym, subst}
-use lib.ListN.{length}
 use Rattle.header.specs.Sequence.{sequenceOf}
 use Rattle.pictures.proofs.ShowLaws.{slot-small, Showing, show-start, show-room, show-turn, show-end}
+use Rattle.blocks.specs.Numbers.{segmentCount}
 use Rattle.pictures.proofs.pictures.put_shows.Statement.{statement}
 use Rattle.pictures.proofs.pictures.put_shows.Tie as tie
 
@@ -13,25 +13,19 @@ abbrev Inv-loop : tie.InvT-loop
 Inv-loop shows₀ picture segments header points rewriting count i₀ shows i = Showing (sequenceOf header points) rewriting picture segments shows₀ shows i
 
 abbrev μ-loop : tie.MeasureT-loop
-μ-loop shows₀ picture segments header points rewriting count i₀ shows i = length segments / width - i
+μ-loop shows₀ picture segments header points rewriting count i₀ shows i = segmentCount segments - i
+
+segment-count-requires : tie.Need-segment-count-requires Inv-loop μ-loop
+segment-count-requires c κs = search needs
 
 loop-holds : tie.Need-loop-holds Inv-loop μ-loop
 loop-holds c = show-start _ _ _ _ _
 
-mul-unit-at : tie.Need-mul-unit-at Inv-loop μ-loop
-mul-unit-at c = search needs
+key-of-requires : tie.Need-key-of-requires Inv-loop μ-loop
+key-of-requires c κs = search needs
 
-unit-at-requires : tie.Need-unit-at-requires Inv-loop μ-loop
-unit-at-requires c κs = search needs
-
-mul-unit-at-2 : tie.Need-mul-unit-at-2 Inv-loop μ-loop
-mul-unit-at-2 c = search needs
-
-add-unit-at : tie.Need-add-unit-at Inv-loop μ-loop
-add-unit-at c = search needs
-
-unit-at-requires-2 : tie.Need-unit-at-requires-2 Inv-loop μ-loop
-unit-at-requires-2 c κs = search needs
+golden-of-requires : tie.Need-golden-of-requires Inv-loop μ-loop
+golden-of-requires c κs = search needs
 
 slot-or-zero-requires : tie.Need-slot-or-zero-requires Inv-loop μ-loop
 slot-or-zero-requires c κs = search needs
@@ -42,9 +36,8 @@ mul-put-show c = search needs
 put-show-requires : tie.Need-put-show-requires Inv-loop μ-loop
 put-show-requires c κs =
     let l = c .before .before .before .before .before in
-    let g = l .before .before .before .before .pre in
-    let h = c .before .before .before .before .loop-test .taken in
-    (show-room (l .loop .inv) h g, subst (λ (n : ℕ). n < 8) (sym (c .before .slot-or-zero .ensures)) (slot-small _ _ _ _))
+    let g = l .before .before .before .before .before .pre in
+    (show-room (l .loop .inv) (omega arith) g, subst (λ (n : ℕ). n < 8) (sym (c .before .slot-or-zero .ensures)) (slot-small _ _ _ _))
 
 add-i : tie.Need-add-i Inv-loop μ-loop
 add-i c = search needs
@@ -56,14 +49,14 @@ loop-again : tie.Need-loop-again Inv-loop μ-loop
 loop-again c =
     let b = c .before .before in
     let l = b .before .before .before .before .before .before in
-    let g = l .before .before .before .before .pre in
-    show-turn (l .loop .inv) (b .before .before .before .before .before .loop-test .taken) g _ _ _ _ (b .before .before .before .before .unit-at .ensures) (b .before .before .before .unit-at2 .ensures) (b .before .before .slot-or-zero .ensures) (b .put-show .ensures)
+    let g = l .before .before .before .before .before .pre in
+    show-turn (l .loop .inv) (omega arith) g _ _ _ _ (b .before .before .before .before .key-of .ensures) (b .before .before .before .golden-of .ensures) (b .before .before .slot-or-zero .ensures) (b .put-show .ensures)
 
 same-length : tie.Need-same-length Inv-loop μ-loop
 same-length c = c .before .loop .inv .len
 
 returns : tie.Need-returns Inv-loop μ-loop
-returns c = show-end (c .before .loop .inv) (c .loop-test .left)
+returns c = show-end (c .before .loop .inv) (omega arith)
 
 pub put-shows-spec : {M : Type 1} → statement M
 put-shows-spec =
@@ -71,12 +64,10 @@ put-shows-spec =
     (tie.spec
     Inv-loop
     μ-loop
+    segment-count-requires
     loop-holds
-    mul-unit-at
-    unit-at-requires
-    mul-unit-at-2
-    add-unit-at
-    unit-at-requires-2
+    key-of-requires
+    golden-of-requires
     slot-or-zero-requires
     mul-put-show
     put-show-requires

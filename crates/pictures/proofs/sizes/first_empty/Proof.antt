@@ -1,10 +1,10 @@
--- `assemble::sizes::first_empty` meets its contract. Assumes nothing.
-use Rattle.blocks.specs.Numbers.{width}
+-- `pictures::sizes::first_empty` meets its contract. Assumes nothing.
 use borrow.Author.Needs.{needs}
-use Prim.Native.Nat.{_-_, _/_}
-use lib.ListN.{length}
-use denote.Ref.{now}
-use Rattle.pictures.proofs.SizeLaws.{Seeking, seek-start, seek-found, seek-turn, seek-none}
+use native.Mathlib.Omega.{arith}
+use Rattle.pictures.proofs.SizeLaws.{Seeking, seek-start, seek-none, seek-found, seek-turn}
+use mathlib.Core.Path.{sym, _∙_}
+use Prim.Native.Nat.{_-_}
+use Rattle.blocks.specs.Numbers.{segmentCount}
 use Rattle.pictures.proofs.sizes.first_empty.Statement.{statement}
 use Rattle.pictures.proofs.sizes.first_empty.Tie as tie
 
@@ -12,25 +12,19 @@ abbrev Inv-loop : tie.InvT-loop
 Inv-loop segments count i₀ i = Seeking segments i
 
 abbrev μ-loop : tie.MeasureT-loop
-μ-loop segments count i₀ i = length segments / width - i
+μ-loop segments count i₀ i = segmentCount segments - i
+
+segment-count-requires : tie.Need-segment-count-requires Inv-loop μ-loop
+segment-count-requires c κs = search needs
 
 loop-holds : tie.Need-loop-holds Inv-loop μ-loop
-loop-holds c = seek-start (now (c .args .segments))
+loop-holds c = seek-start _
 
-mul-if1 : tie.Need-mul-if1 Inv-loop μ-loop
-mul-if1 c = search needs
-
-add-if1 : tie.Need-add-if1 Inv-loop μ-loop
-add-if1 c = search needs
-
-mul-if1-2 : tie.Need-mul-if1-2 Inv-loop μ-loop
-mul-if1-2 c = search needs
-
-shared-slice-read-if1 : tie.Need-shared-slice-read-if1 Inv-loop μ-loop
-shared-slice-read-if1 c = search needs
+frames-of-requires : tie.Need-frames-of-requires Inv-loop μ-loop
+frames-of-requires c κs = search needs
 
 returns : tie.Need-returns Inv-loop μ-loop
-returns c = seek-found (c .before .before .before .loop .inv) (c .before .before .loop-test .taken) (c .if1 .taken)
+returns c = seek-found (c .before .before .before .loop .inv) (omega arith) (sym (c .before .frames-of .ensures) ∙ c .if1 .taken)
 
 add-i : tie.Need-add-i Inv-loop μ-loop
 add-i c = search needs
@@ -39,10 +33,10 @@ loop-less : tie.Need-loop-less Inv-loop μ-loop
 loop-less c = search needs
 
 loop-again : tie.Need-loop-again Inv-loop μ-loop
-loop-again c = seek-turn (c .before .before .before .loop .inv) (c .before .before .loop-test .taken) (c .if1 .left)
+loop-again c = seek-turn (c .before .before .before .loop .inv) (omega arith) (λ e. c .if1 .left (c .before .frames-of .ensures ∙ e))
 
 returns-2 : tie.Need-returns-2 Inv-loop μ-loop
-returns-2 c = seek-none (c .before .loop .inv) (c .loop-test .left)
+returns-2 c = seek-none (c .before .loop .inv) (omega arith)
 
 pub first-empty-spec : {M : Type 1} → statement M
 first-empty-spec =
@@ -50,11 +44,9 @@ first-empty-spec =
     (tie.spec
     Inv-loop
     μ-loop
+    segment-count-requires
     loop-holds
-    mul-if1
-    add-if1
-    mul-if1-2
-    shared-slice-read-if1
+    frames-of-requires
     returns
     add-i
     loop-less

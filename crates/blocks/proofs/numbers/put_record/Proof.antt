@@ -1,12 +1,16 @@
--- `assemble::segments::put_numbers` meets its contract. Assumes nothing.
+-- `blocks::numbers::put_record` meets its contract. Assumes nothing.
 use borrow.Author.Needs.{needs}
 use native.Mathlib.Omega.{arith}
-use mathlib.Core.Path.{refl}
-use lib.ListN.{length-set}
 use denote.Ref.{now}
-use Rattle.assemble.proofs.RecordLaws.{numbers-put}
-use Rattle.assemble.proofs.segments.put_numbers.Statement.{statement}
-use Rattle.assemble.proofs.segments.put_numbers.Tie as tie
+use lib.ListN.{length-set}
+use Prim.Native.Nat.{_*_}
+use Rattle.blocks.specs.Numbers.{width}
+use Rattle.blocks.proofs.NumberLaws.{record-put}
+use Rattle.blocks.proofs.numbers.put_record.Statement.{statement}
+use Rattle.blocks.proofs.numbers.put_record.Tie as tie
+
+mul-at : tie.Need-mul-at
+mul-at c = search needs
 
 mul-numbers : tie.Need-mul-numbers
 mul-numbers c = search needs
@@ -50,19 +54,17 @@ mul-numbers-5 c = search needs
 slice-write-numbers-5 : tie.Need-slice-write-numbers-5
 slice-write-numbers-5 c = simp length-set (omega (arith, c .pre))
 
-add-result : tie.Need-add-result
-add-result c = search needs
-
 same-length : tie.Need-same-length
 same-length c = search needs
 
 returns : tie.Need-returns
-returns c = (refl, numbers-put (now (c .args .numbers)) (c .args .at) (c .args .segment) (c .pre))
+returns c = let a = c .args in record-put (now (a .numbers)) (width * a .i) (a .key-start) (a .key-end) (a .golden-start) (a .golden-end) (a .frames) (omega (arith, c .pre))
 
-pub put-numbers-spec : {M : Type 1} → statement M
-put-numbers-spec =
+pub put-record-spec : {M : Type 1} → statement M
+put-record-spec =
     tie.close
     (tie.spec
+    mul-at
     mul-numbers
     slice-write-numbers
     add-numbers
@@ -77,6 +79,5 @@ put-numbers-spec =
     add-numbers-4
     mul-numbers-5
     slice-write-numbers-5
-    add-result
     same-length
     returns)

@@ -1,9 +1,12 @@
--- `assemble::sizes::ranges_fit` meets its contract. Assumes nothing.
+-- `blocks::numbers::is_within` meets its contract. Assumes nothing.
 use borrow.Author.Needs.{needs}
 use denote.Ref.{now}
-use Rattle.pictures.proofs.RangeLaws.{fit-at}
-use Rattle.pictures.proofs.sizes.ranges_fit.Statement.{statement}
-use Rattle.pictures.proofs.sizes.ranges_fit.Tie as tie
+use Rattle.blocks.proofs.NumberLaws.{inside-at}
+use Rattle.blocks.proofs.numbers.is_within.Statement.{statement}
+use Rattle.blocks.proofs.numbers.is_within.Tie as tie
+
+mul-at : tie.Need-mul-at
+mul-at c = search needs
 
 mul-is-inside : tie.Need-mul-is-inside
 mul-is-inside c = search needs
@@ -45,14 +48,13 @@ is-inside-requires-2 : tie.Need-is-inside-requires-2
 is-inside-requires-2 c κs = search needs
 
 returns : tie.Need-returns
-returns c =
-    let a = c .before .before .before .before .before .before .before .before .args in
-    fit-at (now (a .picture)) (now (a .segments)) (a .at) _ _ (c .before .before .before .is-inside .ensures) (c .is-inside2 .ensures)
+returns c = let a = c .before .before .before .before .before .before .before .before .args in inside-at (now (a .picture)) (now (a .segments)) (a .i) (c .before .before .before .is-inside .ensures) (c .is-inside2 .ensures)
 
-pub ranges-fit-spec : {M : Type 1} → statement M
-ranges-fit-spec =
+pub is-within-spec : {M : Type 1} → statement M
+is-within-spec =
     tie.close
     (tie.spec
+    mul-at
     mul-is-inside
     shared-slice-read-is-inside
     add-is-inside
