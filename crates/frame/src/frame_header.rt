@@ -28,7 +28,7 @@ pub enum FrameHeaderInfo {
 pub enum FrameAnswer {
     Header(FrameHeaderInfo),
     // document 01's number
-    Refused(u64),
+    Refused(u32),
 }
 
 // The first fields of a frame that is not shown again.

@@ -23,7 +23,7 @@ pub fn unit_frame(
     ensures { λ r. ⌜ frameSays r ≡ unitFrame sole (sequenceOf header points) (now (unit .entry)) ⌝ }
 {
     match count_obus(unit, Kind::Frame) {
-        Counted::Refused(k) => FrameAnswer::Refused(k as u64),
+        Counted::Refused(k) => FrameAnswer::Refused(k),
         Counted::Count(n) => {
             if n == 0 {
                 return FrameAnswer::Refused(28);

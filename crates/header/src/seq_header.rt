@@ -135,7 +135,7 @@ pub struct SequenceHeader {
 pub enum SequenceAnswer {
     Header(SequenceHeader),
     // document 01's number
-    Refused(u64),
+    Refused(u32),
 }
 
 // A header that was read, and its operating points: those behind the last, and all after a refusal, are zero.
@@ -147,7 +147,7 @@ pub struct SequenceRead {
 pub enum Support {
     Supported,
     // document 01's number
-    Refused(u64),
+    Refused(u32),
 }
 
 pub enum Emitted {

@@ -30,7 +30,7 @@ fn number_of(answer: Answer) -> u64
     match answer {
         Answer::Shown(q) => q,
         Answer::Nothing => 0,
-        Answer::Refused(n) => 18446744073709551615 - n,
+        Answer::Refused(n) => 18446744073709551615 - n as u64,
     }
 }
 

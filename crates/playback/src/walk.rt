@@ -16,9 +16,9 @@ pub enum Walked {
     // how many positions have their number
     Positions(usize),
     // document 01's number
-    Refused(u64),
+    Refused(u32),
     // document 01's number, and the segment from 0
-    RefusedIn(u64, usize),
+    RefusedIn(u32, usize),
 }
 
 // The answer of playing, behind assembly.
@@ -27,7 +27,7 @@ fn behind(shows: Shows) -> Walked
 {
     match shows {
         Shows::Positions(n) => Walked::Positions(n),
-        Shows::Refused(k) => Walked::Refused(k as u64),
+        Shows::Refused(k) => Walked::Refused(k),
     }
 }
 

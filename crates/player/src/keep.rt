@@ -28,7 +28,7 @@ pub struct Kept {
 pub enum Headers {
     Read,
     // document 01's number
-    Refused(u64),
+    Refused(u32),
 }
 
 // Whether a unit's headers so far were read, and what is kept: with a refusal, what was kept before the unit.
@@ -85,7 +85,7 @@ pub(crate) fn keep_headers(kept: Kept, unit: &[u8]) -> Keeping
         let found = obu_at(unit, at);
         let ObuAt::Found(o) = found else {
             return Keeping {
-                answer: Headers::Refused(refusal(found) as u64),
+                answer: Headers::Refused(refusal(found)),
                 kept: kept,
             };
         };

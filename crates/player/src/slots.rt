@@ -19,7 +19,7 @@ pub enum Answer {
     Shown(u64),
     Nothing,
     // document 01's number
-    Refused(u64),
+    Refused(u32),
 }
 
 // An answer, and the slots afterwards.

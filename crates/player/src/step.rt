@@ -25,7 +25,7 @@ pub struct Played {
     pub state: State,
 }
 
-fn refuse(state: State, k: u64) -> Played
+fn refuse(state: State, k: u32) -> Played
     ensures { λ r. ⌜ r ≡ playedOn state (state .kept) (refused k) ⌝ }
 {
     Played {

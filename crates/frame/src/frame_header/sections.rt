@@ -25,7 +25,7 @@ pub(crate) enum StartAt {
     // the first fields, and the reader behind them
     Done(FrameStart, BitReader),
     // document 01's number
-    Refused(u64),
+    Refused(u32),
 }
 
 pub(crate) enum RemovalAt {

@@ -16,7 +16,7 @@ use crate::seq_header::read_points::PointsAnswer;
 use bitio::limits::LIMIT;
 use bitio::reader::BitReader;
 
-fn opening_refusal(x: OpeningAt) -> u64
+fn opening_refusal(x: OpeningAt) -> u32
     ensures { λ r. ⌜ r ≡ refusalOf (openingSays x) ⌝ }
 {
     match x {
@@ -25,7 +25,7 @@ fn opening_refusal(x: OpeningAt) -> u64
     }
 }
 
-fn points_refusal(x: PointsAnswer) -> u64
+fn points_refusal(x: PointsAnswer) -> u32
     ensures { λ r. ⌜ r ≡ pointsRefusal x ⌝ }
 {
     match x {
@@ -34,7 +34,7 @@ fn points_refusal(x: PointsAnswer) -> u64
     }
 }
 
-pub(crate) fn no_sequence(k: u64) -> SequenceRead
+pub(crate) fn no_sequence(k: u32) -> SequenceRead
     ensures { λ r. ⌜ r ≡ sequenceRead (refused k) ⌝ }
 {
     let list = read_points::no_points();

@@ -17,7 +17,7 @@ pub(crate) enum TimingAt {
     // the fields, and the reader behind them
     Done(TimingInfo, BitReader),
     // document 01's number
-    Refused(u64),
+    Refused(u32),
 }
 
 pub(crate) enum ModelAt {
@@ -31,7 +31,7 @@ pub(crate) enum OpeningAt {
     // the fields, and the reader behind them
     Done(Opening, BitReader),
     // document 01's number
-    Refused(u64),
+    Refused(u32),
 }
 
 // The first five bits.
@@ -41,7 +41,7 @@ pub(crate) struct OpeningStart {
     pub reduced_still_picture_header: bool,
 }
 
-fn uvlc_refusal(x: Uvlc) -> u64
+fn uvlc_refusal(x: Uvlc) -> u32
     ensures { λ r. ⌜ r ≡ refusalOf (uvlcSays x) ⌝ }
 {
     match x {
@@ -51,7 +51,7 @@ fn uvlc_refusal(x: Uvlc) -> u64
     }
 }
 
-fn timing_refusal(x: TimingAt) -> u64
+fn timing_refusal(x: TimingAt) -> u32
     ensures { λ r. ⌜ r ≡ refusalOf (timingSays x) ⌝ }
 {
     match x {

@@ -30,7 +30,7 @@ pub(crate) enum PointsAnswer {
     // the reader behind the last operating point
     Done(BitReader),
     // document 01's number
-    Refused(u64),
+    Refused(u32),
 }
 
 // Those behind the last, and all after a refusal, are zero.

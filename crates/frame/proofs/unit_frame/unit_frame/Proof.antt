@@ -35,7 +35,6 @@ unit-frame-spec =
     (λ c κs. search needs)
     (λ c. search needs)
     (λ c. search needs)
-    (λ c. search needs)
     returns
     returns-2
     (λ c κs. search needs)

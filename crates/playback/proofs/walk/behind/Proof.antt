@@ -9,9 +9,6 @@ enum-known-shows c = search needs
 enum-known-shows-2 : tie.Need-enum-known-shows-2
 enum-known-shows-2 c = search needs
 
-cast-t5 : tie.Need-cast-t5
-cast-t5 c = search needs
-
 returns : tie.Need-returns
 returns c = behind-all _ (c .before .shows .given .1)
 
@@ -19,4 +16,4 @@ returns-2 : tie.Need-returns-2
 returns-2 c = behind-none _ (c .before .shows2 .given .1)
 
 pub behind-spec : {M : Type 1} → statement M
-behind-spec = tie.close (tie.spec enum-known-shows enum-known-shows-2 cast-t5 returns returns-2)
+behind-spec = tie.close (tie.spec enum-known-shows enum-known-shows-2 returns returns-2)

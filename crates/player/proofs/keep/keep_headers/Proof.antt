@@ -99,7 +99,6 @@ keep-headers-spec =
     obu-at-requires
     enum-known-found
     refusal-requires
-    (λ c. search needs)
     returns
     is-type-requires
     payload-requires
