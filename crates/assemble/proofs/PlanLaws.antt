@@ -5,7 +5,7 @@ use mathlib.Core.Path.{_≡_, refl, sym, ap, ap₂, _∙_}
 use mathlib.Core.List.{List, [], _∷_}
 use mathlib.Core.Bool.{Bool, true, false, cond as pick}
 use mathlib.Core.Option.{Option, none, some}
-use lib.ListN.{length, take}
+use lib.ListN.{length, take, replicate}
 use lib.Dec.{eqb}
 use borrow.Author.Tests.{lt-ltb, le-ltb, le-leb, eqb-true}
 use Rattle.bitio.specs.Parse.{Answer, refused, accepted, answer, andNext}
@@ -23,6 +23,7 @@ use Rattle.header.specs.Timed.{isTimed, retimed, withTiming, timed}
 use Rattle.emit.specs.Emit.{sequenceBytes, emitPlaced, emitLent}
 use Rattle.emittable.specs.Emittable.{emittable}
 use Rattle.header.specs.declared.seq_header.SequenceHeader.{SequenceHeader}
+use Rattle.header.specs.SequencePoints.{noPoint}
 use Rattle.header.specs.declared.seq_header.OperatingPoint.{OperatingPoint}
 use Rattle.header.proofs.TimedLaws.{timed-of}
 use Rattle.blocks.specs.Numbers.{headKey, framesIn}
@@ -32,11 +33,12 @@ use Rattle.pictures.specs.Assemble.{Outcome, stopped, made, andAlso, inSegment,
 use Rattle.pictures.specs.Sizes.{sized, ranged}
 use Rattle.pictures.specs.Code.{allSegments, laterSegments, firstSequence, renewing, orElse, allPrepared, capped, measured}
 use Rattle.pictures.specs.Says.{foundSays}
-use Rattle.assemble.specs.Stages.{Going, going, WasRead, fromPictures, fromTiming, fromHeader, fromKey, checked, planned, headerIn, planSays}
+use Rattle.assemble.specs.Stages.{Going, going, WasRead, fromPictures, fromTiming, fromHeader, fromKey, checked, planned, headerIn, planSays, noPlan}
 use Rattle.pictures.specs.Rewrite.{obuIn}
 use Rattle.pictures.specs.declared.headers.FoundObu.{FoundObu}
 use Rattle.pictures.specs.declared.headers.FoundObu.the-variants.{Found}
 use Rattle.assemble.specs.declared.plan.Basis.{Basis}
+use Rattle.assemble.specs.declared.plan.Planned.{Planned}
 use Rattle.assemble.specs.declared.plan.Planned.the-variants.{Refused, RefusedIn}
 use Rattle.assemble.specs.declared.plan.Plan.{Plan}
 use Rattle.pictures.proofs.PrepareLaws.{all-prepared}
@@ -52,6 +54,14 @@ module _ (s rs : List ℕ) where
   pub says-refused-in : (p : Plan) (k i : ℕ) → p .answer ≡ RefusedIn k i → planSays s rs p ≡ stopped k (some i)
   unfolding planSays
   says-refused-in p k i e = rw e
+
+  pub none-planned : (p : Plan) (k : ℕ) → p ≡ noPlan (Refused k) → planSays s rs p ≡ stopped k none
+  unfolding noPlan
+  none-planned p k e = says-refused p k (ap (λ (x : Plan). x .answer) e)
+
+  pub none-planned-in : (p : Plan) (k i : ℕ) → p ≡ noPlan (RefusedIn k i) → planSays s rs p ≡ stopped k (some i)
+  unfolding noPlan
+  none-planned-in p k i e = says-refused-in p k i (ap (λ (x : Plan). x .answer) e)
 
   -- ---- 34, 36, 21 to 25
 
@@ -155,6 +165,12 @@ module _ (s rs : List ℕ) where
       pub plan-found : (o : Obu) → accepted o ≡ firstSequence (headKey s rs) → fromHeader s rs set o ≡ planned s rs set
       unfolding planned fromKey andAlso inSegment
       plan-found o e = rw (← fit, ← e)
+
+-- ---- nothing is planned
+
+pub none-is : (a : Planned) (o : OperatingPoint) → o ≡ noPoint → _≡_ {A = Plan} (record { answer = a; points = replicate 32 o; new = replicate 400 0 }) (noPlan a)
+unfolding noPlan
+none-is a o e = ap (λ (x : OperatingPoint). record { answer = a; points = replicate 32 x; new = replicate 400 0 }) e
 
 -- ---- the first sequence header OBU is one
 

@@ -4,7 +4,7 @@ use mathlib.Core.Path.{_≡_}
 use mathlib.Core.List.{List}
 use mathlib.Core.Bool.{Bool, cond as pick, _&&_}
 use mathlib.Core.Option.{none, some}
-use lib.ListN.{length}
+use lib.ListN.{length, replicate}
 use lib.Dec.{leb, ltb}
 use Rattle.bitio.specs.Parse.{accepted}
 use Rattle.bitio.specs.Limits.{limit}
@@ -12,6 +12,7 @@ use Rattle.obu.specs.Obu.{Obu, obuBytes}
 use Rattle.obu.specs.Place.{part, extensionSays}
 use Rattle.obu.specs.Write.{obu}
 use Rattle.header.specs.Sequence.{Sequence, sequenceOf}
+use Rattle.header.specs.SequencePoints.{noPoint}
 use Rattle.header.specs.declared.seq_header.OperatingPoint.{OperatingPoint}
 use Rattle.blocks.specs.Blocks.{listOf, cuesOf}
 use Rattle.blocks.specs.Numbers.{headKey, headGolden, segmentCount, framesIn}
@@ -100,6 +101,10 @@ answerSays s rs points array (RefusedIn k i) = stopped k (some i)
 
 unfoldable pub planSays : List ℕ → List ℕ → Plan → Outcome Going
 planSays s rs p = answerSays s rs (p .points) (p .new) (p .answer)
+
+-- after a refusal the arrays are zero
+unfoldable pub noPlan : Planned → Plan
+noPlan a = record { answer = a; points = replicate 32 noPoint; new = replicate 400 0 }
 
 -- ---- how much there is to write
 

@@ -11,7 +11,7 @@ ghost use Rattle.emit.specs.Emit.{sequenceBytes, emitSays};
 ghost use Rattle.emittable.specs.Emittable.{emittable};
 ghost use Rattle.pictures.specs.Sizes.{checkedSays};
 ghost use Rattle.pictures.specs.Code.{orElse};
-ghost use Rattle.assemble.specs.Stages.{WasRead, fromPictures, fromTiming, fromHeader, checked, planned, newIn, headerIn, planSays};
+ghost use Rattle.assemble.specs.Stages.{WasRead, fromPictures, fromTiming, fromHeader, checked, planned, newIn, headerIn, planSays, noPlan};
 ghost use Rattle.pictures.specs.Rewrite.{obuIn};
 use blocks::numbers::key_of;
 use emit::seq_header::emit::emit_sequence_header;
@@ -66,7 +66,7 @@ pub struct Plan {
 
 // Nothing is written.
 fn no_plan(answer: Planned) -> Plan
-    ensures { λ r. ⌜ r .answer ≡ answer ⌝ }
+    ensures { λ r. ⌜ r ≡ noPlan answer ⌝ }
 {
     let none = no_point();
     let points = [none; 32];

@@ -17,7 +17,7 @@ use Rattle.listing.specs.File.{Reading, bad, full, read, pictureCount, numbersO
 use Rattle.listing.specs.Text.{listing, refusedText, refusedInText, badFile}
 use Rattle.listing.specs.declared.file.Layout.{Layout}
 use Rattle.listing.proofs.FileLaws.{ReadIs, read-is}
-use Rattle.boardlist.specs.Printed.{textOf, between, madeText, CountsFit, LayoutFits, settingsOf, printedOf, printed}
+use Rattle.boardlist.specs.Printed.{textOf, between, madeText, CountsFit, LayoutFits, settingsOf, printedOf, printed, leftOf, left}
 use Rattle.boardlist.proofs.MadeLaws.{Held}
 
 -- the same text by another name
@@ -85,6 +85,15 @@ module _ (s numbers : List ℕ) (d : Lent) where
   unfolding printed
   full-is e = ap (λ (r : Reading). printedOf r s d) e
 
+  -- nothing is lent on
+  pub bad-left : bad ≡ readInto numbers s → d ≡ left s numbers d
+  unfolding left
+  bad-left e = ap (λ (r : Reading). leftOf r s d) e
+
+  pub full-left : full ≡ readInto numbers s → d ≡ left s numbers d
+  unfolding left
+  full-left e = ap (λ (r : Reading). leftOf r s d) e
+
   module _ (l : Layout) (numbers′ : List ℕ) (e : read l ≡ readInto numbers s) (w : numbers′ ≡ numbersAfter numbers s) where
     after : ReadIs numbers s l
     after = read-is numbers s l e
@@ -97,14 +106,21 @@ module _ (s numbers : List ℕ) (d : Lent) where
         let n = ap length (w ∙ a .after) ∙ pasted-length numbers 0 (numbersOf s) (omega (arith, a .room)) in
         record { start-first = omega (arith, x, y); picture = omega (arith, y, a .whole .sized); numbers-there = omega (arith, n, a .room, a .count) }
 
-    pub read-text : textOf (outcome (between (l .start) (l .end) s) (between 0 (width * l .segments) numbers′) (settingsOf l) d) ≡ text
-    unfolding printed
-    read-text =
+    numbers-are : between 0 (width * l .segments) numbers′ ≡ numbersOf s
+    numbers-are =
         let a = after in
-        let n : between 0 (width * l .segments) numbers′ ≡ numbersOf s =
-        ap (between 0 (width * l .segments)) (w ∙ a .after) ∙ front-is numbers (numbersOf s) (width * l .segments) (sym (a .count)) (a .room) in
-        ap (λ (rs : List ℕ). textOf (outcome (between (l .start) (l .end) s) rs (settingsOf l) d)) n
-        ∙ ap (λ (r : Reading). printedOf r s d) e
+        ap (between 0 (width * l .segments)) (w ∙ a .after) ∙ front-is numbers (numbersOf s) (width * l .segments) (sym (a .count)) (a .room)
+
+    abbrev from : List ℕ → Outcome Output
+    from rs = outcome (between (l .start) (l .end) s) rs (settingsOf l) d
+
+    pub read-text : textOf (from (between 0 (width * l .segments) numbers′)) ≡ text
+    unfolding printed
+    read-text = ap (λ (rs : List ℕ). textOf (from rs)) numbers-are ∙ ap (λ (r : Reading). printedOf r s d) e
+
+    pub read-left : lentAfter (from (between 0 (width * l .segments) numbers′)) d ≡ left s numbers d
+    unfolding left
+    read-left = ap (λ (rs : List ℕ). lentAfter (from rs) d) numbers-are ∙ ap (λ (r : Reading). leftOf r s d) e
 
 -- ---- the end of the text lies within the memory that it was put into
 

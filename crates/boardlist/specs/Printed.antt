@@ -6,7 +6,7 @@ use lib.ListN.{length, take, drop}
 use Rattle.blocks.specs.Numbers.{width}
 use Rattle.pictures.specs.Assemble.{Outcome, stopped, made, Output}
 use Rattle.pictures.specs.declared.settings.Settings.{Settings}
-use Rattle.assemble.specs.Whole.{Lent, outcome}
+use Rattle.assemble.specs.Whole.{Lent, outcome, lentAfter}
 use Rattle.assemble.specs.declared.multi.Counts.{Counts}
 use Rattle.listing.specs.File.{Reading, bad, full, read, numbersOf, readInto}
 use Rattle.listing.specs.Text.{listing, refusedText, refusedInText, badFile}
@@ -33,6 +33,15 @@ printedOf (read l) s d = textOf (outcome (between (l .start) (l .end) s) (number
 -- the text for the bytes s, with these lent slices
 unfoldable pub printed : (s numbers : List ℕ) → Lent → List ℕ
 printed s numbers d = printedOf (readInto numbers s) s d
+
+-- what those slices hold afterwards
+abbrev pub leftOf : Reading → List ℕ → Lent → Lent
+leftOf bad s d = d
+leftOf full s d = d
+leftOf (read l) s d = lentAfter (outcome (between (l .start) (l .end) s) (numbersOf s) (settingsOf l) d) d
+
+unfoldable pub left : (s numbers : List ℕ) → Lent → Lent
+left s numbers d = leftOf (readInto numbers s) s d
 
 -- ---- what the inner functions are told, and say
 

@@ -1,11 +1,12 @@
-// The text that boardlist prints for any bytes, made in lent memory. What the other lent slices hold afterwards is of no use.
+// The text that boardlist prints for any bytes, made in lent memory.
 ghost use mathlib.Core.Path.{_≡_};
 ghost use Prim.Native.Nat.{_*_};
 ghost use Rattle.bitio.specs.Lent.{placed, lent};
 ghost use Rattle.bitio.specs.Leb.{putSays};
 ghost use Rattle.blocks.specs.Numbers.{width};
-ghost use Rattle.assemble.specs.Whole.{outcome, slices};
-ghost use Rattle.boardlist.specs.Printed.{textOf, settingsOf, madeText, CountsFit, LayoutFits, between, printed};
+ghost use Rattle.assemble.specs.Whole.{outcome, slices, lentAfter};
+ghost use Rattle.listing.specs.File.{numbersAfter};
+ghost use Rattle.boardlist.specs.Printed.{textOf, settingsOf, madeText, CountsFit, LayoutFits, between, printed, left};
 use assemble::multi::Assembled;
 use assemble::multi::Counts;
 use assemble::multi::assemble_multi;
@@ -63,6 +64,7 @@ fn put_assembly(
     requires { ⌜ LayoutFits layout (now file) (now numbers) ⌝ }
     ensures answer { λ r. ⌜ putSays r ≡ placed (now (out .entry)) 0 (textOf (outcome (between (layout .start) (layout .end) (now (file .entry))) (between 0 (width * layout .segments) (now (numbers .entry))) (settingsOf layout) (slices list cues pictures ends shows header .entry))) ⌝ }
     ensures out { λ _. ⌜ now (out .exit) ≡ lent (now (out .entry)) 0 (textOf (outcome (between (layout .start) (layout .end) (now (file .entry))) (between 0 (width * layout .segments) (now (numbers .entry))) (settingsOf layout) (slices list cues pictures ends shows header .entry))) ⌝ }
+    ensures lent { λ _. ⌜ slices list cues pictures ends shows header .exit ≡ lentAfter (outcome (between (layout .start) (layout .end) (now (file .entry))) (between 0 (width * layout .segments) (now (numbers .entry))) (settingsOf layout) (slices list cues pictures ends shows header .entry)) (slices list cues pictures ends shows header .entry) ⌝ }
 {
     let start = layout.start;
     let end = layout.end;
@@ -103,6 +105,8 @@ pub(crate) fn answer(
 ) -> Put
     ensures answer { λ r. ⌜ putSays r ≡ placed (now (out .entry)) 0 (printed (now (file .entry)) (now (numbers .entry)) (slices list cues pictures ends shows header .entry)) ⌝ }
     ensures out { λ _. ⌜ now (out .exit) ≡ lent (now (out .entry)) 0 (printed (now (file .entry)) (now (numbers .entry)) (slices list cues pictures ends shows header .entry)) ⌝ }
+    ensures numbers { λ _. ⌜ now (numbers .exit) ≡ numbersAfter (now (numbers .entry)) (now (file .entry)) ⌝ }
+    ensures lent { λ _. ⌜ slices list cues pictures ends shows header .exit ≡ left (now (file .entry)) (now (numbers .entry)) (slices list cues pictures ends shows header .entry) ⌝ }
 {
     match read_file(file, numbers) {
         FileAnswer::Read(layout) => put_assembly(

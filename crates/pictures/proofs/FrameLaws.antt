@@ -7,14 +7,15 @@ use mathlib.Core.Bool.{Bool, true, false, not, cond as pick}
 use borrow.Author.Tests.{eq-eqb, ne-eqb}
 use Rattle.bitio.specs.Parse.{Answer, refused, accepted, answer, andNext}
 use Rattle.obu.specs.Obu.{Obu, obus}
-use Rattle.obu.specs.Unit.{count, firstPayload, ofUnit}
+use Rattle.obu.specs.declared.unit.Kind.the-variants.{Any}
+use Rattle.obu.specs.Unit.{isKind, count, firstPayload, ofUnit}
 use Rattle.header.specs.Sequence.{Sequence}
 use Rattle.frame.specs.Frame.{parseFrame}
 use Rattle.frame.specs.declared.frame_header.FrameInfo.{FrameInfo}
 use Rattle.frame.specs.declared.frame_header.FrameHeaderInfo.{FrameHeaderInfo}
 use Rattle.frame.specs.declared.frame_header.FrameHeaderInfo.the-variants.{Frame}
 use Rattle.pictures.specs.Prepare.{isFrame, firstOf, firstFrame, keyOk, goldenFlags, slotOf}
-use Rattle.pictures.specs.Code.{readable, judged}
+use Rattle.pictures.specs.Code.{readable, countRead, judged}
 use Rattle.pictures.proofs.RangeLaws.{denied, granted}
 
 -- ---- the first that passes, where those that pass are counted
@@ -103,10 +104,11 @@ module _ {info : FrameHeaderInfo} {f : FrameInfo} (e : info ≡ Frame f) where
 abbrev pub legible : {A : Type 0} → Answer A → Answer Unit
 legible a = answer (λ _. tt) a
 
-pub legible-read : (rewriting : Bool) (u : List ℕ) (f : List Obu → ℕ) (y : Answer ℕ) → rewriting ≡ true → y ≡ answer f (obus u) → legible y ≡ readable rewriting u
-legible-read rewriting u f y e g = ap legible g ∙ go (obus u) ∙ rw e
+legible-count : (rewriting : Bool) (u : List ℕ) → readable rewriting u ≡ legible (countRead rewriting u)
+legible-count false u = refl
+legible-count true u = go (obus u)
   where
-    go : (x : Answer (List Obu)) → legible (answer f x) ≡ legible x
+    go : (x : Answer (List Obu)) → legible x ≡ legible (answer (count (isKind Any)) x)
     go (refused k) = refl
     go (accepted os) = refl
 
@@ -132,14 +134,15 @@ module _ (q : Sequence) (k g : List ℕ) where
       golden-judged z i = rw (e, o, granted b h, i)
 
   module _ (rewriting : Bool) where
-    pub key-illegible : (n : ℕ) → readable rewriting k ≡ refused n → refused n ≡ judged q rewriting k g
+    pub key-illegible : (n : ℕ) → countRead rewriting k ≡ refused n → refused n ≡ judged q rewriting k g
     unfolding judged andNext
-    key-illegible n e = rw e
+    key-illegible n e = rw (legible-count rewriting k ∙ ap legible e)
 
-    pub golden-illegible : (n : ℕ) → readable rewriting k ≡ accepted tt → readable rewriting g ≡ refused n → refused n ≡ judged q rewriting k g
-    unfolding judged andNext
-    golden-illegible n e i = rw (e, i)
+    module _ (m : ℕ) (e : countRead rewriting k ≡ accepted m) where
+      pub golden-illegible : (n : ℕ) → countRead rewriting g ≡ refused n → refused n ≡ judged q rewriting k g
+      unfolding judged andNext
+      golden-illegible n i = rw (legible-count rewriting k ∙ ap legible e, legible-count rewriting g ∙ ap legible i)
 
-    pub both-legible : readable rewriting k ≡ accepted tt → readable rewriting g ≡ accepted tt → judged q false k g ≡ judged q rewriting k g
-    unfolding judged andNext
-    both-legible e i = rw (e, i)
+      pub both-legible : (n : ℕ) → countRead rewriting g ≡ accepted n → judged q false k g ≡ judged q rewriting k g
+      unfolding judged andNext
+      both-legible n i = rw (legible-count rewriting k ∙ ap legible e, legible-count rewriting g ∙ ap legible i)

@@ -69,19 +69,39 @@ module _ {a b : List ℕ} {i : ℕ} (s : Alike a b i) where
 
 -- ---- the last sequence payload of a key
 
+abbrev ruled : Bool → Answer Unit
+ruled t = pick t (accepted tt) (refused 27)
+
+tally : (t : Bool) (n : ℕ) → pick t (accepted n) (refused 27) ≡ answer (λ _. n) (ruled t)
+tally true n = refl
+tally false n = refl
+
+told : (t : Bool) (n : ℕ) → ruled t ≡ answer (λ _. tt) (answer (λ _. n) (ruled t))
+told true n = refl
+told false n = refl
+
 module _ (s : List ℕ) where
   abbrev pub compared : Answer (List Obu) → Answer Unit
   compared x = andNext x (λ os. sameHeader s os)
 
+  -- the same, with the sequence headers counted
+  abbrev tallied : Answer (List Obu) → Answer ℕ
+  tallied x = andNext x (λ os. answer (λ _. count isSequence os) (sameHeader s os))
+
+  pub compared-is : (x : Answer (List Obu)) → compared x ≡ answer (λ _. tt) (tallied x)
+  unfolding andNext
+  compared-is (refused k) = refl
+  compared-is (accepted os) = told (has isSequence os && sameBytes (lastPayload isSequence os) s) (count isSequence os)
+
   abbrev counted : Answer (List Obu) → Answer ℕ
   counted x = answer (count isSequence) x
 
-  pub last-refused : (x : Answer (List Obu)) (k : ℕ) → refused k ≡ counted x → refused k ≡ compared x
+  pub last-refused : (x : Answer (List Obu)) (k : ℕ) → refused k ≡ counted x → refused k ≡ tallied x
   unfolding andNext
   last-refused (refused j) k e = let i : k ≡ j = cc in ap (λ y. refused y) i
   last-refused (accepted os) k e = let z : _≡_ {A = ℕ} 0 1 = cc in absurd (omega arith)
 
-  pub last-missing : (x : Answer (List Obu)) (n : ℕ) → accepted n ≡ counted x → n ≡ 0 → refused 27 ≡ compared x
+  pub last-missing : (x : Answer (List Obu)) (n : ℕ) → accepted n ≡ counted x → n ≡ 0 → refused 27 ≡ tallied x
   unfolding andNext
   last-missing (refused j) n e h = let z : _≡_ {A = ℕ} 0 1 = cc in absurd (omega arith)
   last-missing (accepted os) n e h =
@@ -90,21 +110,21 @@ module _ (s : List ℕ) where
       rw z
 
   last-there : (x : Answer (List Obu)) (n : ℕ) → accepted n ≡ counted x → (n ≡ 0 → ⊥)
-      → (b : Bool) (p : List ℕ) → b ≡ sameBytes p s → p ≡ ofUnit [] (lastPayload isSequence) x → pick b (accepted tt) (refused 27) ≡ compared x
+      → (b : Bool) (p : List ℕ) → b ≡ sameBytes p s → p ≡ ofUnit [] (lastPayload isSequence) x → pick b (accepted n) (refused 27) ≡ tallied x
   unfolding andNext
   last-there (refused j) n e h b p g i = let z : _≡_ {A = ℕ} 0 1 = cc in absurd (omega arith)
   last-there (accepted os) n e h b p g i =
       let w : count isSequence os ≡ n = cc in
       let z : has isSequence os ≡ true = sym (has-count isSequence os) ∙ le-leb 1 (count isSequence os) (omega (arith, h, w)) in
       let y : b ≡ sameBytes (lastPayload isSequence os) s = g ∙ ap (λ l. sameBytes l s) i in
-      rw (z, ← y)
+      rw (z, ← y, w) (tally b n)
 
   module _ (x : Answer (List Obu)) (n : ℕ) (e : accepted n ≡ counted x) (h : n ≡ 0 → ⊥) (b : Bool) (p : List ℕ) (g : b ≡ sameBytes p s) (i : p ≡ ofUnit [] (lastPayload isSequence) x) where
-    pub last-other : not b ≡ true → refused 27 ≡ compared x
-    last-other t = ap (λ (y : Bool). pick y (accepted tt) (refused 27)) (sym (denied b t)) ∙ last-there x n e h b p g i
+    pub last-other : not b ≡ true → refused 27 ≡ tallied x
+    last-other t = ap (λ (y : Bool). pick y (accepted n) (refused 27)) (sym (denied b t)) ∙ last-there x n e h b p g i
 
-    pub last-same : not b ≡ false → accepted tt ≡ compared x
-    last-same t = ap (λ (y : Bool). pick y (accepted tt) (refused 27)) (sym (granted b t)) ∙ last-there x n e h b p g i
+    pub last-same : not b ≡ false → accepted n ≡ tallied x
+    last-same t = ap (λ (y : Bool). pick y (accepted n) (refused 27)) (sym (granted b t)) ∙ last-there x n e h b p g i
 
 -- ---- later keys, one after the other
 

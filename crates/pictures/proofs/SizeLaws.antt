@@ -1,18 +1,17 @@
 -- Laws of the frames ordered: their saturated total, the first segment without frames, and the refusals in their order. Assumes nothing.
 use Prim.Native.Nat.{ℕ, suc, _+_, _≤_, _<_, min}
 use native.Mathlib.Omega.{arith}
-use native.Mathlib.Numerals.{add-one}
 use mathlib.Core.Path.{_≡_, refl, sym, ap, _∙_}
 use mathlib.Core.List.{List, [], _∷_, map}
-use mathlib.Core.Bool.{cond as pick}
+use mathlib.Core.Bool.{Bool, true, false, cond as pick}
 use mathlib.Core.Option.{none, some}
 use lib.ListN.{length}
-use lib.Dec.{ltb}
+use lib.Dec.{eqb}
 use borrow.Author.Tests.{lt-ltb, le-ltb, eq-eqb, ne-eqb}
 use Rattle.blocks.specs.Blocks.{total}
 use Rattle.blocks.specs.Numbers.{headFrames, segmentCount, recordsBehind, framesAt, framesIn}
 use Rattle.pictures.specs.Assemble.{stopped, made, andAlso, noneEmpty, sizes}
-use Rattle.pictures.specs.Sizes.{sized}
+use Rattle.pictures.specs.Sizes.{sized, filledFirst}
 use Rattle.blocks.proofs.NumberLaws.{behind-start, behind-end, behind-more, frames-length}
 
 -- the frames of the segments from i on
@@ -59,46 +58,57 @@ sum-turn {rs} {i} r s h w =
 
 -- ---- a segment without frames
 
+filled-yes : (n : ℕ) (ns : List ℕ) → n ≡ 0 → filledFirst (n ∷ ns) ≡ 0
+unfolding filledFirst
+filled-yes n ns e = rw (eq-eqb n 0 e)
+
+filled-no : (n : ℕ) (ns : List ℕ) → (n ≡ 0 → ⊥) → filledFirst (n ∷ ns) ≡ suc (filledFirst ns)
+unfolding filledFirst
+filled-no n ns e = rw (ne-eqb n 0 e)
+
+filled-none : filledFirst [] ≡ 0
+unfolding filledFirst
+filled-none = refl
+
 -- none of i segments is without frames
 pub record Seeking (rs : List ℕ) (i : ℕ) : Type 0 where
   pub within : i ≤ segmentCount rs
-  pub same : noneEmpty 0 (framesIn rs) ≡ noneEmpty i (behind rs i)
+  pub same : i + filledFirst (behind rs i) ≡ filledFirst (framesIn rs)
 
 pub seek-start : (rs : List ℕ) → Seeking rs 0
-seek-start rs = record { within = omega arith; same = ap (λ (l : List (List ℕ)). noneEmpty 0 (map headFrames l)) (sym (behind-start rs)) }
+seek-start rs = record { within = omega arith; same = omega (arith, ap (λ (l : List (List ℕ)). filledFirst (map headFrames l)) (behind-start rs)) }
 
--- what was sought, i being the answer
-abbrev pub Sought : List ℕ → ℕ → Type 0
-Sought rs i = noneEmpty 0 (framesIn rs) ≡ pick (ltb i (length (framesIn rs))) (stopped 24 (some i)) (made tt)
+module _ {rs : List ℕ} {i : ℕ} (s : Seeking rs i) where
+  pub seek-none : segmentCount rs ≤ i → i ≡ filledFirst (framesIn rs)
+  seek-none h = omega (arith, s .same, ap filledFirst (none-behind rs i h), filled-none)
 
-pub seek-none : {rs : List ℕ} {i : ℕ} → Seeking rs i → segmentCount rs ≤ i → Sought rs i
-unfolding noneEmpty
-seek-none {rs} {i} s h =
-    let l = frames-length rs in
-    s .same ∙ ap (noneEmpty i) (none-behind rs i h) ∙ rw (le-ltb i (length (framesIn rs)) (omega arith))
+  module _ (h : i < segmentCount rs) where
+    pub seek-found : framesAt rs i ≡ 0 → i ≡ filledFirst (framesIn rs)
+    seek-found e = omega (arith, s .same, ap filledFirst (more-behind rs i h), filled-yes (framesAt rs i) (behind rs (i + 1)) e)
 
-empty-yes : (i n : ℕ) (ns : List ℕ) → n ≡ 0 → noneEmpty i (n ∷ ns) ≡ stopped 24 (some i)
-unfolding noneEmpty
-empty-yes i n ns e = rw (eq-eqb n 0 e)
+    pub seek-turn : (framesAt rs i ≡ 0 → ⊥) → Seeking rs (i + 1)
+    seek-turn e = record { within = omega arith; same = omega (arith, s .same, ap filledFirst (more-behind rs i h), filled-no (framesAt rs i) (behind rs (i + 1)) e) }
 
-empty-no : (i n : ℕ) (ns : List ℕ) → (n ≡ 0 → ⊥) → noneEmpty i (n ∷ ns) ≡ noneEmpty (suc i) ns
-unfolding noneEmpty
-empty-no i n ns e = rw (ne-eqb n 0 e)
+-- 24, or every segment has frames
+empty-at : (j : ℕ) (ns : List ℕ) → filledFirst ns < length ns → noneEmpty j ns ≡ stopped 24 (some (j + filledFirst ns))
+unfolding noneEmpty filledFirst
+empty-at j [] h = absurd (omega arith)
+empty-at j (n ∷ ns) h = go (eqb n 0) (empty-at (suc j) ns) h
+  where
+    go : (t : Bool) → (filledFirst ns < length ns → noneEmpty (suc j) ns ≡ stopped 24 (some (suc j + filledFirst ns))) → pick t 0 (suc (filledFirst ns)) < suc (length ns)
+        → pick t (stopped 24 (some j)) (noneEmpty (suc j) ns) ≡ stopped 24 (some (j + pick t 0 (suc (filledFirst ns))))
+    go true more h = ap (λ (k : ℕ). stopped 24 (some k)) (omega arith)
+    go false more h = more (omega arith) ∙ ap (λ (k : ℕ). stopped 24 (some k)) (omega arith)
 
-pub seek-found : {rs : List ℕ} {i : ℕ} → Seeking rs i → i < segmentCount rs → framesAt rs i ≡ 0 → Sought rs i
-seek-found {rs} {i} s h e =
-    let l = frames-length rs in
-    s .same ∙ ap (noneEmpty i) (more-behind rs i h) ∙ empty-yes i (framesAt rs i) (behind rs (i + 1)) e
-    ∙ rw (lt-ltb i (length (framesIn rs)) (omega arith))
-
-pub seek-turn : {rs : List ℕ} {i : ℕ} → Seeking rs i → i < segmentCount rs → (framesAt rs i ≡ 0 → ⊥) → Seeking rs (i + 1)
-seek-turn {rs} {i} s h e =
-    record {
-      within = omega arith;
-      same =
-          s .same ∙ ap (noneEmpty i) (more-behind rs i h) ∙ empty-no i (framesAt rs i) (behind rs (i + 1)) e
-          ∙ ap (λ (k : ℕ). noneEmpty k (behind rs (i + 1))) (sym (add-one i));
-    }
+all-filled : (j : ℕ) (ns : List ℕ) → length ns ≤ filledFirst ns → noneEmpty j ns ≡ made tt
+unfolding noneEmpty filledFirst
+all-filled j [] h = refl
+all-filled j (n ∷ ns) h = go (eqb n 0) (all-filled (suc j) ns) h
+  where
+    go : (t : Bool) → (length ns ≤ filledFirst ns → noneEmpty (suc j) ns ≡ made tt) → suc (length ns) ≤ pick t 0 (suc (filledFirst ns))
+        → pick t (stopped 24 (some j)) (noneEmpty (suc j) ns) ≡ made tt
+    go true more h = absurd (omega arith)
+    go false more h = more (omega arith)
 
 -- ---- the refusals in order
 
@@ -126,22 +136,22 @@ module _ (gop : ℕ) (rs : List ℕ) (some-there : segmentCount rs ≡ 0 → ⊥
     unfolding sizes
     refused-23 h = sym (there ∙ rw (le-ltb gop 2 g, lt-ltb (total (framesIn rs)) 2 (omega arith)))
 
-    module _ (h : 2 ≤ t) (i : ℕ) (found : Sought rs i) where
+    module _ (h : 2 ≤ t) (i : ℕ) (found : i ≡ filledFirst (framesIn rs)) where
       pub refused-24 : i < segmentCount rs → stopped 24 (some i) ≡ sized gop (framesIn rs)
       unfolding sizes andAlso
       refused-24 w =
           let l = frames-length rs in
-          let e : noneEmpty 0 (framesIn rs) ≡ stopped 24 (some i) = found ∙ rw (lt-ltb i (length (framesIn rs)) (omega arith)) in
+          let e : noneEmpty 0 (framesIn rs) ≡ stopped 24 (some i) = empty-at 0 (framesIn rs) (omega arith) ∙ ap (λ (k : ℕ). stopped 24 (some k)) (omega arith) in
           sym (there ∙ rw (le-ltb gop 2 g, le-ltb (total (framesIn rs)) 2 (omega arith), e))
 
       module _ (w : segmentCount rs ≤ i) where
-        all-filled : noneEmpty 0 (framesIn rs) ≡ made tt
-        all-filled = let l = frames-length rs in found ∙ rw (le-ltb i (length (framesIn rs)) (omega arith))
+        filled : noneEmpty 0 (framesIn rs) ≡ made tt
+        filled = all-filled 0 (framesIn rs) (omega (arith, frames-length rs))
 
         pub refused-25 : 5000000 < t → stopped 25 none ≡ sized gop (framesIn rs)
         unfolding sizes andAlso
-        refused-25 k = sym (there ∙ rw (le-ltb gop 2 g, le-ltb (total (framesIn rs)) 2 (omega arith), all-filled, lt-ltb 5000000 (total (framesIn rs)) (omega arith)))
+        refused-25 k = sym (there ∙ rw (le-ltb gop 2 g, le-ltb (total (framesIn rs)) 2 (omega arith), filled, lt-ltb 5000000 (total (framesIn rs)) (omega arith)))
 
         pub sized-fit : t ≤ 5000000 → made tt ≡ sized gop (framesIn rs)
         unfolding sizes andAlso
-        sized-fit k = sym (there ∙ rw (le-ltb gop 2 g, le-ltb (total (framesIn rs)) 2 (omega arith), all-filled, le-ltb 5000000 (total (framesIn rs)) (omega arith)))
+        sized-fit k = sym (there ∙ rw (le-ltb gop 2 g, le-ltb (total (framesIn rs)) 2 (omega arith), filled, le-ltb 5000000 (total (framesIn rs)) (omega arith)))

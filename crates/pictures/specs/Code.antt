@@ -6,11 +6,13 @@ use mathlib.Core.Option.{Option, none, some}
 use lib.ListN.{length}
 use Rattle.bitio.specs.Parse.{Answer, refused, accepted, answer, andNext}
 use Rattle.obu.specs.Obu.{Obu, obus}
+use Rattle.obu.specs.Unit.{isKind, count}
+use Rattle.obu.specs.declared.unit.Kind.the-variants.{Any}
 use Rattle.header.specs.Sequence.{Sequence}
 use Rattle.blocks.specs.Numbers.{records, recordsBehind}
 use Rattle.pictures.specs.Segments.{Segment, segmentIn}
 use Rattle.pictures.specs.Prepare.{isSequence, firstOf, sent, asked, Prepared}
-use Rattle.pictures.specs.Assemble.{Outcome, made, andAlso, prepareAll, pictureOf}
+use Rattle.pictures.specs.Assemble.{Outcome, made, andAlso, sameHeader, prepareAll, pictureOf}
 
 -- ---- segments
 
@@ -27,11 +29,19 @@ laterSegments s rs = map (segmentIn s) (recordsBehind rs 1)
 abbrev pub firstSequence : List ℕ → Answer Obu
 firstSequence u = andNext (obus u) (λ os. firstOf 26 isSequence os)
 
+-- a later key: 1 to 5, 27, or how many sequence headers it has
+abbrev pub countSame : List ℕ → List ℕ → Answer ℕ
+countSame first u = andNext (obus u) (λ os. answer (λ _. count isSequence os) (sameHeader first os))
+
 -- ---- what is asked of a segment
 
 -- 1 to 5, where units are read to be rewritten
 abbrev pub readable : Bool → List ℕ → Answer Unit
 readable rewriting u = pick rewriting (answer (λ _. tt) (obus u)) (accepted tt)
+
+-- how many OBUs such a unit has; any other is not looked at
+abbrev pub countRead : Bool → List ℕ → Answer ℕ
+countRead rewriting u = pick rewriting (answer (count (isKind Any)) (obus u)) (accepted 0)
 
 -- the slot that the show units of a segment name, or its first refusal
 unfoldable pub judged : Sequence → Bool → List ℕ → List ℕ → Answer ℕ

@@ -1,7 +1,9 @@
 -- What the checks of sizes and ranges answer, by 01's numbers. Assumes nothing.
-use Prim.Native.Nat.{ℕ}
+use Prim.Native.Nat.{ℕ, suc}
 use mathlib.Core.List.{List, [], _∷_}
 use mathlib.Core.Option.{none, some}
+use mathlib.Core.Bool.{cond as pick}
+use lib.Dec.{eqb}
 use Rattle.bitio.specs.Parse.{answer}
 use Rattle.pictures.specs.Assemble.{Outcome, stopped, made, overall, sizes}
 use Rattle.pictures.specs.Segments.{segmentsOf}
@@ -18,6 +20,11 @@ checkedSays (RefusedIn k i) = stopped k (some i)
 abbrev pub sized : ℕ → List ℕ → Outcome Unit
 sized gop [] = stopped 21 none
 sized gop (n ∷ ns) = sizes gop (n ∷ ns)
+
+-- how many segments stand before the first without frames
+unfoldable pub filledFirst : List ℕ → ℕ
+filledFirst [] = 0
+filledFirst (n ∷ ns) = pick (eqb n 0) 0 (suc (filledFirst ns))
 
 -- 36, or all ranges lie within s
 abbrev pub ranged : List ℕ → List ℕ → Outcome Unit

@@ -1,12 +1,12 @@
 // What is asked of the units of a segment: a shown key, and a golden that is shown, is no key and refreshes a slot.
 ghost use mathlib.Core.Path.{_≡_};
 ghost use mathlib.Core.Bool.{false, cond as pick};
-ghost use Rattle.bitio.specs.Parse.{refused, accepted, answer, andNext};
+ghost use Rattle.bitio.specs.Parse.{refused, accepted, andNext};
 ghost use Rattle.obu.specs.Unit.{countedSays};
 ghost use Rattle.header.specs.Sequence.{sequenceOf};
 ghost use Rattle.frame.specs.Frame.{frameSays};
 ghost use Rattle.pictures.specs.Prepare.{firstFrame, keyOk, goldenFlags, slotOf};
-ghost use Rattle.pictures.specs.Code.{readable, judged};
+ghost use Rattle.pictures.specs.Code.{countRead, judged};
 ghost use Rattle.pictures.specs.Says.{slotSays};
 use crate::slot::lowest_refreshed_slot;
 use frame::frame_header::FrameAnswer;
@@ -97,7 +97,7 @@ fn frame_slot(
 
 // The OBUs of a unit that is read to be rewritten: 1 to 5; any other is not looked at.
 fn count_readable(unit: &[u8], rewriting: bool) -> Counted
-    ensures { λ r. ⌜ answer (λ _. tt) (countedSays r) ≡ readable rewriting (now (unit .entry)) ⌝ }
+    ensures { λ r. ⌜ countedSays r ≡ countRead rewriting (now (unit .entry)) ⌝ }
 {
     if rewriting {
         return count_obus(unit, Kind::Any);

@@ -1,11 +1,10 @@
 // The list's sequence header: the first sequence payload of the first key, and the last one of every later key.
 ghost use mathlib.Core.Path.{_≡_};
-ghost use Rattle.bitio.specs.Parse.{answer, andNext};
-ghost use Rattle.obu.specs.Obu.{obus};
+ghost use Rattle.bitio.specs.Parse.{answer};
 ghost use Rattle.obu.specs.Unit.{countedSays};
-ghost use Rattle.pictures.specs.Assemble.{readHeader, sameBytes, sameHeader, sameHeaders};
+ghost use Rattle.pictures.specs.Assemble.{readHeader, sameBytes, sameHeaders};
 ghost use Rattle.pictures.specs.Sizes.{checkedSays};
-ghost use Rattle.pictures.specs.Code.{firstSequence, laterSegments};
+ghost use Rattle.pictures.specs.Code.{firstSequence, laterSegments, countSame};
 ghost use Rattle.pictures.specs.Says.{foundSays, readSays};
 use crate::sizes::Checked;
 use blocks::numbers::key_of;
@@ -91,7 +90,7 @@ fn same_bytes(a: &[u8], b: &[u8]) -> bool
 
 // The sequence headers of a key, the last with the payload `first`: 1 to 5, 27.
 fn count_same(unit: &[u8], first: &[u8]) -> Counted
-    ensures { λ r. ⌜ answer (λ _. tt) (countedSays r) ≡ andNext (obus (now (unit .entry))) (λ os. sameHeader (now (first .entry)) os) ⌝ }
+    ensures { λ r. ⌜ countedSays r ≡ countSame (now (first .entry)) (now (unit .entry)) ⌝ }
 {
     match count_obus(unit, Kind::SequenceHeader) {
         Counted::Refused(k) => Counted::Refused(k),

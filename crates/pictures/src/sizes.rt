@@ -1,14 +1,9 @@
 // The frames ordered and the ranges of the segments, judged over their flat numbers.
 ghost use mathlib.Core.Path.{_≡_};
-ghost use mathlib.Core.Bool.{cond as pick};
-ghost use mathlib.Core.Option.{some};
 ghost use Prim.Native.Nat.{_+_, min};
-ghost use lib.ListN.{length};
-ghost use lib.Dec.{ltb};
 ghost use Rattle.blocks.specs.Blocks.{total};
 ghost use Rattle.blocks.specs.Numbers.{framesIn};
-ghost use Rattle.pictures.specs.Assemble.{stopped, made, noneEmpty};
-ghost use Rattle.pictures.specs.Sizes.{checkedSays, sized, ranged};
+ghost use Rattle.pictures.specs.Sizes.{checkedSays, sized, filledFirst, ranged};
 use blocks::numbers::frames_of;
 use blocks::numbers::is_whole;
 use blocks::numbers::is_within;
@@ -48,7 +43,7 @@ pub fn total_frames(segments: &[u64]) -> u64
 
 // The first segment without frames; past all where there is none.
 fn first_empty(segments: &[u64]) -> usize
-    ensures { λ r. ⌜ noneEmpty 0 (framesIn (now (segments .entry))) ≡ pick (ltb r (length (framesIn (now (segments .entry))))) (stopped 24 (some r)) (made tt) ⌝ }
+    ensures { λ r. ⌜ r ≡ filledFirst (framesIn (now (segments .entry))) ⌝ }
 {
     let count = segment_count(segments);
     let mut i: usize = 0;

@@ -10,7 +10,7 @@ use Rattle.pictures.specs.Code.{laterSegments}
 use Rattle.pictures.specs.Says.{sequenceIn}
 use Rattle.blocks.specs.Numbers.{headKey}
 use Rattle.pictures.specs.Rewrite.{obuIn}
-use Rattle.assemble.proofs.PlanLaws.{says-refused, says-refused-in, header-refused, header-other, header-same}
+use Rattle.assemble.proofs.PlanLaws.{none-planned, none-planned-in, header-refused, header-other, header-same}
 use Rattle.assemble.proofs.plan.plan_header.Statement.{statement}
 use Rattle.assemble.proofs.plan.plan_header.Tie as tie
 
@@ -72,7 +72,7 @@ returns c =
     let rs = now (a .segments) in
     let o = obuIn (headKey s rs) (a .obu) in
     let r = c .before .before .before .before .before in
-    says-refused-in s rs _ _ _ (c .no-plan .ensures)
+    none-planned-in s rs _ _ _ (c .no-plan .ensures)
     ∙ header-refused s rs (a .settings) o _
     (sym (ap (λ x. sequenceIn x (r .read-supported .result .«operating_points»)) (c .before .before .answer .given .1)) ∙ r .read-supported .ensures ∙ ap readHeader (first-payload (r .before)))
 
@@ -86,7 +86,7 @@ returns-2 c =
     let r = h .before .before .before .before .before in
     let p = first-payload (r .before) in
     let read = sym (ap (λ x. sequenceIn x (r .read-supported .result .«operating_points»)) (h .before .before .answer2 .given .1)) ∙ r .read-supported .ensures ∙ ap readHeader p in
-    says-refused s rs _ _ (c .no-plan2 .ensures)
+    none-planned s rs _ _ (c .no-plan2 .ensures)
     ∙ header-other s rs (a .settings) o _ read _ _ (sym (ap checkedSays (c .before .before .k .given .1)) ∙ h .same-headers .ensures ∙ ap (λ (l : List ℕ). sameHeaders l 1 (laterSegments s rs)) p)
 
 returns-3 : tie.Need-returns-3
@@ -99,7 +99,7 @@ returns-3 c =
     let r = h .before .before .before .before .before in
     let p = first-payload (r .before) in
     let read = sym (ap (λ x. sequenceIn x (r .read-supported .result .«operating_points»)) (h .before .before .answer2 .given .1)) ∙ r .read-supported .ensures ∙ ap readHeader p in
-    says-refused-in s rs _ _ _ (c .no-plan3 .ensures)
+    none-planned-in s rs _ _ _ (c .no-plan3 .ensures)
     ∙ header-other s rs (a .settings) o _ read _ _ (sym (ap checkedSays (c .before .before .k2 .given .1)) ∙ h .same-headers .ensures ∙ ap (λ (l : List ℕ). sameHeaders l 1 (laterSegments s rs)) p)
 
 returns-4 : tie.Need-returns-4

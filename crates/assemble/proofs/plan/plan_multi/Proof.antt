@@ -8,7 +8,7 @@ use Rattle.pictures.specs.Code.{firstSequence}
 use Rattle.pictures.specs.Says.{foundSays}
 use Rattle.assemble.specs.Stages.{checked}
 use Rattle.assemble.proofs.StageLaws.{Sound, checked-sound}
-use Rattle.assemble.proofs.PlanLaws.{says-refused, says-refused-in, plan-unchecked, plan-unfound, plan-found, found-type, found-at}
+use Rattle.assemble.proofs.PlanLaws.{none-planned, none-planned-in, plan-unchecked, plan-unfound, plan-found, found-type, found-at}
 use Rattle.assemble.proofs.plan.plan_multi.Statement.{statement}
 use Rattle.assemble.proofs.plan.plan_multi.Tie as tie
 
@@ -72,7 +72,7 @@ returns c =
     let s = now (a .picture) in
     let rs = now (a .segments) in
     let set = a .settings in
-    says-refused s rs _ _ (c .no-plan .ensures)
+    none-planned s rs _ _ (c .no-plan .ensures)
     ∙ plan-unchecked s rs set _ _ (sym (ap checkedSays (c .before .before .k .given .1)) ∙ c .before .before .before .before .check-input .ensures)
 
 returns-2 : tie.Need-returns-2
@@ -81,7 +81,7 @@ returns-2 c =
     let s = now (a .picture) in
     let rs = now (a .segments) in
     let set = a .settings in
-    says-refused-in s rs _ _ _ (c .no-plan2 .ensures)
+    none-planned-in s rs _ _ _ (c .no-plan2 .ensures)
     ∙ plan-unchecked s rs set _ _ (sym (ap checkedSays (c .before .before .k2 .given .1)) ∙ c .before .before .before .before .check-input .ensures)
 
 returns-3 : tie.Need-returns-3
@@ -91,7 +91,7 @@ returns-3 c =
     let rs = now (a .segments) in
     let set = a .settings in
     let f = c .before .before .before .before in
-    says-refused-in s rs _ _ _ (c .no-plan3 .ensures)
+    none-planned-in s rs _ _ _ (c .no-plan3 .ensures)
     ∙ plan-unfound s rs set (fit (f .before .before)) _ (sym (ap (foundSays (now (f .before .key-of .result))) (c .before .before .k3 .given .1)) ∙ f .first-sequence .ensures ∙ ap firstSequence (f .before .key-of .ensures))
 
 returns-4 : tie.Need-returns-4

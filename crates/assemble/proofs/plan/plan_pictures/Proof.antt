@@ -7,7 +7,7 @@ use Rattle.header.specs.Sequence.{sequenceOf}
 use Rattle.pictures.specs.Code.{allSegments, measured}
 use Rattle.pictures.specs.Says.{measuredSays}
 use Rattle.assemble.specs.Stages.{planSays}
-use Rattle.assemble.proofs.PlanLaws.{says-refused-in, pictures-refused, pictures-made}
+use Rattle.assemble.proofs.PlanLaws.{none-planned-in, pictures-refused, pictures-made}
 use Rattle.assemble.proofs.plan.plan_pictures.Statement.{statement}
 use Rattle.assemble.proofs.plan.plan_pictures.Tie as tie
 
@@ -34,7 +34,7 @@ returns c =
     let m = c .before .before .before .before in
     let a = m .before .before .before .before .before .before .args in
     let q = sequenceOf (a .basis .header) (a .points) in
-    says-refused-in (now (a .picture)) (now (a .segments)) _ _ _ (c .no-plan .ensures)
+    none-planned-in (now (a .picture)) (now (a .segments)) _ _ _ (c .no-plan .ensures)
     ∙ pictures-refused (now (a .picture)) (now (a .segments)) q (a .basis .rewriting) _ _ _ _
     (sym (ap measuredSays (c .before .before .k .given .1)) ∙ m .measure-pictures .ensures
     ∙ ap (λ (l : List ℕ). measured q (a .basis .rewriting) l (allSegments (now (a .picture)) (now (a .segments)))) (m .before .payload .ensures))

@@ -83,7 +83,8 @@ returns c =
     let a = c .before .before .before .before .before .before .before .before .before .before .before .before .before .before .before .before .before .before .before .before .before .before .before .before .before .before .before .before .before .before .before .before .before .before .before .before .before .before .before .before .before .before .args in
     let e = c .before .before .before .before .before .before .before .before .before .before .before .before .before .before .before .before .before .before .before .before .before .before .before .assemble-multi .ensures in
     let m = made-is (outcome (between (a .layout .start) (a .layout .end) (now (a .file))) (between 0 (width * a .layout .segments) (now (a .numbers))) (settingsOf (a .layout))) _ (six (a .list) (a .cues) (a .pictures) (a .ends) (a .shows) (a .header)) _ (outcome-held (between (a .layout .start) (a .layout .end) (now (a .file))) (between 0 (width * a .layout .segments) (now (a .numbers))) (settingsOf (a .layout)) (six (a .list) (a .cues) (a .pictures) (a .ends) (a .shows) (a .header))) (rw (c .before .before .before .before .before .before .before .before .before .made .given .1) at e) in
-    retold (now (a .out)) (m .1) (c .before .before .put-made .ensures)
+    let h = retold (now (a .out)) (m .1) (c .before .before .put-made .ensures) in
+    (h .0, (h .1, e .lent))
 
 same-length-8 : tie.Need-same-length-8
 same-length-8 c = search needs
@@ -110,7 +111,8 @@ returns-2 : tie.Need-returns-2
 returns-2 c =
     let a = c .before .before .before .before .before .before .before .before .before .before .before .before .before .before .before .before .before .before .before .before .before .before .before .before .before .before .before .before .before .before .before .before .before .before .before .before .before .before .args in
     let e = c .before .before .before .before .before .before .before .before .before .before .before .before .before .before .before .before .before .before .before .assemble-multi .ensures in
-    retold (now (a .out)) (refused-is (outcome (between (a .layout .start) (a .layout .end) (now (a .file))) (between 0 (width * a .layout .segments) (now (a .numbers))) (settingsOf (a .layout)) (six (a .list) (a .cues) (a .pictures) (a .ends) (a .shows) (a .header))) _ (sym (ap assembledSays (c .before .before .before .before .before .made2 .given .1)) ∙ e .answer)) (c .before .before .put-refused .ensures)
+    let h = retold (now (a .out)) (refused-is (outcome (between (a .layout .start) (a .layout .end) (now (a .file))) (between 0 (width * a .layout .segments) (now (a .numbers))) (settingsOf (a .layout)) (six (a .list) (a .cues) (a .pictures) (a .ends) (a .shows) (a .header))) _ (sym (ap assembledSays (c .before .before .before .before .before .made2 .given .1)) ∙ e .answer)) (c .before .before .put-refused .ensures) in
+    (h .0, (h .1, e .lent))
 
 same-length-15 : tie.Need-same-length-15
 same-length-15 c = search needs
@@ -137,7 +139,8 @@ returns-3 : tie.Need-returns-3
 returns-3 c =
     let a = c .before .before .before .before .before .before .before .before .before .before .before .before .before .before .before .before .before .before .before .before .before .before .before .before .before .before .before .before .before .before .before .before .before .before .before .before .before .before .args in
     let e = c .before .before .before .before .before .before .before .before .before .before .before .before .before .before .before .before .before .before .before .assemble-multi .ensures in
-    retold (now (a .out)) (refused-in-is (outcome (between (a .layout .start) (a .layout .end) (now (a .file))) (between 0 (width * a .layout .segments) (now (a .numbers))) (settingsOf (a .layout)) (six (a .list) (a .cues) (a .pictures) (a .ends) (a .shows) (a .header))) _ _ (sym (ap assembledSays (c .before .before .before .before .before .made3 .given .1)) ∙ e .answer)) (c .before .before .put-refused-in .ensures)
+    let h = retold (now (a .out)) (refused-in-is (outcome (between (a .layout .start) (a .layout .end) (now (a .file))) (between 0 (width * a .layout .segments) (now (a .numbers))) (settingsOf (a .layout)) (six (a .list) (a .cues) (a .pictures) (a .ends) (a .shows) (a .header))) _ _ (sym (ap assembledSays (c .before .before .before .before .before .made3 .given .1)) ∙ e .answer)) (c .before .before .put-refused-in .ensures) in
+    (h .0, (h .1, e .lent))
 
 pub put-assembly-spec : {M : Type 1} → statement M
 put-assembly-spec =

@@ -1,10 +1,6 @@
 -- `assemble::frames::count_readable` meets its contract. Assumes nothing.
 use borrow.Author.Needs.{needs}
-use borrow.Author.Needs.{needs}
-use denote.Ref.{now}
-use Rattle.obu.specs.Unit.{isKind, count}
-use Rattle.obu.specs.declared.unit.Kind.the-variants.{Any}
-use Rattle.pictures.proofs.FrameLaws.{legible-read}
+use mathlib.Core.Path.{_∙_}
 use Rattle.pictures.proofs.frames.count_readable.Statement.{statement}
 use Rattle.pictures.proofs.frames.count_readable.Tie as tie
 
@@ -12,7 +8,7 @@ count-obus-requires : tie.Need-count-obus-requires
 count-obus-requires c κs = search needs
 
 returns : tie.Need-returns
-returns c = let a = c .before .before .before .args in legible-read (a .rewriting) (now (a .unit)) (count (isKind Any)) _ (c .before .if1 .taken) (c .count-obus .ensures)
+returns c = c .count-obus .ensures ∙ rw (c .before .if1 .taken)
 
 returns-2 : tie.Need-returns-2
 returns-2 c = rw (c .if1 .left)
