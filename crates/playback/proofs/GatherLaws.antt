@@ -151,7 +151,7 @@ module _ {us all : List (List ℕ)} {d e : List ℕ} {w i : ℕ} {o m : List ℕ
 
 -- ---- the whole
 
-or-false : (x y : Bool) → (x || y) ≡ false → (x ≡ false) × (y ≡ false)
+pub or-false : (x y : Bool) → (x || y) ≡ false → (x ≡ false) × (y ≡ false)
 or-false true y q = let z : _≡_ {A = ℕ} 0 1 = cc in absurd (omega arith)
 or-false false y q = (refl, q)
 

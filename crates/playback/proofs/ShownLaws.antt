@@ -24,6 +24,7 @@ use Rattle.player.specs.declared.step.State.{State as CodeState}
 use Rattle.player.specs.declared.step.Played.{Played as CodePlayed}
 use Rattle.playback.specs.Lent.{Fills}
 use Rattle.playback.specs.Shown.{positionNumber, shownNumber, codeNumber, shownFrom, shownBy, fromCue, playFrom, unitIn, CanPlay}
+use Rattle.playback.proofs.GatherLaws.{or-false}
 
 -- the code's number is the answer's
 pub number-says : (st : CodeState) (p : ℕ) (u : List ℕ) → codeNumber (playedBy st p u .answer) ≡ shownNumber (play (stateSays st) p u)
@@ -49,8 +50,8 @@ unit-at s es i q w = w ∙ ap (λ x. part s x (getD es i 0)) q
 
 -- ---- units cut from their bytes
 
-none-cut : {A : Type 0} {k : ℕ} {a : A} → refused k ≡ accepted a → ⊥
-none-cut {A} {k} {a} e = let z : _≡_ {A = ℕ} 0 1 = cc in omega arith
+pub none-cut : {A : Type 0} {k : ℕ} {a : A} → refused k ≡ accepted a → ⊥
+none-cut e = let z : _≡_ {A = ℕ} 0 1 = cc in omega arith
 
 onto-is : {A : Type 0} (a : A) (x : Answer (List A)) (l : List A) → onto a x ≡ accepted l → (m : List A) × (x ≡ accepted m) × (l ≡ a ∷ m)
 onto-is a (refused k) l e = absurd (none-cut e)
@@ -190,10 +191,6 @@ module _ {s es : List ℕ} {cue : ℕ} {d : List ℕ} {st : State} {i k : ℕ} {
           }
 
 -- ---- the whole
-
-or-false : (x y : Bool) → (x || y) ≡ false → (x ≡ false) × (y ≡ false)
-or-false true y q = let z : _≡_ {A = ℕ} 0 1 = cc in absurd (omega arith)
-or-false false y q = (refl, q)
 
 and-false : (x : Bool) → (x && false) ≡ false
 and-false true = refl

@@ -27,12 +27,10 @@ use Rattle.playback.specs.Gather.{gathered}
 use Rattle.playback.specs.Shown.{fromCue, playFrom, showsSay}
 use Rattle.playback.specs.Way.{WriteLent, CarryLent, bytesRoom, written, Writes, carried, Carries, shown, Plays}
 use Rattle.playback.proofs.GatherLaws.{stores}
+use Rattle.playback.proofs.ShownLaws.{none-cut}
 use Rattle.container.proofs.LentLaws.{units-there, lent-write}
 
 -- ---- what is accepted has room
-
-none-made : {A : Type 0} {k : ℕ} {a : A} → refused k ≡ accepted a → ⊥
-none-made e = let z : _≡_ {A = ℕ} 0 1 = cc in omega arith
 
 pub record Fits (room : Room) (us : List (List ℕ)) : Type 0 where
   pub small : length (streamBytes us) ≤ limit
@@ -40,11 +38,11 @@ pub record Fits (room : Room) (us : List (List ℕ)) : Type 0 where
   pub ends : length us ≤ room .ends
 
 fit-units : (room : Room) (x : Answer (List (List ℕ))) (us : List (List ℕ)) → fitUnits room x ≡ accepted us → Fits room us
-fit-units room (refused k) us q = absurd (none-made q)
+fit-units room (refused k) us q = absurd (none-cut q)
 fit-units room (accepted vs) us q = go (fits (length (streamBytes vs)) (length vs) room) refl q
   where
     go : (b : Bool) → fits (length (streamBytes vs)) (length vs) room ≡ b → pick b (accepted vs) (refused 35) ≡ accepted us → Fits room us
-    go false t q = absurd (none-made q)
+    go false t q = absurd (none-cut q)
     go true t q =
         let e : vs ≡ us = cc in
         let x = and-true (leb (length (streamBytes vs)) limit) (leb (length (streamBytes vs)) (room .bytes) && leb (length vs) (room .ends)) t in
@@ -56,11 +54,11 @@ fit-units room (accepted vs) us q = go (fits (length (streamBytes vs)) (length v
         })
 
 fit-bytes : (room : Room) (x : Answer (List ℕ)) (bs : List ℕ) → fitBytes room x ≡ accepted bs → length bs ≤ room .bytes
-fit-bytes room (refused k) bs q = absurd (none-made q)
+fit-bytes room (refused k) bs q = absurd (none-cut q)
 fit-bytes room (accepted xs) bs q = go (fits (length xs) 0 room) refl q
   where
     go : (b : Bool) → fits (length xs) 0 room ≡ b → pick b (accepted xs) (refused 35) ≡ accepted bs → length bs ≤ room .bytes
-    go false t q = absurd (none-made q)
+    go false t q = absurd (none-cut q)
     go true t q =
         let e : xs ≡ bs = cc in
         let x = and-true (leb (length xs) limit) (leb (length xs) (room .bytes) && leb 0 (room .ends)) t in
@@ -70,7 +68,7 @@ fit-bytes room (accepted xs) bs q = go (fits (length xs) 0 room) refl q
 -- 34 apart
 led : {A : Type 0} (b : Bool) (x : Answer A) (a : A) → pick b x (refused 34) ≡ accepted a → x ≡ accepted a
 led true x a q = q
-led false x a q = absurd (none-made q)
+led false x a q = absurd (none-cut q)
 
 read-fits : (c : Container) (room : Room) (s : List ℕ) (us : List (List ℕ)) → read c room s ≡ accepted us → Fits room us
 unfolding read
@@ -96,7 +94,7 @@ split-some : (x : Answer (List (List ℕ))) (r : Split) (n u : ℕ) → splitSay
 split-some x r n u q t = go x (ap splitSays (sym t) ∙ q)
   where
     go : (x : Answer (List (List ℕ))) → accepted (record { bytes = n; units = u }) ≡ sizesOf x → Sized x n u
-    go (refused k) q = absurd (none-made (sym q))
+    go (refused k) q = absurd (none-cut (sym q))
     go (accepted us) q =
         let z : _≡_ {A = Sizes} (record { bytes = n; units = u }) (record { bytes = length (streamBytes us); units = length us }) = cc in
         record { units = us; are = refl; bytes = ap (λ (y : Sizes). y .bytes) z; count = ap (λ (y : Sizes). y .units) z }
@@ -106,13 +104,13 @@ split-none x r k q t = go x (ap splitSays (sym t) ∙ q)
   where
     go : (x : Answer (List (List ℕ))) → refused k ≡ sizesOf x → x ≡ refused k
     go (refused j) q = let z : j ≡ k = cc in ap refused z
-    go (accepted us) q = absurd (none-made q)
+    go (accepted us) q = absurd (none-cut q)
 
 joined-some : (x : Answer (List ℕ)) (r : Joined) (n : ℕ) → joinedSays r ≡ countOf x → r ≡ Bytes n → (bs : List ℕ) × (x ≡ accepted bs) × (n ≡ length bs)
 joined-some x r n q t = go x (ap joinedSays (sym t) ∙ q)
   where
     go : (x : Answer (List ℕ)) → accepted n ≡ countOf x → (bs : List ℕ) × (x ≡ accepted bs) × (n ≡ length bs)
-    go (refused k) q = absurd (none-made (sym q))
+    go (refused k) q = absurd (none-cut (sym q))
     go (accepted bs) q = (bs, refl, cc)
 
 joined-none : (x : Answer (List ℕ)) (r : Joined) (k : ℕ) → joinedSays r ≡ countOf x → r ≡ JoinedRefused k → x ≡ refused k
@@ -120,7 +118,7 @@ joined-none x r k q t = go x (ap joinedSays (sym t) ∙ q)
   where
     go : (x : Answer (List ℕ)) → refused k ≡ countOf x → x ≡ refused k
     go (refused j) q = let z : j ≡ k = cc in ap refused z
-    go (accepted bs) q = absurd (none-made q)
+    go (accepted bs) q = absurd (none-cut q)
 
 -- ---- what stands at the head of lent memory
 
@@ -234,7 +232,7 @@ module _ (c : Container) (us : List (List ℕ)) where
       bytes-fit bs q = go (gathered us (roomOf (d .units))) q
         where
           go : (x : Answer (List (List ℕ))) → andNext x (write c (bytesRoom (length (d .out)))) ≡ accepted bs → length bs ≤ length (d .out)
-          go (refused k) q = absurd (none-made q)
+          go (refused k) q = absurd (none-cut q)
           go (accepted vs) q = write-fits c (bytesRoom (length (d .out))) vs bs q
 
       out-is : (bs : List ℕ) → written c us d ≡ accepted bs → d′ .out ≡ pasted (d .out) 0 bs
@@ -277,7 +275,7 @@ module _ (c : Container) (us : List (List ℕ)) where
       back-fits vs q = go (written c us (d .written)) q
         where
           go : (x : Answer (List ℕ)) → andNext x (read c (roomOf (d .back))) ≡ accepted vs → Fits (roomOf (d .back)) vs
-          go (refused k) q = absurd (none-made q)
+          go (refused k) q = absurd (none-cut q)
           go (accepted bs) q = read-fits c (roomOf (d .back)) bs vs q
 
       back-is : d′ .back ≡ storeAfter (carried c us d) (d .back)

@@ -3,9 +3,6 @@ use Rattle.playback.proofs.GatherLaws.{gather-full, gather-room, gather
 use Rattle.playback.proofs.gather.gather_units.Statement.{statement}
 use Rattle.playback.proofs.gather.gather_units.Tie as tie
 
-measure-requires : tie.Need-measure-requires
-measure-requires c κs = search needs
-
 returns : tie.Need-returns
 returns c = gather-full _ _ _ _ _ _ (c .before .measure .ensures) (c .if1 .taken)
 
@@ -13,12 +10,6 @@ put-units-requires : tie.Need-put-units-requires
 put-units-requires c κs =
     let e = c .before .before in
     gather-room _ _ _ _ _ _ (e .before .measure .ensures) (e .if1 .left)
-
-same-length : tie.Need-same-length
-same-length c = search needs
-
-same-length-2 : tie.Need-same-length-2
-same-length-2 c = search needs
 
 returns-2 : tie.Need-returns-2
 returns-2 c =
@@ -29,4 +20,4 @@ returns-2 c =
 pub gather-units-spec : {M : Type 1} → statement M
 gather-units-spec =
     tie.close
-    (tie.spec measure-requires returns put-units-requires same-length same-length-2 returns-2)
+    (tie.spec (λ c κs. search needs) returns put-units-requires (λ c. search needs) (λ c. search needs) returns-2)

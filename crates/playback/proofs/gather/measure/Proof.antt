@@ -15,23 +15,8 @@ abbrev μ-loop : tie.MeasureT-loop
 loop-holds : tie.Need-loop-holds Inv-loop μ-loop
 loop-holds c = measuring-start _
 
-mul-unit : tie.Need-mul-unit Inv-loop μ-loop
-mul-unit c = search needs
-
-shared-slice-read-unit : tie.Need-shared-slice-read-unit Inv-loop μ-loop
-shared-slice-read-unit c = search needs
-
-unit-requires : tie.Need-unit-requires Inv-loop μ-loop
-unit-requires c κs = search needs
-
 plus-requires : tie.Need-plus-requires Inv-loop μ-loop
 plus-requires c κs = c .before .before .before .loop .inv .low
-
-add-i : tie.Need-add-i Inv-loop μ-loop
-add-i c = search needs
-
-loop-less : tie.Need-loop-less Inv-loop μ-loop
-loop-less c = search needs
 
 loop-again : tie.Need-loop-again Inv-loop μ-loop
 loop-again c =
@@ -49,11 +34,11 @@ measure-spec =
     Inv-loop
     μ-loop
     loop-holds
-    mul-unit
-    shared-slice-read-unit
-    unit-requires
+    (λ c. search needs)
+    (λ c. search needs)
+    (λ c κs. search needs)
     plus-requires
-    add-i
-    loop-less
+    (λ c. search needs)
+    (λ c. search needs)
     loop-again
     returns)

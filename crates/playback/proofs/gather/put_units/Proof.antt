@@ -17,15 +17,6 @@ abbrev μ-loop : tie.MeasureT-loop
 loop-holds : tie.Need-loop-holds Inv-loop μ-loop
 loop-holds c = putting-start (c .before .before .before .before .before .before .pre)
 
-mul-unit : tie.Need-mul-unit Inv-loop μ-loop
-mul-unit c = search needs
-
-shared-slice-read-unit : tie.Need-shared-slice-read-unit Inv-loop μ-loop
-shared-slice-read-unit c = search needs
-
-unit-requires : tie.Need-unit-requires Inv-loop μ-loop
-unit-requires c κs = search needs
-
 put-bytes-requires : tie.Need-put-bytes-requires Inv-loop μ-loop
 put-bytes-requires c κs =
     let u = c .before in
@@ -39,20 +30,11 @@ cast-unit-ends c =
     let t = u .before .before in
     omega (arith, putting-small (t .before .loop .inv) (left-next _ _ _ _ _ (t .loop-test .taken)) (u .unit .ensures) (b .put-bytes .ensures .0))
 
-mul-unit-ends : tie.Need-mul-unit-ends Inv-loop μ-loop
-mul-unit-ends c = search needs
-
 slice-write-unit-ends : tie.Need-slice-write-unit-ends Inv-loop μ-loop
 slice-write-unit-ends c =
     let u = c .before .before .before .before in
     let t = u .before .before in
     putting-slot (t .before .loop .inv) (left-next _ _ _ _ _ (t .loop-test .taken)) (u .unit .ensures)
-
-add-i : tie.Need-add-i Inv-loop μ-loop
-add-i c = search needs
-
-loop-less : tie.Need-loop-less Inv-loop μ-loop
-loop-less c = search needs
 
 loop-again : tie.Need-loop-again Inv-loop μ-loop
 loop-again c =
@@ -77,15 +59,15 @@ put-units-spec =
     Inv-loop
     μ-loop
     loop-holds
-    mul-unit
-    shared-slice-read-unit
-    unit-requires
+    (λ c. search needs)
+    (λ c. search needs)
+    (λ c κs. search needs)
     put-bytes-requires
     cast-unit-ends
-    mul-unit-ends
+    (λ c. search needs)
     slice-write-unit-ends
-    add-i
-    loop-less
+    (λ c. search needs)
+    (λ c. search needs)
     loop-again
     same-length
     same-length-2

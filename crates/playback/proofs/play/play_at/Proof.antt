@@ -8,26 +8,8 @@ use Rattle.playback.proofs.ShownLaws.{unit-at}
 use Rattle.playback.proofs.play.play_at.Statement.{statement}
 use Rattle.playback.proofs.play.play_at.Tie as tie
 
-start-of-requires : tie.Need-start-of-requires
-start-of-requires c κs = search needs
-
-mul-end : tie.Need-mul-end
-mul-end c = search needs
-
-shared-slice-read-end : tie.Need-shared-slice-read-end
-shared-slice-read-end c = search needs
-
 cast-end : tie.Need-cast-end
 cast-end c = omega (arith, c .shared-slice-known3 .given (c .before .before .before .before .args .i))
-
-add-step : tie.Need-add-step
-add-step c = search needs
-
-payload-requires : tie.Need-payload-requires
-payload-requires c κs = search needs
-
-step-requires : tie.Need-step-requires
-step-requires c κs = search needs
 
 returns : tie.Need-returns
 returns c =
@@ -40,11 +22,11 @@ pub play-at-spec : {M : Type 1} → statement M
 play-at-spec =
     tie.close
     (tie.spec
-    start-of-requires
-    mul-end
-    shared-slice-read-end
+    (λ c κs. search needs)
+    (λ c. search needs)
+    (λ c. search needs)
     cast-end
-    add-step
-    payload-requires
-    step-requires
+    (λ c. search needs)
+    (λ c κs. search needs)
+    (λ c κs. search needs)
     returns)

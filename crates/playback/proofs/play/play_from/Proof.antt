@@ -11,9 +11,6 @@ use Rattle.playback.proofs.play.play_from.Tie as tie
 returns : tie.Need-returns
 returns c = play-long _ _ _ _ (c .if1 .taken)
 
-check-ends-requires : tie.Need-check-ends-requires
-check-ends-requires c κs = search needs
-
 returns-2 : tie.Need-returns-2
 returns-2 c = let e = c .before in play-none _ _ _ _ (e .before .if1 .left) (sym (e .check-ends .ensures) ∙ not-true _ (c .if2 .taken))
 
@@ -48,9 +45,6 @@ play-units-requires c κs =
     let e = n .before in
     play-room _ _ _ _ (e .before .if1 .left) (sym (e .check-ends .ensures) ∙ not-false _ (n .if2 .left)) (o .if3 .left) refl (l .if4 .left)
 
-same-length : tie.Need-same-length
-same-length c = search needs
-
 returns-5 : tie.Need-returns-5
 returns-5 c =
     let p = c .before .before in
@@ -65,12 +59,12 @@ play-from-spec =
     tie.close
     (tie.spec
     returns
-    check-ends-requires
+    (λ c κs. search needs)
     returns-2
     returns-3
     sub-n
     sub-n-2
     returns-4
     play-units-requires
-    same-length
+    (λ c. search needs)
     returns-5)

@@ -16,35 +16,14 @@ Inv-loop units ends cue shown₀ state₀ i₀ k₀ shown state i k = Playing un
 abbrev μ-loop : tie.MeasureT-loop
 μ-loop units ends cue shown₀ state₀ i₀ k₀ shown state i k = length ends - i
 
-start-state-requires : tie.Need-start-state-requires Inv-loop μ-loop
-start-state-requires c κs = search needs
-
 sub-i : tie.Need-sub-i Inv-loop μ-loop
 sub-i c = omega (arith, c .before .before .before .before .pre .from)
 
 loop-holds : tie.Need-loop-holds Inv-loop μ-loop
 loop-holds c = playing-start (c .before .before .before .before .pre) (ap stateSays (c .start-state .ensures) ∙ start-says) refl
 
-play-at-requires : tie.Need-play-at-requires Inv-loop μ-loop
-play-at-requires c κs = search needs
-
-number-of-requires : tie.Need-number-of-requires Inv-loop μ-loop
-number-of-requires c κs = search needs
-
-mul-shown : tie.Need-mul-shown Inv-loop μ-loop
-mul-shown c = search needs
-
 slice-write-shown : tie.Need-slice-write-shown Inv-loop μ-loop
 slice-write-shown c = let t = c .before .before .before in playing-slot (t .before .loop .inv) (t .loop-test .taken)
-
-add-i : tie.Need-add-i Inv-loop μ-loop
-add-i c = search needs
-
-add-k : tie.Need-add-k Inv-loop μ-loop
-add-k c = search needs
-
-loop-less : tie.Need-loop-less Inv-loop μ-loop
-loop-less c = search needs
 
 loop-again : tie.Need-loop-again Inv-loop μ-loop
 loop-again c =
@@ -66,16 +45,16 @@ play-units-spec =
     (tie.spec
     Inv-loop
     μ-loop
-    start-state-requires
+    (λ c κs. search needs)
     sub-i
     loop-holds
-    play-at-requires
-    number-of-requires
-    mul-shown
+    (λ c κs. search needs)
+    (λ c κs. search needs)
+    (λ c. search needs)
     slice-write-shown
-    add-i
-    add-k
-    loop-less
+    (λ c. search needs)
+    (λ c. search needs)
+    (λ c. search needs)
     loop-again
     same-length
     returns)

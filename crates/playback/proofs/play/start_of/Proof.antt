@@ -6,18 +6,6 @@ use Rattle.playback.proofs.ShownLaws.{start-before}
 use Rattle.playback.proofs.play.start_of.Statement.{statement}
 use Rattle.playback.proofs.play.start_of.Tie as tie
 
-returns : tie.Need-returns
-returns c = search needs
-
-sub-result : tie.Need-sub-result
-sub-result c = search needs
-
-mul-result : tie.Need-mul-result
-mul-result c = search needs
-
-shared-slice-read-result : tie.Need-shared-slice-read-result
-shared-slice-read-result c = search needs
-
 cast-result : tie.Need-cast-result
 cast-result c = omega (arith, c .shared-slice-known .given (c .before .before .args .i - 1))
 
@@ -27,4 +15,4 @@ returns-2 c = start-before (now (c .before .before .args .ends)) (c .before .bef
 pub start-of-spec : {M : Type 1} → statement M
 start-of-spec =
     tie.close
-    (tie.spec returns sub-result mul-result shared-slice-read-result cast-result returns-2)
+    (tie.spec (λ c. search needs) (λ c. search needs) (λ c. search needs) (λ c. search needs) cast-result returns-2)

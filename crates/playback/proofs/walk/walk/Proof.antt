@@ -15,35 +15,11 @@ assembly n = n .before .before .before .before .before .before .before .before .
 abbrev made-it : tie.After-play-list → tie.After-c
 made-it p = p .before .before .before .before .before .before .before .before .before .before .before .before .before .before .before .before
 
-assemble-multi-requires : tie.Need-assemble-multi-requires
-assemble-multi-requires c κs = search needs
-
-enum-known-k : tie.Need-enum-known-k
-enum-known-k c = search needs
-
-enum-known-k-2 : tie.Need-enum-known-k-2
-enum-known-k-2 c = search needs
-
-enum-known-c : tie.Need-enum-known-c
-enum-known-c c = search needs
-
-sub-play-list : tie.Need-sub-play-list
-sub-play-list c = search needs
-
-part-play-list-start : tie.Need-part-play-list-start
-part-play-list-start c = search needs
-
 part-play-list-end : tie.Need-part-play-list-end
 part-play-list-end c =
     let n = c .before .before in
     let g = assembly n .assemble-multi in
     omega (arith, handed-list stream 0 _ _ _ _ _ (g .result) (g .ensures) _ (n .c .given .1))
-
-sub-play-list-2 : tie.Need-sub-play-list-2
-sub-play-list-2 c = search needs
-
-part-play-list-start-2 : tie.Need-part-play-list-start-2
-part-play-list-start-2 c = search needs
 
 part-play-list-end-2 : tie.Need-part-play-list-end-2
 part-play-list-end-2 c =
@@ -51,23 +27,11 @@ part-play-list-end-2 c =
     let g = assembly n .assemble-multi in
     omega (arith, handed-picture stream 0 _ _ _ _ _ (g .result) (g .ensures) _ (n .c .given .1))
 
-sub-play-list-3 : tie.Need-sub-play-list-3
-sub-play-list-3 c = search needs
-
-part-play-list-start-3 : tie.Need-part-play-list-start-3
-part-play-list-start-3 c = search needs
-
 part-play-list-end-3 : tie.Need-part-play-list-end-3
 part-play-list-end-3 c =
     let n = c .before .before .before .before .before .before in
     let g = assembly n .assemble-multi in
     omega (arith, handed-ends stream 0 _ _ _ _ _ (g .result) (g .ensures) _ (n .c .given .1))
-
-sub-play-list-4 : tie.Need-sub-play-list-4
-sub-play-list-4 c = search needs
-
-part-play-list-start-4 : tie.Need-part-play-list-start-4
-part-play-list-start-4 c = search needs
 
 part-play-list-end-4 : tie.Need-part-play-list-end-4
 part-play-list-end-4 c =
@@ -75,53 +39,11 @@ part-play-list-end-4 c =
     let g = assembly n .assemble-multi in
     omega (arith, handed-shows stream 0 _ _ _ _ _ (g .result) (g .ensures) _ (n .c .given .1))
 
-play-list-requires : tie.Need-play-list-requires
-play-list-requires c κs = search needs
-
-behind-requires : tie.Need-behind-requires
-behind-requires c κs = search needs
-
-same-length : tie.Need-same-length
-same-length c = search needs
-
-same-length-2 : tie.Need-same-length-2
-same-length-2 c = search needs
-
-same-length-3 : tie.Need-same-length-3
-same-length-3 c = search needs
-
-same-length-4 : tie.Need-same-length-4
-same-length-4 c = search needs
-
-same-length-5 : tie.Need-same-length-5
-same-length-5 c = search needs
-
-same-length-6 : tie.Need-same-length-6
-same-length-6 c = search needs
-
 returns : tie.Need-returns
 returns c =
     let k = c .before in
     let g = k .before .before .before .before .before .before .before .before .before .before .before .before .before .before .assemble-multi in
     walk-stop _ _ _ _ _ _ _ (g .result) (g .ensures) _ _ _ none refl (ap assembledSays (k .k .given .1))
-
-same-length-7 : tie.Need-same-length-7
-same-length-7 c = search needs
-
-same-length-8 : tie.Need-same-length-8
-same-length-8 c = search needs
-
-same-length-9 : tie.Need-same-length-9
-same-length-9 c = search needs
-
-same-length-10 : tie.Need-same-length-10
-same-length-10 c = search needs
-
-same-length-11 : tie.Need-same-length-11
-same-length-11 c = search needs
-
-same-length-12 : tie.Need-same-length-12
-same-length-12 c = search needs
 
 returns-2 : tie.Need-returns-2
 returns-2 c =
@@ -176,37 +98,37 @@ pub walk-spec : {M : Type 1} → statement M
 walk-spec =
     tie.close
     (tie.spec
-    assemble-multi-requires
-    enum-known-k
-    enum-known-k-2
-    enum-known-c
-    sub-play-list
-    part-play-list-start
+    (λ c κs. search needs)
+    (λ c. search needs)
+    (λ c. search needs)
+    (λ c. search needs)
+    (λ c. search needs)
+    (λ c. search needs)
     part-play-list-end
-    sub-play-list-2
-    part-play-list-start-2
+    (λ c. search needs)
+    (λ c. search needs)
     part-play-list-end-2
-    sub-play-list-3
-    part-play-list-start-3
+    (λ c. search needs)
+    (λ c. search needs)
     part-play-list-end-3
-    sub-play-list-4
-    part-play-list-start-4
+    (λ c. search needs)
+    (λ c. search needs)
     part-play-list-end-4
-    play-list-requires
-    behind-requires
-    same-length
-    same-length-2
-    same-length-3
-    same-length-4
-    same-length-5
-    same-length-6
+    (λ c κs. search needs)
+    (λ c κs. search needs)
+    (λ c. search needs)
+    (λ c. search needs)
+    (λ c. search needs)
+    (λ c. search needs)
+    (λ c. search needs)
+    (λ c. search needs)
     returns
-    same-length-7
-    same-length-8
-    same-length-9
-    same-length-10
-    same-length-11
-    same-length-12
+    (λ c. search needs)
+    (λ c. search needs)
+    (λ c. search needs)
+    (λ c. search needs)
+    (λ c. search needs)
+    (λ c. search needs)
     returns-2
     same-length-13
     same-length-14
