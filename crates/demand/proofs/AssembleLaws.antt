@@ -24,7 +24,7 @@ use Rattle.frame.specs.declared.frame_header.FrameInfo.{FrameInfo}
 use Rattle.frame.specs.declared.frame_header.FrameHeaderInfo.{FrameHeaderInfo}
 use Rattle.frame.specs.declared.frame_header.FrameHeaderInfo.the-variants.{Existing, Frame}
 use Rattle.blocks.specs.Blocks.{total}
-use Rattle.pictures.specs.Segments.{Segment, framesOf, inside, segmentAt, segmentsFrom, segmentsOf}
+use Rattle.pictures.specs.Segments.{Segment, framesOf, segmentAt, segmentsFrom, segmentsOf}
 use Rattle.pictures.specs.Prepare.{isSequence, isFrame, timedSequence, effective, renewal, sent, firstFrame, keyOk, goldenFlags, slotOf, Prepared, prepare}
 use Rattle.pictures.specs.declared.settings.Settings.{Settings}
 use Rattle.pictures.specs.Assemble.{Outcome, stopped, made, andAlso, inSegment, overall, noneEmpty, sizes, readHeader, sameBytes, sameHeader, sameHeaders, headerObu, prepareAll, Output, outputOf, Room, fits, assembled, assemble}

@@ -201,18 +201,18 @@ number-some (c ∷ s) h = refl
 
 -- ---- words
 
-module _ (s : List ℕ) (i : ℕ) where
-  pub word-end : length s ≤ i → word (drop i s) ≡ []
+module _ (e : ℕ) (s : List ℕ) (i : ℕ) where
+  pub word-end : length s ≤ i → word e (drop i s) ≡ []
   unfolding word
   word-end h = rw (drop-of-length-le s h)
 
-  pub word-space : i < length s → getD s i 0 ≡ 32 → word (drop i s) ≡ []
+  pub word-stop : i < length s → getD s i 0 ≡ e → word e (drop i s) ≡ []
   unfolding word
-  word-space h e = rw (drop-cons s i 0 h, eq-eqb (getD s i 0) 32 e)
+  word-stop h q = rw (drop-cons s i 0 h, eq-eqb (getD s i 0) e q)
 
-  pub word-more : i < length s → (getD s i 0 ≡ 32 → ⊥) → length (word (drop i s)) ≡ suc (length (word (drop (i + 1) s)))
+  pub word-more : i < length s → (getD s i 0 ≡ e → ⊥) → length (word e (drop i s)) ≡ suc (length (word e (drop (i + 1) s)))
   unfolding word
-  word-more h e = rw (add-one i, drop-cons s i 0 h, ne-eqb (getD s i 0) 32 e)
+  word-more h q = rw (add-one i, drop-cons s i 0 h, ne-eqb (getD s i 0) e q)
 
 -- ---- keys
 

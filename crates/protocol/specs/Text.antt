@@ -53,10 +53,10 @@ unfoldable pub readNumber : List ℕ → Meaning ℕ
 readNumber [] = none
 readNumber (c ∷ s) = numberFrom 0 (c ∷ s)
 
--- the characters before the first space
-unfoldable pub word : List ℕ → List ℕ
-word [] = []
-word (c ∷ s) = pick (eqb c 32) [] (c ∷ word s)
+-- the characters before the first e
+unfoldable pub word : ℕ → List ℕ → List ℕ
+word e [] = []
+word e (c ∷ s) = pick (eqb c e) [] (c ∷ word e s)
 
 -- a number whose bytes up to here came to k
 unfoldable pub keyFrom : ℕ → List ℕ → ℕ

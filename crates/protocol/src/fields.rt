@@ -1,32 +1,24 @@
-// The fields of a line, each of the kind that its operation asks for. Byte strings go into `decoded`, one behind the
-// other, and the end of each into `ends`; numbers go into `numbers`.
+// The fields of a line, each of the kind that its request asks for. Byte strings go into `decoded`, one behind the other,
+// and the end of each into `ends`; numbers go into `numbers`.
+use crate::kinds::BYTES;
+use crate::kinds::Format;
+use crate::kinds::NO_BYTE;
+use crate::kinds::NUMBER;
+use crate::kinds::NUMBER_32;
+use crate::kinds::OPTIONAL_BYTE;
+use crate::kinds::separator;
 use crate::text::Decimal;
 use crate::text::Decoded;
 use crate::text::decode;
 use crate::text::read_decimal;
 use crate::text::word_end;
 
-// Kinds of fields. An operation's kinds are the hexadecimal digits of a number, the first kind lowest.
-const BYTES: u64 = 1;
-
-const NUMBER: u64 = 2;
-
-const NUMBER_32: u64 = 3;
-
-// 4 is a number up to 255, and this the same, or `-` for none
-const OPTIONAL_BYTE: u64 = 5;
-
-// What an optional byte that is not given is read as.
-pub const NO_BYTE: u64 = 256;
-
 // How far the fields of a line have been read.
 pub struct Fields {
     // where the next one starts: one past the line's end where none is left, far behind it once one was bad
     pub next: usize,
-    // the kinds that must follow
-    pub kinds: u64,
-    // the kinds that may follow behind those, any number of times
-    pub repeated: u64,
+    // the kinds that follow
+    pub format: Format,
     // how many bytes, byte strings and numbers have been read
     pub bytes: usize,
     pub ends: usize,
@@ -40,26 +32,10 @@ impl Fields {
         fields
     }
 
-    // Sees to it that there are kinds left, if any may follow.
-    fn refilled(self) -> Fields {
-        let mut fields = self;
-        if fields.kinds == 0 {
-            fields.kinds = fields.repeated;
-        }
-        fields
-    }
-
-    // Behind a field of the next kind, which ended the line or a space before `next`.
-    fn moved(self, next: usize) -> Fields {
-        let mut fields = self;
-        fields.kinds = fields.kinds / 16;
-        fields.next = next;
-        fields
-    }
-
     // Whether every field of the line was read and was good, and none is missing.
     pub fn is_all(self, line: &[u8]) -> bool {
-        (self.next == line.len() + 1) & (self.kinds == 0)
+        let format = self.format;
+        (self.next == line.len() + 1) & (format.kinds == 0)
     }
 }
 
@@ -125,6 +101,55 @@ fn read_number(kind: u64, word: &[u8], numbers: &mut [u64], so_far: Fields) -> F
     fields
 }
 
+// One more field, if one is left: it ends at what stands before the next.
+fn read_field(
+    line: &[u8],
+    decoded: &mut [u8],
+    ends: &mut [u32],
+    numbers: &mut [u64],
+    so_far: Fields,
+) -> Fields {
+    let from = so_far.next;
+    if from > line.len() {
+        return so_far;
+    }
+    let format = so_far.format.refilled();
+    let rest = format.rest();
+    let end = word_end(line, from, separator(rest.refilled().kinds));
+    let kind = format.kinds % 16;
+    let mut behind = so_far;
+    behind.format = rest;
+    behind.next = end + 1;
+    if kind == BYTES {
+        return read_bytes(&line[from..end], decoded, ends, behind);
+    }
+    read_number(kind, &line[from..end], numbers, behind)
+}
+
+// All fields from `next` on: there are fewer of them than characters.
+pub fn read_fields(
+    line: &[u8],
+    next: usize,
+    format: Format,
+    decoded: &mut [u8],
+    ends: &mut [u32],
+    numbers: &mut [u64],
+) -> Fields {
+    let mut fields = Fields {
+        next,
+        format,
+        bytes: 0,
+        ends: 0,
+        numbers: 0,
+    };
+    let mut i: usize = 0;
+    while i < line.len() {
+        fields = read_field(line, decoded, ends, numbers, fields);
+        i += 1;
+    }
+    fields
+}
+
 pub struct NumberField {
     pub value: u64,
     pub next: usize,
@@ -138,7 +163,7 @@ pub fn number(line: &[u8], from: usize) -> NumberField {
             next: usize::MAX,
         };
     }
-    let end = word_end(line, from);
+    let end = word_end(line, from, b' ');
     let Decimal::Value(value) = read_decimal(&line[from..end]) else {
         return NumberField {
             value: 0,
@@ -149,43 +174,4 @@ pub fn number(line: &[u8], from: usize) -> NumberField {
         value,
         next: end + 1,
     }
-}
-
-// One more field, if one is left.
-fn read_field(
-    line: &[u8],
-    decoded: &mut [u8],
-    ends: &mut [u32],
-    numbers: &mut [u64],
-    so_far: Fields,
-) -> Fields {
-    let from = so_far.next;
-    if from > line.len() {
-        return so_far;
-    }
-    let end = word_end(line, from);
-    let fields = so_far.refilled();
-    let kind = fields.kinds % 16;
-    let behind = fields.moved(end + 1);
-    if kind == BYTES {
-        return read_bytes(&line[from..end], decoded, ends, behind);
-    }
-    read_number(kind, &line[from..end], numbers, behind)
-}
-
-// All fields: there are fewer of them than characters.
-pub fn read_fields(
-    line: &[u8],
-    decoded: &mut [u8],
-    ends: &mut [u32],
-    numbers: &mut [u64],
-    start: Fields,
-) -> Fields {
-    let mut fields = start;
-    let mut i: usize = 0;
-    while i < line.len() {
-        fields = read_field(line, decoded, ends, numbers, fields);
-        i += 1;
-    }
-    fields
 }

@@ -38,19 +38,6 @@ pub fn put_number(out: &mut Buffer, at: usize, v: u64) -> usize {
     put_text(out, at, &digits[..n])
 }
 
-// Numbers, each behind a separator.
-pub fn put_numbers(out: &mut Buffer, at: usize, separator: &[u8], list: &[u64]) -> usize {
-    let mut to = at;
-    let mut i: usize = 0;
-    while i < list.len() {
-        let v = list[i];
-        to = put_text(out, to, separator);
-        to = put_number(out, to, v);
-        i += 1;
-    }
-    to
-}
-
 fn put_hex_part(out: &mut Buffer, at: usize, s: &[u8]) -> usize
     requires { ⌜ length (now s) ≤ 64 ⌝ }
 {
@@ -78,8 +65,4 @@ pub fn put_hex(out: &mut Buffer, at: usize, s: &[u8]) -> usize {
         i += n;
     }
     to
-}
-
-pub fn bad_line(out: &mut Buffer, at: usize) -> usize {
-    put_text(out, at, b"bad line\n")
 }

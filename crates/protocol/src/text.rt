@@ -144,15 +144,15 @@ pub fn read_decimal(text: &[u8]) -> Decimal
     Decimal::Value(v)
 }
 
-// Where the word that starts at `from` ends: at the next space, or with the line.
-pub fn word_end(line: &[u8], from: usize) -> usize
+// Where the word that starts at `from` ends: at the next `stop`, or with the line.
+pub fn word_end(line: &[u8], from: usize, stop: u8) -> usize
     requires { ⌜ from ≤ length (now line) ⌝ }
     ensures { λ r. ⌜ (from ≤ r) × (r ≤ length (now (line .entry))) ⌝ }
-    ensures { λ r. ⌜ r ≡ from + length (word (drop from (now (line .entry)))) ⌝ }
+    ensures { λ r. ⌜ r ≡ from + length (word stop (drop from (now (line .entry)))) ⌝ }
 {
     let mut i = from;
     while i < line.len() {
-        if line[i] == b' ' {
+        if line[i] == stop {
             return i;
         }
         i += 1;

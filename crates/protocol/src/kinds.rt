@@ -1,0 +1,65 @@
+// Kinds of fields and of printed items, two hexadecimal digits each: what it is, and before that digit what stands before it
+// in the line. The kinds of a line are one number, the first kind lowest.
+
+// A byte string; of an answer its next part.
+pub const BYTES: u64 = 1;
+
+pub const NUMBER: u64 = 2;
+
+pub const NUMBER_32: u64 = 3;
+
+// 4 is a number up to 255, and this the same, or `-` for none.
+pub const OPTIONAL_BYTE: u64 = 5;
+
+// What an optional byte that is not given is read as.
+pub const NO_BYTE: u64 = 256;
+
+// Of answers alone: how many parts there are,
+pub const COUNT: u64 = 6;
+
+// the part that a number names,
+pub const NAMED: u64 = 7;
+
+// `no` and a number,
+pub const REFUSED: u64 = 8;
+
+// and an item whose kind stands among the numbers, before it.
+pub const TOLD: u64 = 9;
+
+// Stands before what, where a space does not.
+pub const COLON: u64 = 0x10;
+
+pub const COMMA: u64 = 0x20;
+
+// What stands before an item of the first of these kinds.
+pub fn separator(kinds: u64) -> u8 {
+    match kinds / 16 % 16 {
+        1 => b':',
+        2 => b',',
+        _ => b' ',
+    }
+}
+
+// Kinds that follow each other, and those that may follow them any number of times.
+pub struct Format {
+    pub kinds: u64,
+    pub repeated: u64,
+}
+
+impl Format {
+    // With a kind at its head, if any may follow.
+    pub fn refilled(self) -> Format {
+        let mut format = self;
+        if format.kinds == 0 {
+            format.kinds = format.repeated;
+        }
+        format
+    }
+
+    // Behind the kind at its head.
+    pub fn rest(self) -> Format {
+        let mut format = self;
+        format.kinds = format.kinds / 256;
+        format
+    }
+}

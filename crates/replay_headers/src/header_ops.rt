@@ -1,0 +1,105 @@
+// The operations of the crate header.
+use crate::sequence_fields::put_sequence;
+use emit::seq_header::emit::emit_sequence_header;
+use frame::frame_header::FrameAnswer;
+use frame::frame_header::FrameHeaderInfo;
+use frame::frame_header::FrameInfo;
+use frame::frame_header::read::parse_frame_header_info;
+use header::seq_header::Emitted;
+use header::seq_header::OperatingPoint;
+use header::seq_header::SequenceAnswer;
+use header::seq_header::SequenceHeader;
+use header::seq_header::Support;
+use header::seq_header::check::check_supported;
+use header::seq_header::read::parse_sequence_header;
+use header::seq_header::timing::with_timing_info_rate;
+use protocol::answer::Answer;
+use protocol::answer::done;
+use protocol::answer::parts;
+use protocol::answer::refused;
+
+// seq PAYLOAD
+pub fn seq(s: &[u8], numbers: &mut [u64]) -> Answer {
+    let read = parse_sequence_header(s);
+    let answer = read.answer;
+    let points = read.operating_points;
+    match answer {
+        SequenceAnswer::Header(h) => put_sequence(h, points, numbers),
+        SequenceAnswer::Refused(k) => refused(k),
+    }
+}
+
+fn support_of(h: SequenceHeader) -> Answer {
+    match check_supported(h) {
+        Support::Supported => done(),
+        Support::Refused(k) => refused(k),
+    }
+}
+
+// support PAYLOAD
+pub fn support(s: &[u8]) -> Answer {
+    let read = parse_sequence_header(s);
+    let answer = read.answer;
+    match answer {
+        SequenceAnswer::Header(h) => support_of(h),
+        SequenceAnswer::Refused(k) => refused(k),
+    }
+}
+
+fn emit_into(h: SequenceHeader, points: [OperatingPoint; 32], memory: &mut [u8]) -> Answer {
+    match emit_sequence_header(h, points, memory, 0) {
+        Emitted::Next(n) => parts(n, 0),
+        Emitted::Unreadable => refused(36),
+        Emitted::Full => refused(35),
+    }
+}
+
+// The header as it was read, or timed.
+fn retimed(answer: SequenceAnswer, is_timed: bool, num: u32, den: u32) -> SequenceAnswer {
+    if is_timed {
+        if let SequenceAnswer::Header(h) = answer {
+            return with_timing_info_rate(h, num, den);
+        }
+    }
+    answer
+}
+
+// emit PAYLOAD, timed PAYLOAD NUM DEN
+pub fn emit(s: &[u8], is_timed: bool, num: u64, den: u64, memory: &mut [u8]) -> Answer {
+    let read = parse_sequence_header(s);
+    let points = read.operating_points;
+    let answer = read.answer;
+    let a = (num % 0x1_0000_0000) as u32;
+    let b = (den % 0x1_0000_0000) as u32;
+    match retimed(answer, is_timed, a, b) {
+        SequenceAnswer::Header(h) => emit_into(h, points, memory),
+        SequenceAnswer::Refused(k) => refused(k),
+    }
+}
+
+fn frame_info(x: FrameInfo, numbers: &mut [u64]) -> Answer {
+    let fields = [
+        0,
+        x.frame_type,
+        x.show_frame as u64,
+        x.showable_frame as u64,
+        x.refresh_frame_flags,
+        x.order_hint,
+    ];
+    done().list(&fields, numbers)
+}
+
+fn header_info(x: FrameHeaderInfo, numbers: &mut [u64]) -> Answer {
+    match x {
+        FrameHeaderInfo::Existing(slot) => done().pair(1, slot, numbers),
+        FrameHeaderInfo::Frame(f) => frame_info(f, numbers),
+    }
+}
+
+// frame SEQPAYLOAD FRAMEPAYLOAD
+pub fn frame(sequence: &[u8], payload: &[u8], numbers: &mut [u64]) -> Answer {
+    match parse_frame_header_info(payload, sequence) {
+        FrameAnswer::Header(x) => header_info(x, numbers),
+        FrameAnswer::Refused(k) => refused(k),
+    }
+}

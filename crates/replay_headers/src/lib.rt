@@ -1,0 +1,5 @@
+// The requests on bits, OBUs and headers.
+pub mod bitio_ops;
+pub mod header_ops;
+pub mod obu_ops;
+pub mod sequence_fields;

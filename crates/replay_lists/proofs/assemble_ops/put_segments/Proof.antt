@@ -1,0 +1,29 @@
+-- `replay_lists::assemble_ops::put_segments` is safe and ends. The loop keeps the length of the segments; what is left of them shrinks. Assumes nothing.
+use borrow.Author.Needs.{needs}
+use mathlib.Core.Path.{_≡_}
+use Prim.Native.Nat.{_-_}
+use lib.ListN.{length}
+use Rattle.replay_lists.proofs.assemble_ops.put_segments.Statement.{statement}
+use Rattle.replay_lists.proofs.assemble_ops.put_segments.Tie as tie
+
+abbrev Inv-loop : tie.InvT-loop
+Inv-loop ends numbers segments₀ j₀ segments j = length segments ≡ length segments₀
+
+abbrev μ-loop : tie.MeasureT-loop
+μ-loop ends numbers segments₀ j₀ segments j = length segments₀ - j
+
+pub put-segments-spec : {M : Type 1} → statement M
+put-segments-spec =
+    tie.close
+    (tie.spec
+    Inv-loop
+    μ-loop
+    (λ c. search needs)
+    (λ c κs. search needs)
+    (λ c. search needs)
+    (λ c. search needs)
+    (λ c. search needs)
+    (λ c. search needs)
+    (λ c. search needs)
+    (λ c. search needs)
+    (λ c. search needs))

@@ -1,0 +1,2 @@
+// The requests on containers and packets.
+pub mod container_ops;
