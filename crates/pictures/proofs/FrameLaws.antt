@@ -1,4 +1,4 @@
--- Laws of the first frame header of a unit and of what is asked of it, by the tests that the code makes. Assumes nothing.
+-- Laws of what is asked of the first frame header of a unit, by the tests that the code makes. Assumes nothing.
 use Prim.Native.Nat.{ℕ, suc}
 use native.Mathlib.Omega.{arith}
 use mathlib.Core.Path.{_≡_, refl, sym, ap, _∙_}
@@ -10,70 +10,13 @@ use Rattle.obu.specs.Obu.{Obu, obus}
 use Rattle.obu.specs.declared.unit.Kind.the-variants.{Any}
 use Rattle.obu.specs.Unit.{isKind, count, firstPayload, ofUnit}
 use Rattle.header.specs.Sequence.{Sequence}
-use Rattle.frame.specs.Frame.{parseFrame}
+use Rattle.frame.specs.UnitFrame.{unitFrame}
 use Rattle.frame.specs.declared.frame_header.FrameInfo.{FrameInfo}
 use Rattle.frame.specs.declared.frame_header.FrameHeaderInfo.{FrameHeaderInfo}
 use Rattle.frame.specs.declared.frame_header.FrameHeaderInfo.the-variants.{Frame}
-use Rattle.pictures.specs.Prepare.{isFrame, firstOf, firstFrame, keyOk, goldenFlags, slotOf}
+use Rattle.pictures.specs.Prepare.{keyOk, goldenFlags, slotOf}
 use Rattle.pictures.specs.Code.{readable, countRead, judged}
 use Rattle.pictures.proofs.RangeLaws.{denied, granted}
-
--- ---- the first that passes, where those that pass are counted
-
-module _ (n : ℕ) (pass : Obu → Bool) where
-  pub first-none : (os : List Obu) → count pass os ≡ 0 → firstOf n pass os ≡ refused n
-  unfolding count firstOf
-  first-none [] e = refl
-  first-none (o ∷ os) e = go (pass o) e (first-none os)
-    where
-      go : (t : Bool) → pick t (suc (count pass os)) (count pass os) ≡ 0 → (count pass os ≡ 0 → firstOf n pass os ≡ refused n)
-          → pick t (accepted o) (firstOf n pass os) ≡ refused n
-      go true e more = absurd (omega arith)
-      go false e more = more e
-
-  pub first-some : {A : Type 0} (f : List ℕ → Answer A) (os : List Obu) → (count pass os ≡ 0 → ⊥) → f (firstPayload pass os) ≡ andNext (firstOf n pass os) (λ o. f (o .payload))
-  unfolding count firstOf firstPayload andNext
-  first-some f [] h = absurd (h refl)
-  first-some {A} f (o ∷ os) h = go (pass o) h (first-some f os)
-    where
-      go : (t : Bool) → (pick t (suc (count pass os)) (count pass os) ≡ 0 → ⊥) → ((count pass os ≡ 0 → ⊥) → f (firstPayload pass os) ≡ andNext (firstOf n pass os) (λ o. f (o .payload)))
-          → f (pick t (o .payload) (firstPayload pass os)) ≡ andNext (pick t (accepted o) (firstOf n pass os)) (λ o. f (o .payload))
-      go true h more = refl
-      go false h more = more h
-
--- ---- the first frame header
-
-module _ (q : Sequence) (u : List ℕ) where
-  abbrev counted : Answer (List Obu) → Answer ℕ
-  counted x = answer (count isFrame) x
-
-  abbrev framed : Answer (List Obu) → Answer FrameHeaderInfo
-  framed x = andNext x (λ os. andNext (firstOf 28 isFrame os) (λ o. parseFrame q (o .payload)))
-
-  pub frame-refused : (k : ℕ) → refused k ≡ counted (obus u) → refused k ≡ firstFrame q u
-  unfolding firstFrame andNext
-  frame-refused k e = go (obus u) e
-    where
-      go : (x : Answer (List Obu)) → refused k ≡ counted x → refused k ≡ framed x
-      go (refused j) e = let i : k ≡ j = cc in ap (λ y. refused y) i
-      go (accepted os) e = let z : _≡_ {A = ℕ} 0 1 = cc in absurd (omega arith)
-
-  module _ (n : ℕ) (e : accepted n ≡ counted (obus u)) where
-    pub frame-none : n ≡ 0 → refused 28 ≡ firstFrame q u
-    unfolding firstFrame andNext
-    frame-none h = go (obus u) e
-      where
-        go : (x : Answer (List Obu)) → accepted n ≡ counted x → refused 28 ≡ framed x
-        go (refused j) e = let z : _≡_ {A = ℕ} 0 1 = cc in absurd (omega arith)
-        go (accepted os) e = let i : count isFrame os ≡ n = cc in rw (first-none 28 isFrame os (i ∙ h))
-
-    pub frame-some : (p : List ℕ) → (n ≡ 0 → ⊥) → p ≡ ofUnit [] (firstPayload isFrame) (obus u) → parseFrame q p ≡ firstFrame q u
-    unfolding firstFrame andNext
-    frame-some p h g = go (obus u) e g
-      where
-        go : (x : Answer (List Obu)) → accepted n ≡ counted x → p ≡ ofUnit [] (firstPayload isFrame) x → parseFrame q p ≡ framed x
-        go (refused j) e g = let z : _≡_ {A = ℕ} 0 1 = cc in absurd (omega arith)
-        go (accepted os) e g = let i : count isFrame os ≡ n = cc in ap (parseFrame q) g ∙ first-some 28 isFrame (parseFrame q) os (λ z. h (sym i ∙ z))
 
 -- ---- the slot of a golden's header
 
@@ -115,21 +58,21 @@ legible-count true u = go (obus u)
 -- ---- a segment judged
 
 module _ (q : Sequence) (k g : List ℕ) where
-  pub key-refused : (n : ℕ) → firstFrame q k ≡ refused n → refused n ≡ judged q false k g
+  pub key-refused : (n : ℕ) → unitFrame false q k ≡ refused n → refused n ≡ judged q false k g
   unfolding judged andNext
   key-refused n e = rw e
 
-  module _ (y : FrameHeaderInfo) (e : firstFrame q k ≡ accepted y) (b : Bool) (o : keyOk y ≡ pick b (accepted tt) (refused 29)) where
+  module _ (y : FrameHeaderInfo) (e : unitFrame false q k ≡ accepted y) (b : Bool) (o : keyOk y ≡ pick b (accepted tt) (refused 29)) where
     pub key-hidden : not b ≡ true → refused 29 ≡ judged q false k g
     unfolding judged andNext
     key-hidden h = rw (e, o, denied b h)
 
     module _ (h : not b ≡ false) where
-      pub golden-refused : (n : ℕ) → firstFrame q g ≡ refused n → refused n ≡ judged q false k g
+      pub golden-refused : (n : ℕ) → unitFrame false q g ≡ refused n → refused n ≡ judged q false k g
       unfolding judged andNext
       golden-refused n i = rw (e, o, granted b h, i)
 
-      pub golden-judged : (z : FrameHeaderInfo) → firstFrame q g ≡ accepted z → slotIn z ≡ judged q false k g
+      pub golden-judged : (z : FrameHeaderInfo) → unitFrame false q g ≡ accepted z → slotIn z ≡ judged q false k g
       unfolding judged andNext
       golden-judged z i = rw (e, o, granted b h, i)
 

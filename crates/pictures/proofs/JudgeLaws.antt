@@ -8,7 +8,8 @@ use Rattle.obu.specs.Obu.{Obu, obus, unitBytes}
 use Rattle.obu.specs.Unit.{has}
 use Rattle.header.specs.Sequence.{Sequence}
 use Rattle.pictures.specs.Segments.{Segment}
-use Rattle.pictures.specs.Prepare.{isSequence, renewed, sent, firstFrame, keyOk, goldenFlags, asked, Prepared, prepare}
+use Rattle.frame.specs.UnitFrame.{unitFrame}
+use Rattle.pictures.specs.Prepare.{isSequence, renewed, sent, keyOk, goldenFlags, asked, Prepared, prepare}
 use Rattle.pictures.specs.Code.{judged, renewing, orElse, sentBytes}
 
 -- ---- chains of answers
@@ -28,10 +29,10 @@ next-same (accepted a) f g e = e a
 asked-out : {A : Type 0} (q : Sequence) (k g : List ℕ) (f : ℕ → Answer A) → andNext (asked q k g (λ n. accepted n)) f ≡ asked q k g f
 unfolding andNext
 asked-out q k g f =
-    next-chain (firstFrame q k) _ f
-    ∙ next-same (firstFrame q k) _ _ (λ y. next-chain (keyOk y) _ f
-    ∙ next-same (keyOk y) _ _ (λ _. next-chain (firstFrame q g) _ f
-    ∙ next-same (firstFrame q g) _ _ (λ z. next-chain (goldenFlags z) _ f)))
+    next-chain (unitFrame false q k) _ f
+    ∙ next-same (unitFrame false q k) _ _ (λ y. next-chain (keyOk y) _ f
+    ∙ next-same (keyOk y) _ _ (λ _. next-chain (unitFrame false q g) _ f
+    ∙ next-same (unitFrame false q g) _ _ (λ z. next-chain (goldenFlags z) _ f)))
 
 -- ---- a segment is prepared if it is judged, and then its units are those that go out
 

@@ -19,7 +19,8 @@ use Rattle.frame.specs.declared.frame_header.FrameHeaderInfo.the-variants.{Exis
 use Rattle.frame.proofs.FrameLaws.{HeaderIs, header-is}
 use Rattle.blocks.specs.Numbers.{segmentCount, keyAt, goldenAt, framesAt}
 use Rattle.pictures.specs.Segments.{Segment}
-use Rattle.pictures.specs.Prepare.{isFrame, firstOf, firstFrame, keyOk, goldenFlags, lowest, showUnit}
+use Rattle.frame.specs.UnitFrame.{framePayload, unitFrame}
+use Rattle.pictures.specs.Prepare.{keyOk, goldenFlags, lowest, showUnit}
 use Rattle.pictures.specs.Code.{allSegments, readable, judged, orElse, slotsOf}
 use Rattle.pictures.proofs.PrepareLaws.{length-all}
 use Rattle.pictures.proofs.SegmentLaws.{behind, behind-start, behind-end, behind-is}
@@ -45,10 +46,10 @@ unfolding andNext
 next-any Q (refused k) f h = tt
 next-any Q (accepted a) f h = h a
 
-frame-accepts : (q : Sequence) (u : List ℕ) → Accepts HeaderIs (firstFrame q u)
-unfolding firstFrame
+frame-accepts : (q : Sequence) (u : List ℕ) → Accepts HeaderIs (unitFrame false q u)
+unfolding unitFrame
 frame-accepts q u =
-    next-any HeaderIs (obus u) _ (λ os. next-any HeaderIs (firstOf 28 isFrame os) _ (λ o. by-answer HeaderIs (parseFrame q (o .payload)) (λ x e. header-is q (o .payload) e)))
+    next-any HeaderIs (obus u) _ (λ os. next-any HeaderIs (framePayload false os) _ (λ f. by-answer HeaderIs (parseFrame q f) (λ x e. header-is q f e)))
 
 abbrev Flags : ℕ → Type 0
 Flags n = (0 < n) × (n < 256)
@@ -77,9 +78,9 @@ unfolding judged
 judged-accepts q rewriting k g =
     next-any (λ n. n < 8) (readable rewriting k) _ (λ _.
     next-any (λ n. n < 8) (readable rewriting g) _ (λ _.
-    next-any (λ n. n < 8) (firstFrame q k) _ (λ y.
+    next-any (λ n. n < 8) (unitFrame false q k) _ (λ y.
     next-any (λ n. n < 8) (keyOk y) _ (λ _.
-    next-accepts HeaderIs (λ n. n < 8) (firstFrame q g) _ (frame-accepts q g) (λ z i.
+    next-accepts HeaderIs (λ n. n < 8) (unitFrame false q g) _ (frame-accepts q g) (λ z i.
     next-accepts Flags (λ n. n < 8) (goldenFlags z) _ (flags-accepts z i) (λ flags b. lowest-lt 8 flags (b .0) (b .1)))))))
 
 pub slot-small : (q : Sequence) (rewriting : Bool) (k g : List ℕ) → orElse 0 (judged q rewriting k g) < 8

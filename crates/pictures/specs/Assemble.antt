@@ -10,8 +10,8 @@ use Rattle.bitio.specs.Limits.{limit}
 use Rattle.obu.specs.Obu.{Obu, obus, obuBytes}
 use Rattle.obu.specs.Unit.{has, lastPayload}
 use Rattle.obu.specs.Place.{part}
-use Rattle.header.specs.Sequence.{Sequence, parseSequence}
-use Rattle.header.specs.Support.{support}
+use Rattle.header.specs.Sequence.{Sequence}
+use Rattle.header.specs.Support.{supportedSequence}
 use Rattle.blocks.specs.Blocks.{listOf, cuesOf, total}
 use Rattle.pictures.specs.Segments.{Segment, framesOf, segmentsOf}
 use Rattle.pictures.specs.Prepare.{isSequence, firstOf, Settings, effective, renewal, Prepared, prepare, showUnit}
@@ -54,10 +54,6 @@ sizes gop ns =
     pick (ltb 5000000 (total ns)) (stopped 25 none) (made tt))))
 
 -- ---- sequence headers
-
--- 14 to 16, 17 to 20
-unfoldable pub readHeader : List ℕ → Answer Sequence
-readHeader s = andNext (parseSequence s) (λ q. andNext (support (q .header)) (λ _. accepted q))
 
 unfoldable pub sameBytes : List ℕ → List ℕ → Bool
 sameBytes [] [] = true
@@ -161,7 +157,7 @@ assembled set (x ∷ xs) =
     andAlso (sizes (set .gop) (framesOf (x ∷ xs))) (λ _.
     andAlso (inSegment 0 (obus (x .key))) (λ os.
     andAlso (inSegment 0 (firstOf 26 isSequence os)) (λ o.
-    andAlso (inSegment 0 (readHeader (o .payload))) (λ q.
+    andAlso (inSegment 0 (supportedSequence (o .payload))) (λ q.
     andAlso (sameHeaders (o .payload) 1 xs) (λ _.
     andAlso (prepareAll (effective set q) (renewal set q) 0 (x ∷ xs)) (λ bs.
     made (outputOf (set .gop) (framesOf (x ∷ xs)) (headerObu (renewal set q) o) bs)))))))

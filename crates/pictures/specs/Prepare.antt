@@ -1,17 +1,18 @@
 -- One segment's units as they go out, and what is asked of them (01, 'Unit list and cue list'). Assumes nothing.
 use Prim.Native.Nat.{ℕ, zero, suc, _+_, _*_, _/_, _%_}
 use mathlib.Core.List.{List, [], _∷_, map}
-use mathlib.Core.Bool.{Bool, cond as pick, _&&_}
+use mathlib.Core.Bool.{Bool, false, cond as pick, _&&_}
 use mathlib.Core.Option.{Option, none, some}
 use lib.Dec.{eqb}
 use Rattle.bitio.specs.Parse.{Answer, refused, accepted, andNext}
 use Rattle.obu.specs.Obu.{Obu, obus, unitBytes}
 use Rattle.obu.specs.Unit.{isKind, has}
-use Rattle.obu.specs.declared.unit.Kind.the-variants.{SequenceHeader, Frame as FrameObu}
+use Rattle.obu.specs.declared.unit.Kind.the-variants.{SequenceHeader}
 use Rattle.header.specs.Sequence.{Sequence}
 use Rattle.header.specs.Timed.{isTimed, withTiming}
 use Rattle.emit.specs.Emit.{sequenceBytes}
-use Rattle.frame.specs.Frame.{keyFrame, parseFrame}
+use Rattle.frame.specs.Frame.{keyFrame}
+use Rattle.frame.specs.UnitFrame.{unitFrame}
 use Rattle.frame.specs.declared.frame_header.FrameHeaderInfo.{FrameHeaderInfo}
 use Rattle.frame.specs.declared.frame_header.FrameHeaderInfo.the-variants.{Existing, Frame}
 use Rattle.pictures.specs.Segments.{Segment}
@@ -20,9 +21,6 @@ pub use Rattle.pictures.specs.declared.settings.Settings.{Settings}
 
 abbrev pub isSequence : Obu → Bool
 isSequence o = isKind SequenceHeader o
-
-abbrev pub isFrame : Obu → Bool
-isFrame o = isKind FrameObu o
 
 -- the first OBU that passes; n: there is none
 unfoldable pub firstOf : ℕ → (Obu → Bool) → List Obu → Answer Obu
@@ -53,10 +51,6 @@ sent none u = accepted u
 sent (some new) u = andNext (obus u) (λ os. accepted (pick (has isSequence os) (unitBytes (map (renewed new) os)) u))
 
 -- ---- frames
-
--- a unit's first frame header: 1 to 5, 28 no frame, 14
-unfoldable pub firstFrame : Sequence → List ℕ → Answer FrameHeaderInfo
-firstFrame q u = andNext (obus u) (λ os. andNext (firstOf 28 isFrame os) (λ o. parseFrame q (o .payload)))
 
 -- 29 not a shown key
 abbrev pub keyOk : FrameHeaderInfo → Answer Unit
@@ -91,9 +85,9 @@ pub record Prepared : Type 0 where
 -- what is asked of a key and a golden, and then f of the slot: key 1 to 5, 28, 14, 29; golden 1 to 5, 28, 14, 30 to 33
 abbrev pub asked : {A : Type 0} → Sequence → (key golden : List ℕ) → (ℕ → Answer A) → Answer A
 asked q key golden f =
-    andNext (firstFrame q key) (λ y.
+    andNext (unitFrame false q key) (λ y.
     andNext (keyOk y) (λ _.
-    andNext (firstFrame q golden) (λ z.
+    andNext (unitFrame false q golden) (λ z.
     andNext (goldenFlags z) (λ flags.
     f (slotOf flags)))))
 

@@ -4,41 +4,24 @@ ghost use mathlib.Core.Bool.{false, cond as pick};
 ghost use Rattle.bitio.specs.Parse.{refused, accepted, andNext};
 ghost use Rattle.obu.specs.Unit.{countedSays};
 ghost use Rattle.header.specs.Sequence.{sequenceOf};
-ghost use Rattle.frame.specs.Frame.{frameSays};
-ghost use Rattle.pictures.specs.Prepare.{firstFrame, keyOk, goldenFlags, slotOf};
+ghost use Rattle.pictures.specs.Prepare.{keyOk, goldenFlags, slotOf};
 ghost use Rattle.pictures.specs.Code.{countRead, judged};
 ghost use Rattle.pictures.specs.Says.{slotSays};
 use crate::slot::lowest_refreshed_slot;
 use frame::frame_header::FrameAnswer;
 use frame::frame_header::FrameHeaderInfo;
 use frame::frame_header::KEY_FRAME;
-use frame::frame_header::read::read_frame_header;
+use frame::unit_frame::unit_frame;
 use header::seq_header::OperatingPoint;
 use header::seq_header::SequenceHeader;
 use obu::unit::Counted;
 use obu::unit::Kind;
 use obu::unit::count_obus;
-use obu::unit::first_payload;
 
 pub enum GoldenSlot {
     Lowest(u64),
     // document 01's number
-    Refused(u64),
-}
-
-// The first frame header of a unit: 1 to 5, 28 no frame, 14.
-pub fn first_frame(unit: &[u8], header: SequenceHeader, points: [OperatingPoint; 32]) -> FrameAnswer
-    ensures { λ r. ⌜ frameSays r ≡ firstFrame (sequenceOf header points) (now (unit .entry)) ⌝ }
-{
-    match count_obus(unit, Kind::Frame) {
-        Counted::Refused(k) => FrameAnswer::Refused(k as u64),
-        Counted::Count(n) => {
-            if n == 0 {
-                return FrameAnswer::Refused(28);
-            }
-            read_frame_header(header, points, first_payload(unit, Kind::Frame))
-        }
-    }
+    Refused(u32),
 }
 
 // Whether a key's header is that of a shown key; otherwise it is refused with 29.
@@ -81,13 +64,13 @@ fn frame_slot(
 ) -> GoldenSlot
     ensures { λ r. ⌜ slotSays r ≡ judged (sequenceOf header points) false (now (key .entry)) (now (golden .entry)) ⌝ }
 {
-    match first_frame(key, header, points) {
+    match unit_frame(key, header, points, false) {
         FrameAnswer::Refused(k) => GoldenSlot::Refused(k),
         FrameAnswer::Header(shown) => {
             if !is_shown_key(shown) {
                 return GoldenSlot::Refused(29);
             }
-            match first_frame(golden, header, points) {
+            match unit_frame(golden, header, points, false) {
                 FrameAnswer::Refused(k) => GoldenSlot::Refused(k),
                 FrameAnswer::Header(info) => refreshed_slot(info),
             }
@@ -116,9 +99,9 @@ pub fn golden_slot(
     ensures { λ r. ⌜ slotSays r ≡ judged (sequenceOf header points) rewriting (now (key .entry)) (now (golden .entry)) ⌝ }
 {
     match count_readable(key, rewriting) {
-        Counted::Refused(k) => GoldenSlot::Refused(k as u64),
+        Counted::Refused(k) => GoldenSlot::Refused(k),
         Counted::Count(_) => match count_readable(golden, rewriting) {
-            Counted::Refused(k) => GoldenSlot::Refused(k as u64),
+            Counted::Refused(k) => GoldenSlot::Refused(k),
             Counted::Count(_) => frame_slot(key, golden, header, points),
         },
     }

@@ -2,26 +2,19 @@
 ghost use mathlib.Core.Path.{_≡_};
 ghost use Rattle.bitio.specs.Parse.{answer};
 ghost use Rattle.obu.specs.Unit.{countedSays};
-ghost use Rattle.pictures.specs.Assemble.{readHeader, sameBytes, sameHeaders};
+ghost use Rattle.pictures.specs.Assemble.{sameBytes, sameHeaders};
 ghost use Rattle.pictures.specs.Sizes.{checkedSays};
 ghost use Rattle.pictures.specs.Code.{firstSequence, laterSegments, countSame};
-ghost use Rattle.pictures.specs.Says.{foundSays, readSays};
+ghost use Rattle.pictures.specs.Says.{headerFound};
 use crate::sizes::Checked;
 use blocks::numbers::key_of;
 use blocks::numbers::segment_count;
-use header::seq_header::SequenceAnswer;
-use header::seq_header::SequenceRead;
-use header::seq_header::Support;
-use header::seq_header::check::check_supported;
-use header::seq_header::read::read_sequence;
 use obu::reader::Obu;
 use obu::reader::ObuAt;
-use obu::reader::obu_at;
-use obu::reader::refusal;
 use obu::unit::Counted;
 use obu::unit::Kind;
 use obu::unit::count_obus;
-use obu::unit::is_type;
+use obu::unit::find_obu;
 use obu::unit::last_payload;
 
 pub enum FoundObu {
@@ -32,42 +25,12 @@ pub enum FoundObu {
 
 // Where the first sequence header OBU of a key stands: 1 to 5, 26.
 pub fn first_sequence(unit: &[u8]) -> FoundObu
-    ensures { λ r. ⌜ foundSays (now (unit .entry)) r ≡ firstSequence (now (unit .entry)) ⌝ }
+    ensures { λ r. ⌜ headerFound (now (unit .entry)) r ≡ firstSequence (now (unit .entry)) ⌝ }
 {
-    let mut at: usize = 0;
-    let mut seen = false;
-    let mut first = FoundObu::Refused(26);
-    while at < unit.len() {
-        let found = obu_at(unit, at);
-        let ObuAt::Found(o) = found else {
-            return FoundObu::Refused(refusal(found));
-        };
-        let is = is_type(Kind::SequenceHeader, o.obu_type);
-        if !seen & is {
-            first = FoundObu::Found(o);
-        }
-        seen = seen | is;
-        at = o.end;
-    }
-    first
-}
-
-// A sequence payload read: 14 to 16, 17 to 20.
-pub fn read_supported(payload: &[u8]) -> SequenceRead
-    ensures { λ r. ⌜ readSays r ≡ readHeader (now (payload .entry)) ⌝ }
-{
-    let read = read_sequence(payload);
-    let answer = read.answer;
-    let points = read.operating_points;
-    match answer {
-        SequenceAnswer::Refused(_) => read,
-        SequenceAnswer::Header(header) => match check_supported(header) {
-            Support::Refused(k) => SequenceRead {
-                answer: SequenceAnswer::Refused(k),
-                operating_points: points,
-            },
-            Support::Supported => read,
-        },
+    match find_obu(unit, Kind::SequenceHeader, false) {
+        ObuAt::Found(o) => FoundObu::Found(o),
+        ObuAt::End => FoundObu::Refused(26),
+        ObuAt::Refused(k) => FoundObu::Refused(k),
     }
 }
 

@@ -24,7 +24,7 @@ use header::seq_header::SequenceHeader;
 pub enum Measured {
     Bytes(usize),
     // document 01's number, and the segment from 0
-    RefusedIn(u64, usize),
+    RefusedIn(u32, usize),
 }
 
 // How many picture bytes the units of segment i have as they go out, or its first refusal.

@@ -7,8 +7,8 @@ use Rattle.pictures.proofs.FrameLaws.{key-refused, key-hidden, golden-r
 use Rattle.pictures.proofs.frames.frame_slot.Statement.{statement}
 use Rattle.pictures.proofs.frames.frame_slot.Tie as tie
 
-first-frame-requires : tie.Need-first-frame-requires
-first-frame-requires c κs = search needs
+unit-frame-requires : tie.Need-unit-frame-requires
+unit-frame-requires c κs = search needs
 
 enum-known-k : tie.Need-enum-known-k
 enum-known-k c = search needs
@@ -23,10 +23,10 @@ returns : tie.Need-returns
 returns c =
     let k = c .before in
     let y = k .before .before in
-    key-hidden _ _ _ _ (sym (y .before .before .first-frame .ensures) ∙ ap frameSays (y .shown .given .1)) (k .is-shown-key .result) (k .is-shown-key .ensures) (c .if1 .taken)
+    key-hidden _ _ _ _ (sym (y .before .before .unit-frame .ensures) ∙ ap frameSays (y .shown .given .1)) (k .is-shown-key .result) (k .is-shown-key .ensures) (c .if1 .taken)
 
-first-frame-requires-2 : tie.Need-first-frame-requires-2
-first-frame-requires-2 c κs = search needs
+unit-frame-requires-2 : tie.Need-unit-frame-requires-2
+unit-frame-requires-2 c κs = search needs
 
 enum-known-k-2 : tie.Need-enum-known-k-2
 enum-known-k-2 c = search needs
@@ -38,7 +38,7 @@ refreshed-slot-requires : tie.Need-refreshed-slot-requires
 refreshed-slot-requires c κs = search needs
 
 returns-2 : tie.Need-returns-2
-returns-2 c = let k = c .before in key-refused _ _ _ _ (sym (k .before .before .first-frame .ensures) ∙ ap frameSays (k .k .given .1))
+returns-2 c = let k = c .before in key-refused _ _ _ _ (sym (k .before .before .unit-frame .ensures) ∙ ap frameSays (k .k .given .1))
 
 returns-3 : tie.Need-returns-3
 returns-3 c =
@@ -46,8 +46,8 @@ returns-3 c =
     let g = z .before .before in
     let k = g .before .before in
     let y = k .before .before in
-    golden-refused _ _ _ _ (sym (y .before .before .first-frame .ensures) ∙ ap frameSays (y .shown .given .1)) (k .is-shown-key .result) (k .is-shown-key .ensures) (g .before .if1 .left) _
-    (sym (g .first-frame2 .ensures) ∙ ap frameSays (z .k2 .given .1))
+    golden-refused _ _ _ _ (sym (y .before .before .unit-frame .ensures) ∙ ap frameSays (y .shown .given .1)) (k .is-shown-key .result) (k .is-shown-key .ensures) (g .before .if1 .left) _
+    (sym (g .unit-frame2 .ensures) ∙ ap frameSays (z .k2 .given .1))
 
 returns-4 : tie.Need-returns-4
 returns-4 c =
@@ -56,19 +56,19 @@ returns-4 c =
     let k = g .before .before in
     let y = k .before .before in
     c .refreshed-slot .ensures
-    ∙ golden-judged _ _ _ _ (sym (y .before .before .first-frame .ensures) ∙ ap frameSays (y .shown .given .1)) (k .is-shown-key .result) (k .is-shown-key .ensures) (g .before .if1 .left) _
-    (sym (g .first-frame2 .ensures) ∙ ap frameSays (z .info .given .1))
+    ∙ golden-judged _ _ _ _ (sym (y .before .before .unit-frame .ensures) ∙ ap frameSays (y .shown .given .1)) (k .is-shown-key .result) (k .is-shown-key .ensures) (g .before .if1 .left) _
+    (sym (g .unit-frame2 .ensures) ∙ ap frameSays (z .info .given .1))
 
 pub frame-slot-spec : {M : Type 1} → statement M
 frame-slot-spec =
     tie.close
     (tie.spec
-    first-frame-requires
+    unit-frame-requires
     enum-known-k
     enum-known-shown
     is-shown-key-requires
     returns
-    first-frame-requires-2
+    unit-frame-requires-2
     enum-known-k-2
     enum-known-info
     refreshed-slot-requires

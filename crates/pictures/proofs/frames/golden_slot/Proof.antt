@@ -13,9 +13,6 @@ count-readable-requires c κs = search needs
 enum-known-k : tie.Need-enum-known-k
 enum-known-k c = search needs
 
-cast-t10 : tie.Need-cast-t10
-cast-t10 c = search needs
-
 enum-told : tie.Need-enum-told
 enum-told c = search needs
 
@@ -24,9 +21,6 @@ count-readable-requires-2 c κs = search needs
 
 enum-known-k-2 : tie.Need-enum-known-k-2
 enum-known-k-2 c = search needs
-
-cast-t13 : tie.Need-cast-t13
-cast-t13 c = search needs
 
 enum-told-2 : tie.Need-enum-told-2
 enum-told-2 c = search needs
@@ -58,11 +52,9 @@ golden-slot-spec =
     (tie.spec
     count-readable-requires
     enum-known-k
-    cast-t10
     enum-told
     count-readable-requires-2
     enum-known-k-2
-    cast-t13
     enum-told-2
     frame-slot-requires
     returns
