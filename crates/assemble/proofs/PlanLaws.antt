@@ -18,7 +18,7 @@ use Rattle.obu.specs.Place.{part, extensionSays}
 use Rattle.obu.specs.Write.{obu}
 use Rattle.obu.specs.declared.reader.Obu.{Obu as CodeObu}
 use Rattle.header.specs.Sequence.{Sequence, sequenceOf}
-use Rattle.header.specs.Support.{support}
+use Rattle.header.specs.Support.{support, supportedSequence}
 use Rattle.header.specs.Timed.{isTimed, retimed, withTiming, timed}
 use Rattle.emit.specs.Emit.{sequenceBytes, emitPlaced, emitLent}
 use Rattle.emittable.specs.Emittable.{emittable}
@@ -29,10 +29,10 @@ use Rattle.header.proofs.TimedLaws.{timed-of}
 use Rattle.blocks.specs.Numbers.{headKey, framesIn}
 use Rattle.pictures.specs.Prepare.{isSequence, firstOf, timedSequence, Prepared}
 use Rattle.pictures.specs.declared.settings.Settings.{Settings}
-use Rattle.pictures.specs.Assemble.{Outcome, stopped, made, andAlso, inSegment, readHeader, sameHeaders, headerObu, prepareAll, pictureOf}
+use Rattle.pictures.specs.Assemble.{Outcome, stopped, made, andAlso, inSegment, sameHeaders, headerObu, prepareAll, pictureOf}
 use Rattle.pictures.specs.Sizes.{sized, ranged}
 use Rattle.pictures.specs.Code.{allSegments, laterSegments, firstSequence, renewing, orElse, allPrepared, capped, measured}
-use Rattle.pictures.specs.Says.{foundSays}
+use Rattle.pictures.specs.Says.{headerFound}
 use Rattle.assemble.specs.Stages.{Going, going, WasRead, fromPictures, fromTiming, fromHeader, fromKey, checked, planned, headerIn, planSays, noPlan}
 use Rattle.pictures.specs.Rewrite.{obuIn}
 use Rattle.pictures.specs.declared.headers.FoundObu.{FoundObu}
@@ -137,11 +137,11 @@ module _ (s rs : List ℕ) where
   -- ---- the first key's header
 
   module _ (set : Settings) (o : Obu) where
-    pub header-refused : (k : ℕ) → refused k ≡ readHeader (o .payload) → stopped k (some 0) ≡ fromHeader s rs set o
+    pub header-refused : (k : ℕ) → refused k ≡ supportedSequence (o .payload) → stopped k (some 0) ≡ fromHeader s rs set o
     unfolding fromHeader andAlso inSegment
     header-refused k e = rw (← e)
 
-    module _ (q : Sequence) (read : accepted q ≡ readHeader (o .payload)) where
+    module _ (q : Sequence) (read : accepted q ≡ supportedSequence (o .payload)) where
       pub header-other : (k : ℕ) (i : Option ℕ) → stopped k i ≡ sameHeaders (o .payload) 1 (laterSegments s rs) → stopped k i ≡ fromHeader s rs set o
       unfolding fromHeader andAlso inSegment
       header-other k i e = rw (← read, ← e)
@@ -192,8 +192,8 @@ found-type u o e = go (obus u) (sym e)
     go (accepted os) e = first-sequence os o e
 
 -- where it was found, in a unit that is another's
-pub found-at : (u v : List ℕ) (r : FoundObu) (o : CodeObu) → r ≡ Found o → foundSays u r ≡ firstSequence u → u ≡ v → accepted (obuIn v o) ≡ firstSequence v
-found-at u v r o e f i = ap (λ (l : List ℕ). accepted (obuIn l o)) (sym i) ∙ sym (ap (foundSays u) e) ∙ f ∙ ap firstSequence i
+pub found-at : (u v : List ℕ) (r : FoundObu) (o : CodeObu) → r ≡ Found o → headerFound u r ≡ firstSequence u → u ≡ v → accepted (obuIn v o) ≡ firstSequence v
+found-at u v r o e f i = ap (λ (l : List ℕ). accepted (obuIn l o)) (sym i) ∙ sym (ap (headerFound u) e) ∙ f ∙ ap firstSequence i
 
 -- ---- the header that goes out
 

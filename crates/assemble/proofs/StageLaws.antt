@@ -8,6 +8,7 @@ use mathlib.Core.Option.{none, some}
 use lib.ListN.{length}
 use lib.Dec.{ltb, eqb}
 use borrow.Author.Tests.{ltb-false, eqb-false}
+use Rattle.header.specs.Support.{supportedSequence}
 use Rattle.blocks.proofs.NumberLaws.{frames-length}
 use Rattle.bitio.specs.Parse.{Answer, refused, accepted, answer, andNext, onto}
 use Rattle.bitio.specs.Limits.{limit}
@@ -17,7 +18,7 @@ use Rattle.blocks.specs.Numbers.{headKey, headFrames, headInside, rest, segment
 use Rattle.pictures.specs.Segments.{Segment, framesOf, segmentIn, segmentAt, segmentsFrom, segmentsOf}
 use Rattle.pictures.specs.Prepare.{effective, renewal}
 use Rattle.pictures.specs.declared.settings.Settings.{Settings}
-use Rattle.pictures.specs.Assemble.{Outcome, stopped, made, andAlso, inSegment, overall, noneEmpty, sizes, readHeader, sameHeaders, headerObu, prepareAll, pictureOf, Output, outputOf, Room, assembled, fitted, assemble}
+use Rattle.pictures.specs.Assemble.{Outcome, stopped, made, andAlso, inSegment, overall, noneEmpty, sizes, sameHeaders, headerObu, prepareAll, pictureOf, Output, outputOf, Room, assembled, fitted, assemble}
 use Rattle.pictures.specs.Sizes.{sized, ranged}
 use Rattle.pictures.specs.Code.{allSegments, laterSegments, firstSequence, capped}
 use Rattle.assemble.specs.Stages.{Going, going, fromTiming, fromHeader, fromKey, checked, planned}
@@ -91,14 +92,14 @@ module _ (room : Room) (set : Settings) where
       → andAlso (assembled set (x ∷ xs)) (fitted room)
       ≡ andAlso (andAlso (sized (set .gop) ns) (λ _.
       andAlso (inSegment 0 (firstSequence (x .key))) (λ o.
-      andAlso (inSegment 0 (readHeader (o .payload))) (λ q.
+      andAlso (inSegment 0 (supportedSequence (o .payload))) (λ q.
       andAlso (sameHeaders (o .payload) 1 later) (λ _.
       andAlso (prepareAll (effective set q) (renewal set q) 0 all) (λ bs. made (going (headerObu (renewal set q) o) bs))))))) (handed ns)
   unfolding assembled andAlso
   staged x xs all later ns a l n =
       rw (a, l, n) (also-both (sizes (set .gop) (framesOf (x ∷ xs))) _ _ _ _ (λ _.
       first-both 0 (obus (x .key)) _ _ _ _ _ (λ o.
-      also-both (inSegment 0 (readHeader (o .payload))) _ _ _ _ (λ q.
+      also-both (inSegment 0 (supportedSequence (o .payload))) _ _ _ _ (λ q.
       also-both (sameHeaders (o .payload) 1 xs) _ _ _ _ (λ _.
       also-both (prepareAll (effective set q) (renewal set q) 0 (x ∷ xs)) _ _ _ _ (λ bs. refl))))))
 
@@ -199,7 +200,7 @@ unfolding planned fromKey fromHeader fromTiming
 planned-weighed s rs set =
     also-weighed (checked s rs (set .gop)) _ (λ _.
     also-weighed (inSegment 0 (firstSequence (headKey s rs))) _ (λ o.
-    also-weighed (inSegment 0 (readHeader (o .payload))) _ (λ q.
+    also-weighed (inSegment 0 (supportedSequence (o .payload))) _ (λ q.
     also-weighed (sameHeaders (o .payload) 1 (laterSegments s rs)) _ (λ _.
     also-weighed (prepareAll (effective set q) (renewal set q) 0 (allSegments s rs)) _ (λ bs g e.
     let w : going (headerObu (renewal set q) o) bs ≡ g = cc in subst (λ (x : Going). x .bytes ≡ capped (length (pictureOf (x .units)))) w refl)))))

@@ -3,20 +3,21 @@ use Prim.Native.Nat.{ℕ, _^_, _-_}
 use mathlib.Core.Path.{_≡_, refl}
 use mathlib.Core.List.{List, [], _∷_, _++_, map, flatMap}
 use mathlib.Core.Option.{none, some}
+use Rattle.frame.specs.UnitFrame.{framePayload, unitFrame}
 use Rattle.bitio.specs.Parse.{many, manyF, andNext}
 use Rattle.bitio.specs.Bits.{bitAt, bitsAt, bitsWithin, readBits}
 use Rattle.bitio.specs.Uvlc.{leadingZeros, uvlcSuffix, uvlc}
 use Rattle.bitio.specs.Write.{bitsOf, halvings, uvlcZeros}
 use Rattle.bitio.specs.Leb.{lebRead, readLeb, lebWrite, lebBytes, sized, framed}
 use Rattle.obu.specs.Obu.{passes, headObuOf, obusOf, obuBytes, unitBytes}
-use Rattle.obu.specs.Unit.{isType, has, lastPayload}
+use Rattle.obu.specs.Unit.{isType, has, lastPayload, count, firstPayload}
 use Rattle.obu.specs.Place.{part}
 use Rattle.header.specs.Fields.{readFlag, readOr, flagOr, uvlcOr}
 use Rattle.header.specs.SequenceOpening.{timingInfo, decoderModelInfo, opening}
 use Rattle.header.specs.SequencePoints.{operatingPoint, operatingPoints}
 use Rattle.header.specs.SequenceCoding.{frameSize, frameIds, codingTools, screenTools, filters, colorDescription, colorSampling, coding}
 use Rattle.header.specs.Sequence.{sequenceHeader, parseSequence}
-use Rattle.header.specs.Support.{support}
+use Rattle.header.specs.Support.{support, supportedSequence}
 use Rattle.header.specs.Timed.{retimed, withTiming}
 use Rattle.emittable.specs.PutFields.{put, putOr, putFlag, putFlagOr, putUvlcOr}
 use Rattle.emittable.specs.PutSequence.{putTiming, putModel, putOpening, putPoint, putPoints, putSize, putIds, putTools, putScreen, putFilters, putColor, putSampling, putCoding, putSequence}
@@ -24,9 +25,9 @@ use Rattle.emit.specs.Emit.{ofBits, packN, pack, trailed, sequenceBytes}
 use Rattle.frame.specs.Frame.{showExisting, frameStart, orderHint, removalTimes, bufferRemoval, frameInfo, frameBits, frameHeader, parseFrame}
 use Rattle.blocks.specs.Blocks.{Key, Golden, Show, blocks, kinds, layout, positions, total}
 use Rattle.pictures.specs.Segments.{Segment, segmentAt, segmentsFrom, segmentsOf}
-use Rattle.pictures.specs.Prepare.{firstOf, sent, firstFrame, lowest, prepare, showUnit}
+use Rattle.pictures.specs.Prepare.{firstOf, sent, lowest, prepare, showUnit}
 use Rattle.pictures.specs.declared.settings.Settings.{Settings}
-use Rattle.pictures.specs.Assemble.{Outcome, stopped, made, andAlso, inSegment, overall, noneEmpty, sizes, readHeader, sameBytes, sameHeaders, prepareAll, endsFrom, Output, Room, fits, assembled, assemble, named, unitsOf}
+use Rattle.pictures.specs.Assemble.{Outcome, stopped, made, andAlso, inSegment, overall, noneEmpty, sizes, sameBytes, sameHeaders, prepareAll, endsFrom, Output, Room, fits, assembled, assemble, named, unitsOf}
 
 -- 01's K and G, and K with its header timed 25/1
 abbrev pub unitK : List ℕ
@@ -73,7 +74,7 @@ abbrev pub settingsKG : Settings
 settingsKG = record { gop = 3; fps = 25; den = 1 }
 
 pub listing : assemble roomKG settingsKG pictureKG (rangesKG 4 1) ≡ made outputKG
-unfolding many manyF andNext bitAt bitsAt bitsWithin readBits leadingZeros uvlcSuffix uvlc bitsOf halvings uvlcZeros lebRead readLeb lebWrite lebBytes sized framed passes headObuOf obusOf obuBytes unitBytes isType has lastPayload part readFlag readOr flagOr uvlcOr timingInfo decoderModelInfo opening operatingPoint operatingPoints frameSize frameIds codingTools screenTools filters colorDescription colorSampling coding sequenceHeader parseSequence support retimed withTiming put putOr putFlag putFlagOr putUvlcOr putTiming putModel putOpening putPoint putPoints putSize putIds putTools putScreen putFilters putColor putSampling putCoding putSequence ofBits packN pack trailed sequenceBytes showExisting frameStart orderHint removalTimes bufferRemoval frameInfo frameBits frameHeader parseFrame blocks layout positions total segmentAt segmentsFrom segmentsOf firstOf sent firstFrame lowest prepare andAlso inSegment overall noneEmpty sizes readHeader sameBytes sameHeaders prepareAll endsFrom fits assembled assemble flatMap
+unfolding many manyF andNext bitAt bitsAt bitsWithin readBits leadingZeros uvlcSuffix uvlc bitsOf halvings uvlcZeros lebRead readLeb lebWrite lebBytes sized framed passes headObuOf obusOf obuBytes unitBytes isType has lastPayload part readFlag readOr flagOr uvlcOr timingInfo decoderModelInfo opening operatingPoint operatingPoints frameSize frameIds codingTools screenTools filters colorDescription colorSampling coding sequenceHeader parseSequence support retimed withTiming put putOr putFlag putFlagOr putUvlcOr putTiming putModel putOpening putPoint putPoints putSize putIds putTools putScreen putFilters putColor putSampling putCoding putSequence ofBits packN pack trailed sequenceBytes showExisting frameStart orderHint removalTimes bufferRemoval frameInfo frameBits frameHeader parseFrame blocks layout positions total segmentAt segmentsFrom segmentsOf firstOf sent unitFrame framePayload lowest prepare andAlso inSegment overall noneEmpty sizes supportedSequence sameBytes sameHeaders prepareAll endsFrom fits assembled assemble flatMap count firstPayload
 listing = refl
 
 -- ---- two segments that differ in every unit
@@ -118,7 +119,7 @@ outputTwo =
 
 -- rewritten or copied, the same is handed out
 pub two : (assemble roomTwo settingsKG pictureTwo rangesTwo ∷ assemble roomTwo settingsKG pictureTimed rangesTimed ∷ []) ≡ made outputTwo ∷ made outputTwo ∷ []
-unfolding many manyF andNext bitAt bitsAt bitsWithin readBits leadingZeros uvlcSuffix uvlc bitsOf halvings uvlcZeros lebRead readLeb lebWrite lebBytes sized framed passes headObuOf obusOf obuBytes unitBytes isType has lastPayload part readFlag readOr flagOr uvlcOr timingInfo decoderModelInfo opening operatingPoint operatingPoints frameSize frameIds codingTools screenTools filters colorDescription colorSampling coding sequenceHeader parseSequence support retimed withTiming put putOr putFlag putFlagOr putUvlcOr putTiming putModel putOpening putPoint putPoints putSize putIds putTools putScreen putFilters putColor putSampling putCoding putSequence ofBits packN pack trailed sequenceBytes showExisting frameStart orderHint removalTimes bufferRemoval frameInfo frameBits frameHeader parseFrame blocks layout positions total segmentAt segmentsFrom segmentsOf firstOf sent firstFrame lowest prepare andAlso inSegment overall noneEmpty sizes readHeader sameBytes sameHeaders prepareAll endsFrom fits assembled assemble flatMap
+unfolding many manyF andNext bitAt bitsAt bitsWithin readBits leadingZeros uvlcSuffix uvlc bitsOf halvings uvlcZeros lebRead readLeb lebWrite lebBytes sized framed passes headObuOf obusOf obuBytes unitBytes isType has lastPayload part readFlag readOr flagOr uvlcOr timingInfo decoderModelInfo opening operatingPoint operatingPoints frameSize frameIds codingTools screenTools filters colorDescription colorSampling coding sequenceHeader parseSequence support retimed withTiming put putOr putFlag putFlagOr putUvlcOr putTiming putModel putOpening putPoint putPoints putSize putIds putTools putScreen putFilters putColor putSampling putCoding putSequence ofBits packN pack trailed sequenceBytes showExisting frameStart orderHint removalTimes bufferRemoval frameInfo frameBits frameHeader parseFrame blocks layout positions total segmentAt segmentsFrom segmentsOf firstOf sent unitFrame framePayload lowest prepare andAlso inSegment overall noneEmpty sizes supportedSequence sameBytes sameHeaders prepareAll endsFrom fits assembled assemble flatMap count firstPayload
 two = refl
 
 -- ---- refusals
@@ -209,7 +210,7 @@ answers
     ∷ of 1 0 ∷ of 28 0 ∷ of 29 0
     ∷ of 28 1 ∷ of 14 1 ∷ of 30 1 ∷ of 31 1 ∷ of 32 1 ∷ of 33 1
     ∷ [])
-unfolding many manyF andNext bitAt bitsAt bitsWithin readBits leadingZeros uvlcSuffix uvlc bitsOf halvings uvlcZeros lebRead readLeb lebWrite lebBytes sized framed passes headObuOf obusOf obuBytes unitBytes isType has lastPayload part readFlag readOr flagOr uvlcOr timingInfo decoderModelInfo opening operatingPoint operatingPoints frameSize frameIds codingTools screenTools filters colorDescription colorSampling coding sequenceHeader parseSequence support retimed withTiming put putOr putFlag putFlagOr putUvlcOr putTiming putModel putOpening putPoint putPoints putSize putIds putTools putScreen putFilters putColor putSampling putCoding putSequence ofBits packN pack trailed sequenceBytes showExisting frameStart orderHint removalTimes bufferRemoval frameInfo frameBits frameHeader parseFrame blocks layout positions total segmentAt segmentsFrom segmentsOf firstOf sent firstFrame lowest prepare andAlso inSegment overall noneEmpty sizes readHeader sameBytes sameHeaders prepareAll endsFrom fits assembled assemble flatMap
+unfolding many manyF andNext bitAt bitsAt bitsWithin readBits leadingZeros uvlcSuffix uvlc bitsOf halvings uvlcZeros lebRead readLeb lebWrite lebBytes sized framed passes headObuOf obusOf obuBytes unitBytes isType has lastPayload part readFlag readOr flagOr uvlcOr timingInfo decoderModelInfo opening operatingPoint operatingPoints frameSize frameIds codingTools screenTools filters colorDescription colorSampling coding sequenceHeader parseSequence support retimed withTiming put putOr putFlag putFlagOr putUvlcOr putTiming putModel putOpening putPoint putPoints putSize putIds putTools putScreen putFilters putColor putSampling putCoding putSequence ofBits packN pack trailed sequenceBytes showExisting frameStart orderHint removalTimes bufferRemoval frameInfo frameBits frameHeader parseFrame blocks layout positions total segmentAt segmentsFrom segmentsOf firstOf sent unitFrame framePayload lowest prepare andAlso inSegment overall noneEmpty sizes supportedSequence sameBytes sameHeaders prepareAll endsFrom fits assembled assemble flatMap count firstPayload
 answers = refl
 
 -- K with an extension byte in its sequence header OBU, and the same timed
@@ -235,7 +236,7 @@ extendedOutput header =
 extensions
     : (make 3 (segment extendedK unitG 2 ∷ []) ∷ make 3 (segment extendedTimedK unitG 2 ∷ []) ∷ [])
     ≡ made (extendedOutput timedHeader) ∷ made (extendedOutput (0x0E ∷ 0x20 ∷ 0x11 ∷ timedPayload)) ∷ []
-unfolding many manyF andNext bitAt bitsAt bitsWithin readBits leadingZeros uvlcSuffix uvlc bitsOf halvings uvlcZeros lebRead readLeb lebWrite lebBytes sized framed passes headObuOf obusOf obuBytes unitBytes isType has lastPayload part readFlag readOr flagOr uvlcOr timingInfo decoderModelInfo opening operatingPoint operatingPoints frameSize frameIds codingTools screenTools filters colorDescription colorSampling coding sequenceHeader parseSequence support retimed withTiming put putOr putFlag putFlagOr putUvlcOr putTiming putModel putOpening putPoint putPoints putSize putIds putTools putScreen putFilters putColor putSampling putCoding putSequence ofBits packN pack trailed sequenceBytes showExisting frameStart orderHint removalTimes bufferRemoval frameInfo frameBits frameHeader parseFrame blocks layout positions total segmentAt segmentsFrom segmentsOf firstOf sent firstFrame lowest prepare andAlso inSegment overall noneEmpty sizes readHeader sameBytes sameHeaders prepareAll endsFrom fits assembled assemble flatMap
+unfolding many manyF andNext bitAt bitsAt bitsWithin readBits leadingZeros uvlcSuffix uvlc bitsOf halvings uvlcZeros lebRead readLeb lebWrite lebBytes sized framed passes headObuOf obusOf obuBytes unitBytes isType has lastPayload part readFlag readOr flagOr uvlcOr timingInfo decoderModelInfo opening operatingPoint operatingPoints frameSize frameIds codingTools screenTools filters colorDescription colorSampling coding sequenceHeader parseSequence support retimed withTiming put putOr putFlag putFlagOr putUvlcOr putTiming putModel putOpening putPoint putPoints putSize putIds putTools putScreen putFilters putColor putSampling putCoding putSequence ofBits packN pack trailed sequenceBytes showExisting frameStart orderHint removalTimes bufferRemoval frameInfo frameBits frameHeader parseFrame blocks layout positions total segmentAt segmentsFrom segmentsOf firstOf sent unitFrame framePayload lowest prepare andAlso inSegment overall noneEmpty sizes supportedSequence sameBytes sameHeaders prepareAll endsFrom fits assembled assemble flatMap count firstPayload
 extensions = refl
 
 -- totals 2 and 5,000,000 pass, without laying out their lists

@@ -6,6 +6,7 @@ use mathlib.Core.Bool.{Bool, cond as pick, _&&_}
 use mathlib.Core.Option.{none, some}
 use lib.ListN.{length, replicate}
 use lib.Dec.{leb, ltb}
+use Rattle.header.specs.Support.{supportedSequence}
 use Rattle.bitio.specs.Parse.{accepted}
 use Rattle.bitio.specs.Limits.{limit}
 use Rattle.obu.specs.Obu.{Obu, obuBytes}
@@ -18,7 +19,7 @@ use Rattle.blocks.specs.Blocks.{listOf, cuesOf}
 use Rattle.blocks.specs.Numbers.{headKey, headGolden, segmentCount, framesIn}
 use Rattle.pictures.specs.Prepare.{effective, renewal, Prepared}
 use Rattle.pictures.specs.declared.settings.Settings.{Settings}
-use Rattle.pictures.specs.Assemble.{Outcome, stopped, made, andAlso, inSegment, readHeader, sameHeaders, headerObu, prepareAll, pictureOf, Room}
+use Rattle.pictures.specs.Assemble.{Outcome, stopped, made, andAlso, inSegment, sameHeaders, headerObu, prepareAll, pictureOf, Room}
 use Rattle.pictures.specs.Sizes.{sized, ranged}
 use Rattle.pictures.specs.Code.{allSegments, laterSegments, firstSequence, judged, renewing, orElse, allPrepared, capped}
 use Rattle.assemble.specs.declared.multi.Counts.{Counts}
@@ -41,7 +42,7 @@ going header bs = record { header = header; units = bs; bytes = capped (length (
 -- some payload reads as q, and is supported
 pub record WasRead (q : Sequence) : Type 0 where
   pub payload : List ℕ
-  pub read : readHeader payload ≡ accepted q
+  pub read : supportedSequence payload ≡ accepted q
 
 module _ (s rs : List ℕ) where
   -- per segment: 1 to 5, 28, 14, 29 to 33
@@ -57,7 +58,7 @@ module _ (s rs : List ℕ) where
   -- 14 to 20; later keys 1 to 5, 27
   unfoldable pub fromHeader : Settings → Obu → Outcome Going
   fromHeader set o =
-      andAlso (inSegment 0 (readHeader (o .payload))) (λ q.
+      andAlso (inSegment 0 (supportedSequence (o .payload))) (λ q.
       andAlso (sameHeaders (o .payload) 1 (laterSegments s rs)) (λ _.
       fromTiming set o q))
 

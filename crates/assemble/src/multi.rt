@@ -12,6 +12,7 @@ ghost use Rattle.assemble.specs.Whole.{outcome, slices, Handed};
 use crate::plan::Basis;
 use crate::plan::Planned;
 use crate::plan::plan_multi;
+use bitio::limits::LIMIT;
 use blocks::blocks::count_cues;
 use blocks::blocks::put_list;
 use blocks::numbers::golden_of;
@@ -41,9 +42,9 @@ pub struct Counts {
 pub enum Assembled {
     Made(Counts),
     // document 01's number
-    Refused(u64),
+    Refused(u32),
     // document 01's number, and the segment from 0
-    RefusedIn(u64, usize),
+    RefusedIn(u32, usize),
 }
 
 // The slot that the show units of the first segment name.
@@ -78,7 +79,7 @@ fn header_len(picture: &[u8], segments: &[u64], new: &[u8], basis: Basis) -> usi
 }
 
 // Writes that OBU, where its room is known.
-fn put_header(out: &mut [u8], picture: &[u8], segments: &[u64], new: &[u8], basis: Basis)
+fn put_sequence_obu(out: &mut [u8], picture: &[u8], segments: &[u64], new: &[u8], basis: Basis)
     requires some { ⌜ 1 ≤ segmentCount (now segments) ⌝ }
     requires room { ⌜ length (headerIn (now picture) (now segments) (now new) basis) ≤ length (now out) ⌝ }
     ensures { λ _. ⌜ now (out .exit) ≡ pasted (now (out .entry)) 0 (headerIn (now (picture .entry)) (now (segments .entry)) (now (new .entry)) basis) ⌝ }
@@ -131,14 +132,14 @@ fn fits_room(
     requires { ⌜ need .shows ≤ 25000000 ⌝ }
     ensures { λ r. ⌜ r ≡ fitsIn (roomOf (length (now (list .entry))) (length (now (cues .entry))) (length (now (pictures .entry))) (length (now (ends .entry))) (length (now (shows .entry))) (length (now (header .entry)))) need ⌝ }
 {
-    if need.picture > 4_000_000_000 {
+    if need.picture > LIMIT {
         return false;
     }
-    if need.header > 4_000_000_000 {
+    if need.header > LIMIT {
         return false;
     }
     let all = need.picture + need.shows + need.header;
-    (all <= 4_000_000_000)
+    (all <= LIMIT)
         & (need.units <= list.len())
         & (need.cues <= cues.len())
         & (need.picture <= pictures.len())
@@ -179,7 +180,7 @@ pub fn assemble_multi(
             put_list(list, cues, gop, segments);
             put_pictures(pictures, ends, picture, segments, new, basis.rewriting);
             put_shows(shows, picture, segments, going, points, basis.rewriting);
-            put_header(header, picture, segments, new, basis);
+            put_sequence_obu(header, picture, segments, new, basis);
             Assembled::Made(need)
         }
     }

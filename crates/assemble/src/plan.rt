@@ -13,12 +13,14 @@ ghost use Rattle.pictures.specs.Sizes.{checkedSays};
 ghost use Rattle.pictures.specs.Code.{orElse};
 ghost use Rattle.assemble.specs.Stages.{WasRead, fromPictures, fromTiming, fromHeader, checked, planned, newIn, headerIn, planSays, noPlan};
 ghost use Rattle.pictures.specs.Rewrite.{obuIn};
+use bitio::limits::LIMIT;
 use blocks::numbers::key_of;
 use emit::seq_header::emit::emit_sequence_header;
 use header::seq_header::Emitted;
 use header::seq_header::OperatingPoint;
 use header::seq_header::SequenceAnswer;
 use header::seq_header::SequenceHeader;
+use header::seq_header::check::read_supported;
 use header::seq_header::read_points::no_point;
 use header::seq_header::timing::with_timing_info_rate;
 use obu::reader::Extension;
@@ -26,7 +28,6 @@ use obu::reader::Obu;
 use obu::reader::payload;
 use pictures::headers::FoundObu;
 use pictures::headers::first_sequence;
-use pictures::headers::read_supported;
 use pictures::headers::same_headers;
 use pictures::pictures::Measured;
 use pictures::pictures::measure_pictures;
@@ -51,9 +52,9 @@ pub enum Planned {
     // with how many picture bytes there are, as far as a usize counts them
     Ready(Basis, usize),
     // document 01's number
-    Refused(u64),
+    Refused(u32),
     // document 01's number, and the segment from 0
-    RefusedIn(u64, usize),
+    RefusedIn(u32, usize),
 }
 
 // The arrays stand beside, as an enum could not hold them; after a refusal they are zero.
@@ -82,7 +83,7 @@ fn no_plan(answer: Planned) -> Plan
 fn check_input(picture: &[u8], segments: &[u64], gop: u64) -> Checked
     ensures { λ r. ⌜ checkedSays r ≡ checked (now (picture .entry)) (now (segments .entry)) gop ⌝ }
 {
-    if picture.len() > 4_000_000_000 {
+    if picture.len() > LIMIT {
         return Checked::Refused(34);
     }
     let ranges = check_ranges(picture, segments);
@@ -195,8 +196,8 @@ fn plan_header(picture: &[u8], segments: &[u64], obu: Obu, settings: Settings) -
     match answer {
         SequenceAnswer::Refused(k) => no_plan(Planned::RefusedIn(k, 0)),
         SequenceAnswer::Header(header) => match same_headers(picture, segments, first) {
-            Checked::Refused(k) => no_plan(Planned::Refused(k as u64)),
-            Checked::RefusedIn(k, i) => no_plan(Planned::RefusedIn(k as u64, i)),
+            Checked::Refused(k) => no_plan(Planned::Refused(k)),
+            Checked::RefusedIn(k, i) => no_plan(Planned::RefusedIn(k, i)),
             Checked::Fit => plan_timing(picture, segments, header, points, obu, settings),
         },
     }
@@ -207,10 +208,10 @@ pub(crate) fn plan_multi(picture: &[u8], segments: &[u64], settings: Settings) -
     ensures { λ r. ⌜ planSays (now (picture .entry)) (now (segments .entry)) r ≡ planned (now (picture .entry)) (now (segments .entry)) settings ⌝ }
 {
     match check_input(picture, segments, settings.gop) {
-        Checked::Refused(k) => no_plan(Planned::Refused(k as u64)),
-        Checked::RefusedIn(k, i) => no_plan(Planned::RefusedIn(k as u64, i)),
+        Checked::Refused(k) => no_plan(Planned::Refused(k)),
+        Checked::RefusedIn(k, i) => no_plan(Planned::RefusedIn(k, i)),
         Checked::Fit => match first_sequence(key_of(picture, segments, 0)) {
-            FoundObu::Refused(k) => no_plan(Planned::RefusedIn(k as u64, 0)),
+            FoundObu::Refused(k) => no_plan(Planned::RefusedIn(k, 0)),
             FoundObu::Found(obu) => plan_header(picture, segments, obu, settings),
         },
     }

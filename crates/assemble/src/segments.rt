@@ -9,6 +9,7 @@ ghost use Rattle.assemble.specs.Whole.{slices, Handed};
 ghost use Rattle.assemble.specs.Records.{recordIn, copyCount, numbersAfter, copiedOutcome, recordsOutcome};
 use crate::multi::Assembled;
 use crate::multi::assemble_multi;
+use bitio::limits::LIMIT;
 use blocks::numbers::WIDTH;
 use blocks::numbers::put_record;
 use pictures::settings::Settings;
@@ -80,7 +81,7 @@ fn assemble_copied(
     ensures numbers { λ _. ⌜ now (numbers .exit) ≡ now (numbers .entry) ⌝ }
 {
     if count > numbers.len() / WIDTH {
-        if picture.len() > 4_000_000_000 {
+        if picture.len() > LIMIT {
             return Assembled::Refused(34);
         }
         return Assembled::Refused(35);

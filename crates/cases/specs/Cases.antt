@@ -4,10 +4,11 @@ use mathlib.Core.Path.{_≡_, refl}
 use mathlib.Core.List.{List, [], _∷_, _++_, flatMap}
 use mathlib.Core.Bool.{Bool, true, false, _&&_}
 use lib.Dec.{eqb}
+use Rattle.frame.specs.UnitFrame.{framePayload, unitFrame}
 use Rattle.bitio.specs.Parse.{Answer, refused, accepted, answer, andNext, many, manyF}
 use Rattle.bitio.specs.Leb.{readLeb, lebRead, lebBytes, lebWrite, sized, framed}
 use Rattle.obu.specs.Obu.{passes, headObuOf, obusOf, obuBytes, unitBytes}
-use Rattle.obu.specs.Unit.{isType, count, has, lastPayload}
+use Rattle.obu.specs.Unit.{isType, count, has, lastPayload, firstPayload}
 use Rattle.obu.specs.Place.{part}
 use Rattle.container.specs.Stream.{cut, group, others, join, behind, joined, units, streamUnits, flat, streamBytes}
 use Rattle.container.specs.AnnexB.{innerObu, lengthObu, frameUnit, temporalUnit, annexbUnits, annexbUnit, annexbBytes}
@@ -29,12 +30,12 @@ use Rattle.emittable.specs.PutSequence.{putTiming, putModel, putOpening, putPoi
 use Rattle.emittable.specs.Emittable.{timingFits, modelFits, openingFits, pointFits, pointsFit, sizeFits, idsFit, toolsFit, screenFits, colorFits, samplingFits, codingFits, emittable}
 use Rattle.emit.specs.Emit.{ofBits, packN, pack, trailed, sequenceBytes, emitted}
 use Rattle.frame.specs.Frame.{showExisting, frameStart, orderHint, removalTimes, bufferRemoval, frameInfo, frameBits, frameHeader, parseFrameFrom}
-use Rattle.header.specs.Support.{support}
+use Rattle.header.specs.Support.{support, supportedSequence}
 use Rattle.frame.specs.Frame.{parseFrame}
 use Rattle.blocks.specs.Blocks.{blocks, layout, positions, total}
 use Rattle.pictures.specs.Segments.{segmentAt, segmentsFrom, segmentsOf}
-use Rattle.pictures.specs.Prepare.{firstOf, sent, firstFrame, lowest, prepare}
-use Rattle.pictures.specs.Assemble.{Outcome, stopped, made, Output, andAlso, inSegment, overall, noneEmpty, sizes, readHeader, sameBytes, sameHeaders, prepareAll, endsFrom, fits as fitsRoom, assembled, assemble}
+use Rattle.pictures.specs.Prepare.{firstOf, sent, lowest, prepare}
+use Rattle.pictures.specs.Assemble.{Outcome, stopped, made, Output, andAlso, inSegment, overall, noneEmpty, sizes, sameBytes, sameHeaders, prepareAll, endsFrom, fits as fitsRoom, assembled, assemble}
 use Rattle.frame.specs.declared.frame_header.FrameHeaderInfo.{FrameHeaderInfo}
 use Rattle.frame.specs.declared.frame_header.FrameHeaderInfo.the-variants.{Existing, Frame}
 
@@ -183,5 +184,5 @@ rows =
     ∷ []
 
 pub cases : check rows ≡ true
-unfolding check many manyF readLeb lebRead lebBytes lebWrite sized framed passes headObuOf obusOf obuBytes unitBytes flatMap isType count cut group others join behind joined units streamUnits flat streamBytes innerObu lengthObu frameUnit temporalUnit annexbUnits annexbUnit annexbBytes read write bitAt bitsAt bitsWithin readBits leadingZeros uvlcSuffix uvlc bitsOf halvings uvlcZeros readFlag readOr flagOr uvlcOr timingInfo decoderModelInfo opening operatingPoint operatingPoints frameSize frameIds codingTools screenTools filters colorDescription colorSampling coding sequenceHeader parseSequence limited retimed withTiming timed put putOr putFlag putFlagOr putUvlcOr fits fitsOr flagFitsOr uvlcFitsOr putTiming putModel putOpening putPoint putPoints putSize putIds putTools putScreen putFilters putColor putSampling putCoding putSequence timingFits modelFits openingFits pointFits pointsFit sizeFits idsFit toolsFit screenFits colorFits samplingFits codingFits emittable ofBits packN pack trailed sequenceBytes emitted showExisting frameStart orderHint removalTimes bufferRemoval frameInfo frameBits frameHeader parseFrameFrom parseFrame andNext has lastPayload part support blocks layout positions total segmentAt segmentsFrom segmentsOf firstOf sent firstFrame lowest prepare andAlso inSegment overall noneEmpty sizes readHeader sameBytes sameHeaders prepareAll endsFrom fitsRoom assembled assemble
+unfolding check many manyF readLeb lebRead lebBytes lebWrite sized framed passes headObuOf obusOf obuBytes unitBytes flatMap isType count cut group others join behind joined units streamUnits flat streamBytes innerObu lengthObu frameUnit temporalUnit annexbUnits annexbUnit annexbBytes read write bitAt bitsAt bitsWithin readBits leadingZeros uvlcSuffix uvlc bitsOf halvings uvlcZeros readFlag readOr flagOr uvlcOr timingInfo decoderModelInfo opening operatingPoint operatingPoints frameSize frameIds codingTools screenTools filters colorDescription colorSampling coding sequenceHeader parseSequence limited retimed withTiming timed put putOr putFlag putFlagOr putUvlcOr fits fitsOr flagFitsOr uvlcFitsOr putTiming putModel putOpening putPoint putPoints putSize putIds putTools putScreen putFilters putColor putSampling putCoding putSequence timingFits modelFits openingFits pointFits pointsFit sizeFits idsFit toolsFit screenFits colorFits samplingFits codingFits emittable ofBits packN pack trailed sequenceBytes emitted showExisting frameStart orderHint removalTimes bufferRemoval frameInfo frameBits frameHeader parseFrameFrom parseFrame andNext has lastPayload part support blocks layout positions total segmentAt segmentsFrom segmentsOf firstOf sent unitFrame framePayload lowest prepare andAlso inSegment overall noneEmpty sizes supportedSequence sameBytes sameHeaders prepareAll endsFrom fitsRoom assembled assemble firstPayload
 cases = refl

@@ -16,7 +16,7 @@ use Rattle.obu.specs.Obu.{Obu, obus}
 use Rattle.obu.specs.Unit.{has, lastPayload, firstPayload, ofUnit}
 use Rattle.obu.specs.Place.{part}
 use Rattle.header.specs.Sequence.{Sequence, parseSequence}
-use Rattle.header.specs.Support.{support}
+use Rattle.header.specs.Support.{support, supportedSequence}
 use Rattle.header.specs.Timed.{isTimed}
 use Rattle.emit.specs.Emit.{sequenceBytes}
 use Rattle.frame.specs.Frame.{keyFrame, parseFrame}
@@ -25,11 +25,11 @@ use Rattle.frame.specs.declared.frame_header.FrameHeaderInfo.{FrameHeaderInfo}
 use Rattle.frame.specs.declared.frame_header.FrameHeaderInfo.the-variants.{Existing, Frame}
 use Rattle.blocks.specs.Blocks.{total}
 use Rattle.pictures.specs.Segments.{Segment, framesOf, segmentAt, segmentsFrom, segmentsOf}
-use Rattle.pictures.specs.Prepare.{isSequence, isFrame, timedSequence, effective, renewal, sent, firstFrame, keyOk, goldenFlags, slotOf, Prepared, prepare}
+use Rattle.pictures.specs.Prepare.{isSequence, timedSequence, effective, renewal, sent, keyOk, goldenFlags, slotOf, Prepared, prepare}
 use Rattle.pictures.specs.declared.settings.Settings.{Settings}
-use Rattle.pictures.specs.Assemble.{Outcome, stopped, made, andAlso, inSegment, overall, noneEmpty, sizes, readHeader, sameBytes, sameHeader, sameHeaders, headerObu, prepareAll, Output, outputOf, Room, fits, assembled, assemble}
+use Rattle.pictures.specs.Assemble.{Outcome, stopped, made, andAlso, inSegment, overall, noneEmpty, sizes, sameBytes, sameHeader, sameHeaders, headerObu, prepareAll, Output, outputOf, Room, fits, assembled, assemble}
 use Rattle.player.proofs.StepLaws.{link}
-use Rattle.frame.specs.UnitFrame.{unitFrame}
+use Rattle.frame.specs.UnitFrame.{unitFrame, framePayload, isFrame}
 use Rattle.demand.specs.Premises.{listHeader, Premise, Formed, InFields}
 use Rattle.demand.proofs.HeaderLaws.{timed-short, timed-back, timed-fine}
 use Rattle.demand.proofs.PlayerLaws.{sole-is}
@@ -113,8 +113,8 @@ pub record Paired (q : Sequence) (new : Option (List ℕ)) (s : List ℕ) (x : S
   pub slot-is : b .slot ≡ slotOf (info .«refresh_frame_flags»)
 
 -- a unit's first frame, where it has but one
-first-reads : (q : Sequence) (s u : List ℕ) (x : FrameHeaderInfo) (w : Premise s u) → firstFrame q u ≡ accepted x → parseFrame q (firstPayload isFrame (w .held)) ≡ accepted x
-unfolding firstFrame
+first-reads : (q : Sequence) (s u : List ℕ) (x : FrameHeaderInfo) (w : Premise s u) → unitFrame false q u ≡ accepted x → parseFrame q (firstPayload isFrame (w .held)) ≡ accepted x
+unfolding unitFrame framePayload
 first-reads q s u x w e =
     link _ _ x e (λ os a e. link _ _ x e (λ o b e.
     let z : os ≡ w .held = cc (w .written .reads) in
@@ -126,7 +126,7 @@ frame-is : (q : Sequence) (s u : List ℕ) (x : FrameHeaderInfo) (w : Premise s 
 unfolding unitFrame andNext
 frame-is q s u x w e = rw (w .written .reads, sole-is (w .held) (w .single), e)
 
-out-says : (q : Sequence) (s t u v : List ℕ) (x : FrameHeaderInfo) (w : Premise s u) → Out t (w .held) v → firstFrame q u ≡ accepted x → Says q t v x
+out-says : (q : Sequence) (s t u v : List ℕ) (x : FrameHeaderInfo) (w : Premise s u) → Out t (w .held) v → unitFrame false q u ≡ accepted x → Says q t v x
 out-says q s t u v x w o e = record { unit = o .unit; reads = rw (o .frame) (first-reads q s u x w e) }
 
 -- units short enough to be written again
@@ -260,8 +260,8 @@ outgoing-header set fields s q r f = go (isTimed (q .header))
     go true = (tt, r, f)
     go false = (timed-short set fields s q r f, timed-back set fields s q r f, timed-fine set fields s q r f)
 
-read-is : (s : List ℕ) (q : Sequence) → readHeader s ≡ accepted q → (parseSequence s ≡ accepted q) × (support (q .header) ≡ accepted tt)
-unfolding readHeader
+read-is : (s : List ℕ) (q : Sequence) → supportedSequence s ≡ accepted q → (parseSequence s ≡ accepted q) × (support (q .header) ≡ accepted tt)
+unfolding supportedSequence
 read-is s q e = link _ _ q e (λ q′ a e. link _ _ q e (λ u b e. let z : q′ ≡ q = cc in (rw (← z) a, rw (← z) b)))
 
 from-segments : (set : Settings) (xs : List Segment) (r : Output) → InFields set → Every Fits xs → Formed xs → assembled set xs ≡ made r → (m : Made set xs) × (out m ≡ r)

@@ -90,7 +90,7 @@ kindsBy set us (refused n) = []
 kindsBy set us (accepted q) = map (unitKind (effective set q)) us
 
 none-behind : (q : Sequence) → unitKind q [] ≡ refused 28
-unfolding many manyF andNext obusOf count framePayload unitFrame unitKind
+unfolding many manyF andNext obusOf count framePayload unitFrame unitKind firstPayload support
 none-behind q = refl
 
 -- what follows at each position and in each state follows throughout

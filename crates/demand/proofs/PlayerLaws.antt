@@ -18,8 +18,8 @@ use Rattle.header.specs.Sequence.{Sequence, parseSequence}
 use Rattle.header.specs.Support.{support, supportedSequence}
 use Rattle.frame.specs.Frame.{parseFrame}
 use Rattle.frame.specs.declared.frame_header.FrameHeaderInfo.{FrameHeaderInfo}
-use Rattle.pictures.specs.Prepare.{isSequence, isFrame, lowest}
-use Rattle.frame.specs.UnitFrame.{framePayload}
+use Rattle.pictures.specs.Prepare.{isSequence, lowest}
+use Rattle.frame.specs.UnitFrame.{framePayload, isFrame}
 use Rattle.player.specs.Player.{empty, refresh, Shown, act, State, keepAs, keep, play}
 use Rattle.player.specs.declared.slots.Slot.{Slot}
 use Rattle.demand.specs.Premises.{Same}

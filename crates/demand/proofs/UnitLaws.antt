@@ -8,6 +8,7 @@ use mathlib.Core.Option.{Option, none, some}
 use lib.ListN.{length}
 use lib.Dec.{eqb}
 use borrow.Author.Tests.{eqb-true}
+use Rattle.frame.specs.UnitFrame.{isFrame}
 use Rattle.bitio.specs.Parse.{accepted, andNext}
 use Rattle.bitio.specs.Leb.{lebWrite, lebBytes, framed}
 use Rattle.bitio.specs.Every.{Every}
@@ -19,7 +20,7 @@ use Rattle.obu.proofs.ObuLaws.{Allowed, obus-allowed, unit-written}
 use Rattle.container.specs.Stream.{isDelimiter}
 use Rattle.container.proofs.StreamLaws.{leads}
 use Rattle.container.proofs.RoundTrip.{Whole}
-use Rattle.pictures.specs.Prepare.{isSequence, isFrame, firstOf, renewed, sent, showByte, showUnit}
+use Rattle.pictures.specs.Prepare.{isSequence, firstOf, renewed, sent, showByte, showUnit}
 use Rattle.demand.specs.Premises.{Delimited, Same, Premise}
 
 -- ---- the first OBU of a kind

@@ -115,8 +115,8 @@ put-shows-requires c κs =
     let f = sym (not-false _ (e .if1 .left)) ∙ e .before .fits-room .ensures ∙ ap (fitsIn _) (e .before .before .before .before .before .before .before .before .count-all .ensures) in
     can-shows s rs (a .settings) (six (a .list) (a .cues) (a .pictures) (a .ends) (a .shows) (a .header)) _ _ _ _ y f
 
-put-header-requires : tie.Need-put-header-requires
-put-header-requires c κs =
+put-sequence-obu-requires : tie.Need-put-sequence-obu-requires
+put-sequence-obu-requires c κs =
     let g = c .before .before .before .before .before .before .before .before .before .before .before .before .before .before .before .before .before .before .before .before .before .before .before .before .before .before .before .before in
     let m = g .before .before .before .before .before .before .before .before in
     let a = m .before .before .before .before .before .before .before .before .before .args in
@@ -173,7 +173,7 @@ returns-4 c =
     let f = sym (not-false _ (e .if1 .left)) ∙ e .before .fits-room .ensures ∙ ap (fitsIn _) (e .before .before .before .before .before .before .before .before .count-all .ensures) in
     let l = c .before .before .before .before .before .before .before .before .before .before .before .before .before .before .before .before .before .before .before .put-list .ensures in
     let p = c .before .before .before .before .before .before .before .before .before .before .before .before .put-pictures .ensures in
-    all-made s rs (a .settings) (six (a .list) (a .cues) (a .pictures) (a .ends) (a .shows) (a .header)) _ _ _ _ y f _ _ (e .before .before .before .before .before .before .before .before .count-all .ensures) (l .list) (l .cues) (p .0) (p .1) (c .before .before .before .before .before .before .put-shows .ensures) (c .before .before .put-header .ensures)
+    all-made s rs (a .settings) (six (a .list) (a .cues) (a .pictures) (a .ends) (a .shows) (a .header)) _ _ _ _ y f _ _ (e .before .before .before .before .before .before .before .before .count-all .ensures) (l .list) (l .cues) (p .0) (p .1) (c .before .before .before .before .before .before .put-shows .ensures) (c .before .before .put-sequence-obu .ensures)
 
 pub assemble-multi-spec : {M : Type 1} → statement M
 assemble-multi-spec =
@@ -197,7 +197,7 @@ assemble-multi-spec =
     put-list-requires
     put-pictures-requires
     put-shows-requires
-    put-header-requires
+    put-sequence-obu-requires
     returns-2
     returns-3
     same-length-7

@@ -3,11 +3,12 @@ use Prim.Native.Nat.{ℕ}
 use mathlib.Core.Path.{_≡_, sym, ap, _∙_}
 use mathlib.Core.List.{List}
 use denote.Ref.{now}
+use Rattle.pictures.proofs.HeaderLaws.{read-says, sequenceIn}
+use Rattle.header.specs.Support.{supportedSequence}
 use Rattle.obu.specs.Place.{part}
-use Rattle.pictures.specs.Assemble.{readHeader, sameHeaders}
+use Rattle.pictures.specs.Assemble.{sameHeaders}
 use Rattle.pictures.specs.Sizes.{checkedSays}
 use Rattle.pictures.specs.Code.{laterSegments}
-use Rattle.pictures.specs.Says.{sequenceIn}
 use Rattle.blocks.specs.Numbers.{headKey}
 use Rattle.pictures.specs.Rewrite.{obuIn}
 use Rattle.assemble.proofs.PlanLaws.{none-planned, none-planned-in, header-refused, header-other, header-same}
@@ -42,17 +43,11 @@ same-headers-requires c κs = search needs
 enum-known-k : tie.Need-enum-known-k
 enum-known-k c = search needs
 
-cast-t19 : tie.Need-cast-t19
-cast-t19 c = search needs
-
 no-plan-requires-2 : tie.Need-no-plan-requires-2
 no-plan-requires-2 c κs = search needs
 
 enum-known-k-2 : tie.Need-enum-known-k-2
 enum-known-k-2 c = search needs
-
-cast-t21 : tie.Need-cast-t21
-cast-t21 c = search needs
 
 no-plan-requires-3 : tie.Need-no-plan-requires-3
 no-plan-requires-3 c κs = search needs
@@ -63,7 +58,7 @@ enum-told c = search needs
 plan-timing-requires : tie.Need-plan-timing-requires
 plan-timing-requires c κs =
     let r = c .before .before .before .before .before .before .before in
-    (r .before .before .before .before .before .pre .1, record { payload = _; read = sym (sym (ap (λ x. sequenceIn x (r .read-supported .result .«operating_points»)) (c .before .before .before .before .answer2 .given .1)) ∙ r .read-supported .ensures) })
+    (r .before .before .before .before .before .pre .1, record { payload = _; read = sym (sym (ap (λ x. sequenceIn x (r .read-supported .result .«operating_points»)) (c .before .before .before .before .answer2 .given .1)) ∙ read-says _ _ (r .read-supported .ensures)) })
 
 returns : tie.Need-returns
 returns c =
@@ -74,7 +69,7 @@ returns c =
     let r = c .before .before .before .before .before in
     none-planned-in s rs _ _ _ (c .no-plan .ensures)
     ∙ header-refused s rs (a .settings) o _
-    (sym (ap (λ x. sequenceIn x (r .read-supported .result .«operating_points»)) (c .before .before .answer .given .1)) ∙ r .read-supported .ensures ∙ ap readHeader (first-payload (r .before)))
+    (sym (ap (λ x. sequenceIn x (r .read-supported .result .«operating_points»)) (c .before .before .answer .given .1)) ∙ read-says _ _ (r .read-supported .ensures) ∙ ap supportedSequence (first-payload (r .before)))
 
 returns-2 : tie.Need-returns-2
 returns-2 c =
@@ -85,7 +80,7 @@ returns-2 c =
     let h = c .before .before .before .before in
     let r = h .before .before .before .before .before in
     let p = first-payload (r .before) in
-    let read = sym (ap (λ x. sequenceIn x (r .read-supported .result .«operating_points»)) (h .before .before .answer2 .given .1)) ∙ r .read-supported .ensures ∙ ap readHeader p in
+    let read = sym (ap (λ x. sequenceIn x (r .read-supported .result .«operating_points»)) (h .before .before .answer2 .given .1)) ∙ read-says _ _ (r .read-supported .ensures) ∙ ap supportedSequence p in
     none-planned s rs _ _ (c .no-plan2 .ensures)
     ∙ header-other s rs (a .settings) o _ read _ _ (sym (ap checkedSays (c .before .before .k .given .1)) ∙ h .same-headers .ensures ∙ ap (λ (l : List ℕ). sameHeaders l 1 (laterSegments s rs)) p)
 
@@ -98,7 +93,7 @@ returns-3 c =
     let h = c .before .before .before .before in
     let r = h .before .before .before .before .before in
     let p = first-payload (r .before) in
-    let read = sym (ap (λ x. sequenceIn x (r .read-supported .result .«operating_points»)) (h .before .before .answer2 .given .1)) ∙ r .read-supported .ensures ∙ ap readHeader p in
+    let read = sym (ap (λ x. sequenceIn x (r .read-supported .result .«operating_points»)) (h .before .before .answer2 .given .1)) ∙ read-says _ _ (r .read-supported .ensures) ∙ ap supportedSequence p in
     none-planned-in s rs _ _ _ (c .no-plan3 .ensures)
     ∙ header-other s rs (a .settings) o _ read _ _ (sym (ap checkedSays (c .before .before .k2 .given .1)) ∙ h .same-headers .ensures ∙ ap (λ (l : List ℕ). sameHeaders l 1 (laterSegments s rs)) p)
 
@@ -111,7 +106,7 @@ returns-4 c =
     let h = c .before .before .before in
     let r = h .before .before .before .before .before in
     let p = first-payload (r .before) in
-    let read = sym (ap (λ x. sequenceIn x (r .read-supported .result .«operating_points»)) (h .before .before .answer2 .given .1)) ∙ r .read-supported .ensures ∙ ap readHeader p in
+    let read = sym (ap (λ x. sequenceIn x (r .read-supported .result .«operating_points»)) (h .before .before .answer2 .given .1)) ∙ read-says _ _ (r .read-supported .ensures) ∙ ap supportedSequence p in
     c .plan-timing .ensures
     ∙ header-same s rs (a .settings) o _ read (sym (ap checkedSays (c .before .enum-told .given .1)) ∙ h .same-headers .ensures ∙ ap (λ (l : List ℕ). sameHeaders l 1 (laterSegments s rs)) p)
 
@@ -127,10 +122,8 @@ plan-header-spec =
     enum-known-answer-2
     same-headers-requires
     enum-known-k
-    cast-t19
     no-plan-requires-2
     enum-known-k-2
-    cast-t21
     no-plan-requires-3
     enum-told
     plan-timing-requires

@@ -5,7 +5,7 @@ use denote.Ref.{now}
 use Rattle.pictures.specs.Assemble.{made}
 use Rattle.pictures.specs.Sizes.{checkedSays}
 use Rattle.pictures.specs.Code.{firstSequence}
-use Rattle.pictures.specs.Says.{foundSays}
+use Rattle.pictures.specs.Says.{headerFound}
 use Rattle.assemble.specs.Stages.{checked}
 use Rattle.assemble.proofs.StageLaws.{Sound, checked-sound}
 use Rattle.assemble.proofs.PlanLaws.{none-planned, none-planned-in, plan-unchecked, plan-unfound, plan-found, found-type, found-at}
@@ -25,17 +25,11 @@ check-input-requires c κs = search needs
 enum-known-k : tie.Need-enum-known-k
 enum-known-k c = search needs
 
-cast-t11 : tie.Need-cast-t11
-cast-t11 c = search needs
-
 no-plan-requires : tie.Need-no-plan-requires
 no-plan-requires c κs = search needs
 
 enum-known-k-2 : tie.Need-enum-known-k-2
 enum-known-k-2 c = search needs
-
-cast-t13 : tie.Need-cast-t13
-cast-t13 c = search needs
 
 no-plan-requires-2 : tie.Need-no-plan-requires-2
 no-plan-requires-2 c κs = search needs
@@ -52,9 +46,6 @@ first-sequence-requires c κs = search needs
 enum-known-k-3 : tie.Need-enum-known-k-3
 enum-known-k-3 c = search needs
 
-cast-t18 : tie.Need-cast-t18
-cast-t18 c = search needs
-
 no-plan-requires-3 : tie.Need-no-plan-requires-3
 no-plan-requires-3 c κs = search needs
 
@@ -64,7 +55,7 @@ enum-known-obu c = search needs
 plan-header-requires : tie.Need-plan-header-requires
 plan-header-requires c κs =
     let f = c .before .before .before in
-    (omega (arith, sound (f .before .before) .some-there), found-type _ _ (sym (ap (foundSays (now (f .before .key-of .result))) (c .before .obu .given .1)) ∙ f .first-sequence .ensures))
+    (omega (arith, sound (f .before .before) .some-there), found-type _ _ (sym (ap (headerFound (now (f .before .key-of .result))) (c .before .obu .given .1)) ∙ f .first-sequence .ensures))
 
 returns : tie.Need-returns
 returns c =
@@ -92,7 +83,7 @@ returns-3 c =
     let set = a .settings in
     let f = c .before .before .before .before in
     none-planned-in s rs _ _ _ (c .no-plan3 .ensures)
-    ∙ plan-unfound s rs set (fit (f .before .before)) _ (sym (ap (foundSays (now (f .before .key-of .result))) (c .before .before .k3 .given .1)) ∙ f .first-sequence .ensures ∙ ap firstSequence (f .before .key-of .ensures))
+    ∙ plan-unfound s rs set (fit (f .before .before)) _ (sym (ap (headerFound (now (f .before .key-of .result))) (c .before .before .k3 .given .1)) ∙ f .first-sequence .ensures ∙ ap firstSequence (f .before .key-of .ensures))
 
 returns-4 : tie.Need-returns-4
 returns-4 c =
@@ -111,16 +102,13 @@ plan-multi-spec =
     (tie.spec
     check-input-requires
     enum-known-k
-    cast-t11
     no-plan-requires
     enum-known-k-2
-    cast-t13
     no-plan-requires-2
     enum-told
     key-of-requires
     first-sequence-requires
     enum-known-k-3
-    cast-t18
     no-plan-requires-3
     enum-known-obu
     plan-header-requires

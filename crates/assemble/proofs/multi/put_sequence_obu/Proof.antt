@@ -10,8 +10,8 @@ use Rattle.obu.specs.Obu.{obuBytes}
 use Rattle.obu.specs.Place.{extensionSays}
 use Rattle.obu.specs.Write.{obuLength, obu}
 use Rattle.assemble.proofs.MultiLaws.{one-passes, header-is-new, header-is-own, length-new, length-own}
-use Rattle.assemble.proofs.multi.put_header.Statement.{statement}
-use Rattle.assemble.proofs.multi.put_header.Tie as tie
+use Rattle.assemble.proofs.multi.put_sequence_obu.Statement.{statement}
+use Rattle.assemble.proofs.multi.put_sequence_obu.Tie as tie
 
 put-measured-requires : tie.Need-put-measured-requires
 put-measured-requires c κs =
@@ -49,8 +49,8 @@ returns-2 c =
     ∙ ap (λ (l : List ℕ). pasted (now (a .out)) 0 (obuBytes (obu 1 (extensionSays (a .basis .extension)) l))) (m .before .own-payload .ensures)
     ∙ ap (pasted (now (a .out)) 0) (sym (header-is-own (now (a .picture)) (now (a .segments)) (now (a .new)) (a .basis) (m .before .before .before .if1 .left)))
 
-pub put-header-spec : {M : Type 1} → statement M
-put-header-spec =
+pub put-sequence-obu-spec : {M : Type 1} → statement M
+put-sequence-obu-spec =
     tie.close
     (tie.spec
     put-measured-requires
