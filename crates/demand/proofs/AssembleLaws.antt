@@ -24,7 +24,8 @@ use Rattle.frame.specs.declared.frame_header.FrameInfo.{FrameInfo}
 use Rattle.frame.specs.declared.frame_header.FrameHeaderInfo.{FrameHeaderInfo}
 use Rattle.frame.specs.declared.frame_header.FrameHeaderInfo.the-variants.{Existing, Frame}
 use Rattle.blocks.specs.Blocks.{total}
-use Rattle.pictures.specs.Segments.{Segment, framesOf, segmentAt, segmentsFrom, segmentsOf}
+use Rattle.blocks.specs.Numbers.{headInside, rest, segmentCount, isWhole}
+use Rattle.pictures.specs.Segments.{Segment, framesOf, segmentIn, segmentAt, segmentsFrom, segmentsOf}
 use Rattle.pictures.specs.Prepare.{isSequence, timedSequence, effective, renewal, sent, keyOk, goldenFlags, slotOf, Prepared, prepare}
 use Rattle.pictures.specs.declared.settings.Settings.{Settings}
 use Rattle.pictures.specs.Assemble.{Outcome, stopped, made, andAlso, inSegment, overall, noneEmpty, sizes, sameBytes, sameHeader, sameHeaders, headerObu, prepareAll, Output, outputOf, Room, fits, assembled, assemble}
@@ -114,17 +115,13 @@ pub record Paired (q : Sequence) (new : Option (List ℕ)) (s : List ℕ) (x : S
 
 -- a unit's first frame, where it has but one
 first-reads : (q : Sequence) (s u : List ℕ) (x : FrameHeaderInfo) (w : Premise s u) → unitFrame false q u ≡ accepted x → parseFrame q (firstPayload isFrame (w .held)) ≡ accepted x
-unfolding unitFrame framePayload
-first-reads q s u x w e =
-    link _ _ x e (λ os a e. link _ _ x e (λ o b e.
-    let z : os ≡ w .held = cc (w .written .reads) in
-    let f = first-is 28 isFrame os o b in
-    rw (← z, f .payload) e))
+unfolding unitFrame andNext
+first-reads q s u x w e = rw (w .written .reads, sole-is false (w .held) (w .single)) at e
 
 -- is its frame
 frame-is : (q : Sequence) (s u : List ℕ) (x : FrameHeaderInfo) (w : Premise s u) → parseFrame q (firstPayload isFrame (w .held)) ≡ accepted x → unitFrame true q u ≡ accepted x
 unfolding unitFrame andNext
-frame-is q s u x w e = rw (w .written .reads, sole-is (w .held) (w .single), e)
+frame-is q s u x w e = rw (w .written .reads, sole-is true (w .held) (w .single), e)
 
 out-says : (q : Sequence) (s t u v : List ℕ) (x : FrameHeaderInfo) (w : Premise s u) → Out t (w .held) v → unitFrame false q u ≡ accepted x → Says q t v x
 out-says q s t u v x w o e = record { unit = o .unit; reads = rw (o .frame) (first-reads q s u x w e) }
@@ -311,13 +308,10 @@ Within n x = (length (x .key) ≤ n) × (length (x .golden) ≤ n)
 
 segment-short : (s rs : List ℕ) (x : Segment) → segmentAt s rs ≡ accepted x → Within (length s) x
 unfolding segmentAt
-segment-short s rs x e = go (inside s (getD rs 0 0) (getD rs 1 0) && inside s (getD rs 2 0) (getD rs 3 0)) e
+segment-short s rs x e = go (headInside s rs) e
   where
-    go : (t : Bool) → pick t (accepted (record { key = part s (getD rs 0 0) (getD rs 1 0); golden = part s (getD rs 2 0) (getD rs 3 0); frames = getD rs 4 0 })) (refused 36) ≡ accepted x
-        → Within (length s) x
-    go true e =
-        let z : record { key = part s (getD rs 0 0) (getD rs 1 0); golden = part s (getD rs 2 0) (getD rs 3 0); frames = getD rs 4 0 } ≡ x = cc in
-        rw (← z) (part-short s (getD rs 0 0) (getD rs 1 0), part-short s (getD rs 2 0) (getD rs 3 0))
+    go : (t : Bool) → pick t (accepted (segmentIn s rs)) (refused 36) ≡ accepted x → Within (length s) x
+    go true e = let z : segmentIn s rs ≡ x = cc in rw (← z) (part-short s _ _, part-short s _ _)
     go false e = let z : _≡_ {A = ℕ} 0 1 = cc in absurd (omega arith)
 
 onto-is : {A : Type 0} (a : A) (t : Answer (List A)) (l : List A) → onto a t ≡ accepted l → (m : List A) × (t ≡ accepted m) × (a ∷ m ≡ l)
@@ -329,15 +323,15 @@ unfolding segmentsFrom
 from-short s zero rs xs e = let z : [] ≡ xs = cc in rw (← z) nothing
 from-short s (suc k) rs xs e =
     link _ _ xs e (λ x e₁ e.
-    let (m, a, b) = onto-is x (segmentsFrom s k (drop 5 rs)) xs e in
-    rw (← b) (also {a = x} (segment-short s rs x e₁) (from-short s k (drop 5 rs) m a)))
+    let (m, a, b) = onto-is x (segmentsFrom s k (rest rs)) xs e in
+    rw (← b) (also {a = x} (segment-short s rs x e₁) (from-short s k (rest rs) m a)))
 
 segments-short : (s rs : List ℕ) (xs : List Segment) → segmentsOf s rs ≡ accepted xs → Every (Within (length s)) xs
 unfolding segmentsOf
-segments-short s rs xs e = go (eqb (length rs % 5) 0) e
+segments-short s rs xs e = go (isWhole rs) e
   where
-    go : (t : Bool) → pick t (segmentsFrom s (length rs / 5) rs) (refused 36) ≡ accepted xs → Every (Within (length s)) xs
-    go true e = from-short s (length rs / 5) rs xs e
+    go : (t : Bool) → pick t (segmentsFrom s (segmentCount rs) rs) (refused 36) ≡ accepted xs → Every (Within (length s)) xs
+    go true e = from-short s (segmentCount rs) rs xs e
     go false e = let z : _≡_ {A = ℕ} 0 1 = cc in absurd (omega arith)
 
 within-fits : (n : ℕ) → n ≤ limit → {xs : List Segment} → Every (Within n) xs → Every Fits xs

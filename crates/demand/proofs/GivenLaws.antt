@@ -7,6 +7,7 @@ use lib.ListN.{length, length-append}
 use borrow.Author.Tests.{le-leb}
 use Rattle.bitio.specs.Parse.{accepted, andNext}
 use Rattle.obu.specs.Place.{part}
+use Rattle.blocks.specs.Numbers.{width, recordOf}
 use Rattle.pictures.specs.Segments.{Segment, segmentAt, segmentsFrom, segmentsOf}
 use Rattle.demand.proofs.HandedLaws.{part-mid}
 
@@ -17,10 +18,10 @@ laid xs = flatMap (λ x. x .key ++ x .golden) xs
 unfoldable pub numbersFrom : ℕ → List Segment → List ℕ
 numbersFrom at [] = []
 numbersFrom at (x ∷ xs) =
-    at ∷ (at + length (x .key)) ∷ (at + length (x .key)) ∷ (at + length (x .key) + length (x .golden)) ∷ x .frames
-    ∷ numbersFrom (at + length (x .key) + length (x .golden)) xs
+    recordOf at (at + length (x .key)) (at + length (x .key)) (at + length (x .key) + length (x .golden)) (x .frames)
+    ++ numbersFrom (at + length (x .key) + length (x .golden)) xs
 
-length-numbers : (at : ℕ) (xs : List Segment) → length (numbersFrom at xs) ≡ 5 * length xs
+length-numbers : (at : ℕ) (xs : List Segment) → length (numbersFrom at xs) ≡ width * length xs
 unfolding numbersFrom
 length-numbers at [] = refl
 length-numbers at (x ∷ xs) = let n = length-numbers (at + length (x .key) + length (x .golden)) xs in omega arith
@@ -28,7 +29,7 @@ length-numbers at (x ∷ xs) = let n = length-numbers (at + length (x .key) + le
 -- one segment in the middle of the bytes
 segment-there : (f r : List ℕ) (x : Segment) (rest : List ℕ)
     → segmentAt (f ++ ((x .key ++ x .golden) ++ r))
-    (length f ∷ (length f + length (x .key)) ∷ (length f + length (x .key)) ∷ (length f + length (x .key) + length (x .golden)) ∷ x .frames ∷ rest)
+    (recordOf (length f) (length f + length (x .key)) (length f + length (x .key)) (length f + length (x .key) + length (x .golden)) (x .frames) ++ rest)
     ≡ accepted x
 unfolding segmentAt
 segment-there f r x rest =
@@ -64,6 +65,6 @@ pub given : (xs : List Segment) → segmentsOf (laid xs) (numbersFrom 0 xs) ≡ 
 unfolding segmentsOf
 given xs =
     let n = length-numbers 0 xs in
-    let a : length (numbersFrom 0 xs) % 5 ≡ 0 = omega arith in
-    let b : length (numbersFrom 0 xs) / 5 ≡ length xs = omega arith in
+    let a : length (numbersFrom 0 xs) % width ≡ 0 = omega arith in
+    let b : length (numbersFrom 0 xs) / width ≡ length xs = omega arith in
     rw (a, b) (given-from [] xs)

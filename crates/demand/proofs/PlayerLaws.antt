@@ -78,12 +78,13 @@ module _ (s : List ℕ) (q : Sequence) (read : parseSequence s ≡ accepted q) (
 -- ---- the outcome of a play
 
 -- the frame of a unit that has one
-pub sole-is : (os : List Obu) → count isFrame os ≡ 1 → framePayload true os ≡ accepted (firstPayload isFrame os)
+pub sole-is : (sole : Bool) (os : List Obu) → count isFrame os ≡ 1 → framePayload sole os ≡ accepted (firstPayload isFrame os)
 unfolding framePayload
-sole-is os e = rw e
+sole-is true os e = rw e
+sole-is false os e = rw e
 
 pub play-is : (st : State) (p : ℕ) (u : List ℕ) (os : List Obu) (q : Sequence) (x : FrameHeaderInfo) (r : Shown) → length u ≤ limit → obus u ≡ accepted os
     → keep (st .kept) os ≡ accepted (some q) → count isFrame os ≡ 1 → parseFrame q (firstPayload isFrame os) ≡ accepted x → act (st .slots) p x ≡ accepted r
     → play st p u ≡ accepted (record { shown = r .shown; state = record { slots = r .slots; kept = some q } })
 unfolding play andNext
-play-is st p u os q x r n a b c d e = rw (le-leb (length u) limit n, a, b, sole-is os c, d, e)
+play-is st p u os q x r n a b c d e = rw (le-leb (length u) limit n, a, b, sole-is true os c, d, e)

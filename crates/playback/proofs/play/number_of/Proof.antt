@@ -17,4 +17,5 @@ number-of-spec =
     (λ c. search needs)
     (λ c. search needs)
     (λ c. search needs)
+    (λ c. search needs)
     returns-3)
