@@ -171,9 +171,13 @@ pub fn put_shows(
     let count = segment_count(segments);
     let mut i: usize = 0;
     while i < count {
-        let key = key_of(picture, segments, i);
-        let golden = golden_of(picture, segments, i);
-        let slot = slot_or_zero(key, golden, header, points, rewriting);
+        let slot = slot_or_zero(
+            key_of(picture, segments, i),
+            golden_of(picture, segments, i),
+            header,
+            points,
+            rewriting,
+        );
         put_show(shows, 5 * i, slot);
         i = i + 1;
     }
