@@ -57,7 +57,8 @@ const ASSEMBLE: u64 = 0x6173_7365_6d62_6c65;
 
 const PLAY: u64 = 0x706c_6179;
 
-// The kinds of a request's fields and those that may follow any number of times, the same of its answer, and what it is lent.
+// The kinds of a request's fields, those that may follow them any number of times, the same two of its answer (see
+// protocol::kinds), and what it is lent (see Room::lent).
 struct Row(u64, u64, u64, u64, u64);
 
 // A name that is none asks for a field of no kind.
