@@ -86,16 +86,16 @@ fn row_of(key: u64) -> Row {
 }
 
 // A line, read.
-pub(crate) struct Request {
+pub struct Request {
     // there is a line to answer
-    pub(crate) is_line: bool,
+    pub is_line: bool,
     // and it is a request
-    pub(crate) is_good: bool,
-    pub(crate) key: u64,
-    pub(crate) fields: Fields,
+    pub is_good: bool,
+    pub key: u64,
+    pub fields: Fields,
     // how its answer is printed
-    pub(crate) format: Format,
-    pub(crate) lent: Lent,
+    pub format: Format,
+    pub lent: Lent,
 }
 
 // Its fields are read behind its name, which stands behind a prefix `room`.
@@ -126,7 +126,7 @@ fn read_line(line: &[u8], decoded: &mut [u8], ends: &mut [u32], numbers: &mut [u
 }
 
 // The same of what was kept of a line: of one that was too long, not all.
-pub(crate) fn read_request(
+pub fn read_request(
     input: Input,
     kept: &[u8],
     decoded: &mut [u8],
@@ -141,7 +141,7 @@ pub(crate) fn read_request(
 }
 
 // The answer of a request with byte strings s, their ends, and numbers, in memory that is lent exactly.
-pub(crate) fn operate(
+pub fn operate(
     key: u64,
     lent: Lent,
     s: &[u8],
