@@ -8,7 +8,7 @@ pub struct Input {
     to: usize,
     // the characters of the line so far; one more than there is room for where it is too long
     pub len: usize,
-    is_line: bool,
+    is_whole: bool,
     // the input has ended
     pub is_over: bool,
 }
@@ -18,7 +18,7 @@ pub fn start() -> Input {
         from: 0,
         to: 0,
         len: 0,
-        is_line: false,
+        is_whole: false,
         is_over: false,
     }
 }
@@ -57,7 +57,7 @@ fn take(piece: &[u8], line: &mut [u8], input: Input) -> Input {
         let c = piece[from];
         next.from = from + 1;
         if c == b'\n' {
-            next.is_line = true;
+            next.is_whole = true;
         } else {
             next.len = keep(line, input.len, c);
         }
@@ -77,9 +77,9 @@ fn advance(piece: &mut [u8], line: &mut [u8], input: Input) -> Input {
 pub fn read_line(piece: &mut Buffer, line: &mut Buffer, so_far: Input) -> Input {
     let mut input = so_far;
     input.len = 0;
-    input.is_line = false;
+    input.is_whole = false;
     let mut turns = u64::MAX;
-    while turns > 0 && !(input.is_line | input.is_over) {
+    while turns > 0 && !(input.is_whole | input.is_over) {
         input = advance(piece, line, input);
         turns -= 1;
     }

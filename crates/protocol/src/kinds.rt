@@ -1,5 +1,5 @@
-// Kinds of fields and of printed items, two hexadecimal digits each: what it is, and before that digit what stands before it
-// in the line. The kinds of a line are one number, the first kind lowest.
+// Kinds of fields and of printed items, two hexadecimal digits each. The low one says what it is, the high one what stands
+// before it: 0 a space, 1 a colon, 2 a comma. The kinds of a line are one number, the first kind lowest.
 
 // A byte string; of an answer its next part.
 pub const BYTES: u64 = 1;
@@ -26,9 +26,7 @@ pub const REFUSED: u64 = 8;
 // and an item whose kind stands among the numbers, before it.
 pub const TOLD: u64 = 9;
 
-// Stands before what, where a space does not.
-pub const COLON: u64 = 0x10;
-
+// Put to a kind: a comma stands before it.
 pub const COMMA: u64 = 0x20;
 
 // What stands before an item of the first of these kinds.

@@ -1,6 +1,4 @@
 // Answers the requests of the line protocol, one a line, from standard input to standard output.
-mod requests;
-
 use protocol::input;
 use protocol::input::Input;
 use protocol::input::read_line;
@@ -10,9 +8,9 @@ use protocol::output::flush;
 use protocol::output::least;
 use protocol::printer::bad_line;
 use protocol::printer::put_answer;
-use requests::Request;
-use requests::operate;
-use requests::read_request;
+use replay_requests::Request;
+use replay_requests::operate;
+use replay_requests::read_request;
 
 // An end for each of a line's byte strings.
 const FIELDS: usize = 32768;

@@ -1,4 +1,4 @@
--- `replay::lent::is_marked` meets its contract. The loop's invariant: what is left decides. The measure is what is left of the memory. Assumes nothing.
+-- `protocol::lent::is_marked` meets its contract. The loop's invariant: what is left decides. The measure is what is left of the memory. Assumes nothing.
 use mathlib.Core.Path.{_≡_, sym, _∙_}
 use Prim.Native.Nat.{_-_}
 use native.Mathlib.Omega.{arith}
@@ -15,22 +15,10 @@ Inv-loop memory from i₀ i = isMarked (drop from memory) ≡ isMarked (drop i m
 abbrev μ-loop : tie.MeasureT-loop
 μ-loop memory from i₀ i = length memory - i
 
-loop-holds : tie.Need-loop-holds Inv-loop μ-loop
-loop-holds c = search needs
-
-shared-slice-read-if1 : tie.Need-shared-slice-read-if1 Inv-loop μ-loop
-shared-slice-read-if1 c = search needs
-
 returns : tie.Need-returns Inv-loop μ-loop
 returns c =
     let l = c .before .before .before .loop in
     sym (l .inv ∙ marked-not _ (l .i) (omega arith) (c .if1 .taken))
-
-add-i : tie.Need-add-i Inv-loop μ-loop
-add-i c = search needs
-
-loop-less : tie.Need-loop-less Inv-loop μ-loop
-loop-less c = search needs
 
 loop-again : tie.Need-loop-again Inv-loop μ-loop
 loop-again c =
@@ -48,10 +36,10 @@ is-marked-spec =
     (tie.spec
     Inv-loop
     μ-loop
-    loop-holds
-    shared-slice-read-if1
+    (λ c. search needs)
+    (λ c. search needs)
     returns
-    add-i
-    loop-less
+    (λ c. search needs)
+    (λ c. search needs)
     loop-again
     returns-2)

@@ -1,4 +1,4 @@
--- `replay::lent::mark` meets its contract. The loop's invariant: i marks, and then the memory as it was. The measure is what is left of it. Assumes nothing.
+-- `protocol::lent::mark` meets its contract. The loop's invariant: i marks, and then the memory as it was. The measure is what is left of it. Assumes nothing.
 use mathlib.Core.Path.{_≡_, ap, _∙_}
 use mathlib.Core.List.{_++_, append-nil}
 use Prim.Native.Nat.{ℕ, _≤_, _-_}
@@ -16,15 +16,6 @@ Inv-loop memory₀ i₀ memory i = (i ≤ length memory₀) × (length memory �
 abbrev μ-loop : tie.MeasureT-loop
 μ-loop memory₀ i₀ memory i = length memory - i
 
-loop-holds : tie.Need-loop-holds Inv-loop μ-loop
-loop-holds c = search needs
-
-slice-write-memory : tie.Need-slice-write-memory Inv-loop μ-loop
-slice-write-memory c = search needs
-
-add-i : tie.Need-add-i Inv-loop μ-loop
-add-i c = search needs
-
 loop-less : tie.Need-loop-less Inv-loop μ-loop
 loop-less c = simp length-set (omega arith)
 
@@ -33,9 +24,6 @@ loop-again c =
     let l = c .before .loop in
     let d = now (c .before .before .args .memory) in
     (omega arith, simp length-set (l .inv .1), ap (λ m. set m (l .i) 0xa5) (l .inv .2) ∙ fill-more (l .i) 0xa5 d (omega arith))
-
-same-length : tie.Need-same-length Inv-loop μ-loop
-same-length c = search needs
 
 returns : tie.Need-returns Inv-loop μ-loop
 returns c =
@@ -50,10 +38,10 @@ mark-spec =
     (tie.spec
     Inv-loop
     μ-loop
-    loop-holds
-    slice-write-memory
-    add-i
+    (λ c. search needs)
+    (λ c. search needs)
+    (λ c. search needs)
     loop-less
     loop-again
-    same-length
+    (λ c. search needs)
     returns)

@@ -1,4 +1,4 @@
--- `replay::text::all_hex` meets its contract. The loop's invariant: what is left decides. The measure is what is left of the text. Assumes nothing.
+-- `protocol::text::all_hex` meets its contract. The loop's invariant: what is left decides. The measure is what is left of the text. Assumes nothing.
 use mathlib.Core.Path.{_≡_, sym, _∙_}
 use Prim.Native.Nat.{_≤_, _-_}
 use native.Mathlib.Omega.{arith}
@@ -15,25 +15,10 @@ Inv-loop text i₀ i = (i ≤ length text) × (allHex text ≡ allHex (drop i te
 abbrev μ-loop : tie.MeasureT-loop
 μ-loop text i₀ i = length text - i
 
-loop-holds : tie.Need-loop-holds Inv-loop μ-loop
-loop-holds c = search needs
-
-shared-slice-read-hex-value : tie.Need-shared-slice-read-hex-value Inv-loop μ-loop
-shared-slice-read-hex-value c = search needs
-
-hex-value-requires : tie.Need-hex-value-requires Inv-loop μ-loop
-hex-value-requires c κs = search needs
-
 returns : tie.Need-returns Inv-loop μ-loop
 returns c =
     let l = c .before .before .before .before .loop in
     sym (l .inv .1 ∙ all-bad _ (l .i) (omega arith) (omega arith))
-
-add-i : tie.Need-add-i Inv-loop μ-loop
-add-i c = search needs
-
-loop-less : tie.Need-loop-less Inv-loop μ-loop
-loop-less c = search needs
 
 loop-again : tie.Need-loop-again Inv-loop μ-loop
 loop-again c =
@@ -51,11 +36,11 @@ all-hex-spec =
     (tie.spec
     Inv-loop
     μ-loop
-    loop-holds
-    shared-slice-read-hex-value
-    hex-value-requires
+    (λ c. search needs)
+    (λ c. search needs)
+    (λ c κs. search needs)
     returns
-    add-i
-    loop-less
+    (λ c. search needs)
+    (λ c. search needs)
     loop-again
     returns-2)

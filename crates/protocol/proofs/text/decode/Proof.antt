@@ -1,4 +1,4 @@
--- `replay::text::decode` meets its contract: each way that it returns is a law of DecodeLaws. Assumes nothing.
+-- `protocol::text::decode` meets its contract: each way that it returns is a law of DecodeLaws. Assumes nothing.
 use mathlib.Core.Path.{sym, _∙_}
 use Prim.Native.Nat.{_/_}
 use native.Mathlib.Omega.{arith}
@@ -24,9 +24,6 @@ returns-2 c =
     let s = now (a .text) in
     comes-none (now (a .out)) (a .at) (byteString s) (string-none s (c .if2 .taken))
 
-shared-slice-read-if4 : tie.Need-shared-slice-read-if4
-shared-slice-read-if4 c = search needs
-
 returns-3 : tie.Need-returns-3
 returns-3 c =
     let a = c .before .before .before .before .before .before .before .args in
@@ -44,9 +41,6 @@ returns-5 c =
     let a = c .before .before .before .before .before .before .args in
     let s = now (a .text) in
     comes-none (now (a .out)) (a .at) (byteString s) (string-pairs s (omega arith) ∙ pairs-odd s (c .if5 .taken))
-
-all-hex-requires : tie.Need-all-hex-requires
-all-hex-requires c κs = search needs
 
 returns-6 : tie.Need-returns-6
 returns-6 c =
@@ -66,12 +60,6 @@ returns-7 c =
 decode-hex-requires : tie.Need-decode-hex-requires
 decode-hex-requires c κs = (sym (c .before .before .before .all-hex .ensures) ∙ not-false _ (c .before .before .if6 .left), omega arith)
 
-add-t12 : tie.Need-add-t12
-add-t12 c = search needs
-
-same-length : tie.Need-same-length
-same-length c = search needs
-
 returns-8 : tie.Need-returns-8
 returns-8 c =
     let a = c .before .before .before .before .before .before .before .before .before .before .before .before .before .args in
@@ -88,14 +76,14 @@ decode-spec =
     (tie.spec
     returns
     returns-2
-    shared-slice-read-if4
+    (λ c. search needs)
     returns-3
     returns-4
     returns-5
-    all-hex-requires
+    (λ c κs. search needs)
     returns-6
     returns-7
     decode-hex-requires
-    add-t12
-    same-length
+    (λ c. search needs)
+    (λ c. search needs)
     returns-8)

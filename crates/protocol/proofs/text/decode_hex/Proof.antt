@@ -1,4 +1,4 @@
--- `replay::text::decode_hex` meets its contract. The loop's invariant: storing the bytes that are left makes what storing all of them would
+-- `protocol::text::decode_hex` meets its contract. The loop's invariant: storing the bytes that are left makes what storing all of them would
 -- have made. The measure is how many are left. Assumes nothing.
 use mathlib.Core.Path.{_≡_, refl, _∙_}
 use Prim.Native.Nat.{suc, _≤_, _-_, _+_, _*_}
@@ -23,31 +23,10 @@ abbrev μ-loop : tie.MeasureT-loop
 loop-holds : tie.Need-loop-holds Inv-loop μ-loop
 loop-holds c = (omega arith, refl, rw (add-zero (c .before .before .args .at)))
 
-mul-hex-value : tie.Need-mul-hex-value Inv-loop μ-loop
-mul-hex-value c = search needs
-
-shared-slice-read-hex-value : tie.Need-shared-slice-read-hex-value Inv-loop μ-loop
-shared-slice-read-hex-value c = search needs
-
-hex-value-requires : tie.Need-hex-value-requires Inv-loop μ-loop
-hex-value-requires c κs = search needs
-
 mul-out : tie.Need-mul-out Inv-loop μ-loop
 mul-out c =
     let a = c .before .before .before .before .before .before .args in
     omega (arith, all-at (now (a .text)) (2 * c .before .before .before .loop .i) (c .before .before .before .before .before .before .pre .0) (omega arith))
-
-mul-hex-value-2 : tie.Need-mul-hex-value-2 Inv-loop μ-loop
-mul-hex-value-2 c = search needs
-
-add-hex-value : tie.Need-add-hex-value Inv-loop μ-loop
-add-hex-value c = search needs
-
-shared-slice-read-hex-value-2 : tie.Need-shared-slice-read-hex-value-2 Inv-loop μ-loop
-shared-slice-read-hex-value-2 c = search needs
-
-hex-value-requires-2 : tie.Need-hex-value-requires-2 Inv-loop μ-loop
-hex-value-requires-2 c κs = search needs
 
 add-out : tie.Need-add-out Inv-loop μ-loop
 add-out c =
@@ -56,18 +35,6 @@ add-out c =
     let p = d .before .before .before .pre .0 in
     omega (arith, all-at s (2 * d .loop .i) p (omega arith), all-at s (2 * d .loop .i + 1) p (omega arith))
 
-add-out-2 : tie.Need-add-out-2 Inv-loop μ-loop
-add-out-2 c = search needs
-
-slice-write-out : tie.Need-slice-write-out Inv-loop μ-loop
-slice-write-out c = search needs
-
-add-i : tie.Need-add-i Inv-loop μ-loop
-add-i c = search needs
-
-loop-less : tie.Need-loop-less Inv-loop μ-loop
-loop-less c = search needs
-
 loop-again : tie.Need-loop-again Inv-loop μ-loop
 loop-again c =
     let d = c .before .before .before .before .before in
@@ -75,9 +42,6 @@ loop-again c =
     let l = d .loop in
     let e : a .at + (l .i + 1) ≡ suc (a .at + l .i) = omega arith in
     (omega arith, simp length-set (l .inv .1), rw (e, c .before .before .hex-value .ensures, c .hex-value2 .ensures) (rw (bytes-more (now (a .text)) (l .i) (omega arith)) at (l .inv .2)))
-
-same-length : tie.Need-same-length Inv-loop μ-loop
-same-length c = search needs
 
 returns : tie.Need-returns Inv-loop μ-loop
 returns c =
@@ -94,19 +58,19 @@ decode-hex-spec =
     Inv-loop
     μ-loop
     loop-holds
-    mul-hex-value
-    shared-slice-read-hex-value
-    hex-value-requires
+    (λ c. search needs)
+    (λ c. search needs)
+    (λ c κs. search needs)
     mul-out
-    mul-hex-value-2
-    add-hex-value
-    shared-slice-read-hex-value-2
-    hex-value-requires-2
+    (λ c. search needs)
+    (λ c. search needs)
+    (λ c. search needs)
+    (λ c κs. search needs)
     add-out
-    add-out-2
-    slice-write-out
-    add-i
-    loop-less
+    (λ c. search needs)
+    (λ c. search needs)
+    (λ c. search needs)
+    (λ c. search needs)
     loop-again
-    same-length
+    (λ c. search needs)
     returns)

@@ -1,4 +1,4 @@
--- `replay::text::encode_hex` meets its contract. The loop's invariant: storing the digits that are left makes what storing all of them would
+-- `protocol::text::encode_hex` meets its contract. The loop's invariant: storing the digits that are left makes what storing all of them would
 -- have made. The measure is how many bytes are left. Assumes nothing.
 use mathlib.Core.Path.{_≡_, _∙_}
 use Prim.Native.Nat.{suc, _≤_, _-_, _+_, _*_}
@@ -19,38 +19,11 @@ Inv-loop s out₀ i₀ out i = (i ≤ length s) × (length out ≡ length out₀
 abbrev μ-loop : tie.MeasureT-loop
 μ-loop s out₀ i₀ out i = length s - i
 
-loop-holds : tie.Need-loop-holds Inv-loop μ-loop
-loop-holds c = search needs
-
-shared-slice-read-b : tie.Need-shared-slice-read-b Inv-loop μ-loop
-shared-slice-read-b c = search needs
-
 hex-digit-requires : tie.Need-hex-digit-requires Inv-loop μ-loop
 hex-digit-requires c κs = omega (arith, c .shared-slice-known2 .given (c .before .before .loop .i))
 
-mul-out : tie.Need-mul-out Inv-loop μ-loop
-mul-out c = search needs
-
-slice-write-out : tie.Need-slice-write-out Inv-loop μ-loop
-slice-write-out c = search needs
-
-hex-digit-requires-2 : tie.Need-hex-digit-requires-2 Inv-loop μ-loop
-hex-digit-requires-2 c κs = search needs
-
-mul-out-2 : tie.Need-mul-out-2 Inv-loop μ-loop
-mul-out-2 c = search needs
-
-add-out : tie.Need-add-out Inv-loop μ-loop
-add-out c = search needs
-
 slice-write-out-2 : tie.Need-slice-write-out-2 Inv-loop μ-loop
 slice-write-out-2 c = simp length-set (omega arith)
-
-add-i : tie.Need-add-i Inv-loop μ-loop
-add-i c = search needs
-
-loop-less : tie.Need-loop-less Inv-loop μ-loop
-loop-less c = search needs
 
 loop-again : tie.Need-loop-again Inv-loop μ-loop
 loop-again c =
@@ -60,12 +33,6 @@ loop-again c =
     let e : 2 * l .i + 1 ≡ suc (2 * l .i) = omega arith in
     let f : 2 * (l .i + 1) ≡ suc (suc (2 * l .i)) = omega arith in
     (omega arith, simp length-set (l .inv .1), rw (f, e, c .before .hex-digit .ensures, c .hex-digit2 .ensures) (rw (text-more (now (a .s)) (l .i) (omega arith)) at (l .inv .2)))
-
-mul-result : tie.Need-mul-result Inv-loop μ-loop
-mul-result c = search needs
-
-same-length : tie.Need-same-length Inv-loop μ-loop
-same-length c = search needs
 
 returns : tie.Need-returns Inv-loop μ-loop
 returns c =
@@ -80,18 +47,18 @@ encode-hex-spec =
     (tie.spec
     Inv-loop
     μ-loop
-    loop-holds
-    shared-slice-read-b
+    (λ c. search needs)
+    (λ c. search needs)
     hex-digit-requires
-    mul-out
-    slice-write-out
-    hex-digit-requires-2
-    mul-out-2
-    add-out
+    (λ c. search needs)
+    (λ c. search needs)
+    (λ c κs. search needs)
+    (λ c. search needs)
+    (λ c. search needs)
     slice-write-out-2
-    add-i
-    loop-less
+    (λ c. search needs)
+    (λ c. search needs)
     loop-again
-    mul-result
-    same-length
+    (λ c. search needs)
+    (λ c. search needs)
     returns)

@@ -1,4 +1,4 @@
--- `replay::text::read_decimal` meets its contract. The loop's invariant: the digits that are left, after v, make the number. The measure is
+-- `protocol::text::read_decimal` meets its contract. The loop's invariant: the digits that are left, after v, make the number. The measure is
 -- how many are left. Assumes nothing.
 use mathlib.Core.Path.{_≡_, sym, _∙_}
 use Prim.Native.Nat.{_≤_, _<_, _-_, _^_}
@@ -22,9 +22,6 @@ returns c = sym (number-none _ (c .if1 .taken))
 loop-holds : tie.Need-loop-holds Inv-loop μ-loop
 loop-holds c = (omega arith, omega arith, number-some _ (omega arith))
 
-shared-slice-read-c : tie.Need-shared-slice-read-c Inv-loop μ-loop
-shared-slice-read-c c = search needs
-
 returns-2 : tie.Need-returns-2 Inv-loop μ-loop
 returns-2 c =
     let l = c .before .before .before .loop in
@@ -35,28 +32,10 @@ returns-3 c =
     let l = c .before .before .before .before .loop in
     sym (l .inv .2 ∙ number-high _ (l .v) (l .i) (omega arith) (c .if3 .taken))
 
-cast-d : tie.Need-cast-d Inv-loop μ-loop
-cast-d c = search needs
-
-sub-if4 : tie.Need-sub-if4 Inv-loop μ-loop
-sub-if4 c = search needs
-
 returns-4 : tie.Need-returns-4 Inv-loop μ-loop
 returns-4 c =
     let l = c .before .before .before .before .before .loop in
     sym (l .inv .2 ∙ number-past _ (l .v) (l .i) (omega arith) (omega arith) (omega arith) (omega arith))
-
-mul-v : tie.Need-mul-v Inv-loop μ-loop
-mul-v c = search needs
-
-add-v : tie.Need-add-v Inv-loop μ-loop
-add-v c = search needs
-
-add-i : tie.Need-add-i Inv-loop μ-loop
-add-i c = search needs
-
-loop-less : tie.Need-loop-less Inv-loop μ-loop
-loop-less c = search needs
 
 loop-again : tie.Need-loop-again Inv-loop μ-loop
 loop-again c =
@@ -76,15 +55,15 @@ read-decimal-spec =
     μ-loop
     returns
     loop-holds
-    shared-slice-read-c
+    (λ c. search needs)
     returns-2
     returns-3
-    cast-d
-    sub-if4
+    (λ c. search needs)
+    (λ c. search needs)
     returns-4
-    mul-v
-    add-v
-    add-i
-    loop-less
+    (λ c. search needs)
+    (λ c. search needs)
+    (λ c. search needs)
+    (λ c. search needs)
     loop-again
     returns-5)

@@ -17,23 +17,11 @@ Inv-loop line from stop i₀ i = (from ≤ i) × (i ≤ length line) × (i + len
 abbrev μ-loop : tie.MeasureT-loop
 μ-loop line from stop i₀ i = length line - i
 
-loop-holds : tie.Need-loop-holds Inv-loop μ-loop
-loop-holds c = search needs
-
-shared-slice-read-if1 : tie.Need-shared-slice-read-if1 Inv-loop μ-loop
-shared-slice-read-if1 c = search needs
-
 returns : tie.Need-returns Inv-loop μ-loop
 returns c =
     let l = c .before .before .before .loop in
     let e = word-stop (c .before .before .before .before .args .stop) (now (c .before .before .before .before .args .line)) (l .i) (omega arith) (c .if1 .taken) in
     ((l .inv .0, l .inv .1), omega (arith, l .inv .2, ap length e))
-
-add-i : tie.Need-add-i Inv-loop μ-loop
-add-i c = search needs
-
-loop-less : tie.Need-loop-less Inv-loop μ-loop
-loop-less c = search needs
 
 loop-again : tie.Need-loop-again Inv-loop μ-loop
 loop-again c =
@@ -53,10 +41,10 @@ word-end-spec =
     (tie.spec
     Inv-loop
     μ-loop
-    loop-holds
-    shared-slice-read-if1
+    (λ c. search needs)
+    (λ c. search needs)
     returns
-    add-i
-    loop-less
+    (λ c. search needs)
+    (λ c. search needs)
     loop-again
     returns-2)

@@ -1,4 +1,4 @@
--- `replay::text::word_key` meets its contract. The loop's invariant: the characters that are left, after the key so far, make the key, which has
+-- `protocol::text::word_key` meets its contract. The loop's invariant: the characters that are left, after the key so far, make the key, which has
 -- a byte for each character passed. The measure is how many are left. Assumes nothing.
 use mathlib.Core.Path.{_≡_, sym, _∙_}
 use Prim.Native.Nat.{_≤_, _<_, _-_, _*_, _^_}
@@ -26,9 +26,6 @@ loop-holds c = (omega arith, omega arith, omega arith, key-short _ (omega arith)
 mul-key : tie.Need-mul-key Inv-loop μ-loop
 mul-key c = omega (arith, pow-mono {i = 8 * c .before .loop .i} {j = 56} (omega arith))
 
-shared-slice-read-key : tie.Need-shared-slice-read-key Inv-loop μ-loop
-shared-slice-read-key c = search needs
-
 cast-key : tie.Need-cast-key Inv-loop μ-loop
 cast-key c = omega (arith, c .shared-slice-known .given (c .before .before .loop .i))
 
@@ -36,12 +33,6 @@ add-key : tie.Need-add-key Inv-loop μ-loop
 add-key c =
     let i = c .before .before .loop .i in
     omega (arith, c .shared-slice-known .given i, pow-mono {i = 8 * i} {j = 56} (omega arith))
-
-add-i : tie.Need-add-i Inv-loop μ-loop
-add-i c = search needs
-
-loop-less : tie.Need-loop-less Inv-loop μ-loop
-loop-less c = search needs
 
 loop-again : tie.Need-loop-again Inv-loop μ-loop
 loop-again c =
@@ -62,10 +53,10 @@ word-key-spec =
     returns
     loop-holds
     mul-key
-    shared-slice-read-key
+    (λ c. search needs)
     cast-key
     add-key
-    add-i
-    loop-less
+    (λ c. search needs)
+    (λ c. search needs)
     loop-again
     returns-2)

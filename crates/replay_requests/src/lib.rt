@@ -57,7 +57,8 @@ const ASSEMBLE: u64 = 0x6173_7365_6d62_6c65;
 
 const PLAY: u64 = 0x706c_6179;
 
-// The kinds of a request's fields and those that may follow any number of times, the same of its answer, and what it is lent.
+// The kinds of a request's fields, those that may follow them any number of times, the same two of its answer (see
+// protocol::kinds), and what it is lent (see Room::lent).
 struct Row(u64, u64, u64, u64, u64);
 
 // A name that is none asks for a field of no kind.
@@ -85,16 +86,16 @@ fn row_of(key: u64) -> Row {
 }
 
 // A line, read.
-pub(crate) struct Request {
+pub struct Request {
     // there is a line to answer
-    pub(crate) is_line: bool,
+    pub is_line: bool,
     // and it is a request
-    pub(crate) is_good: bool,
-    pub(crate) key: u64,
-    pub(crate) fields: Fields,
+    pub is_good: bool,
+    pub key: u64,
+    pub fields: Fields,
     // how its answer is printed
-    pub(crate) format: Format,
-    pub(crate) lent: Lent,
+    pub format: Format,
+    pub lent: Lent,
 }
 
 // Its fields are read behind its name, which stands behind a prefix `room`.
@@ -125,7 +126,7 @@ fn read_line(line: &[u8], decoded: &mut [u8], ends: &mut [u32], numbers: &mut [u
 }
 
 // The same of what was kept of a line: of one that was too long, not all.
-pub(crate) fn read_request(
+pub fn read_request(
     input: Input,
     kept: &[u8],
     decoded: &mut [u8],
@@ -140,7 +141,7 @@ pub(crate) fn read_request(
 }
 
 // The answer of a request with byte strings s, their ends, and numbers, in memory that is lent exactly.
-pub(crate) fn operate(
+pub fn operate(
     key: u64,
     lent: Lent,
     s: &[u8],
