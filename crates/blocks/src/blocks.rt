@@ -10,16 +10,7 @@ ghost use Rattle.blocks.specs.Numbers.{framesIn};
 ghost use Rattle.blocks.specs.Lay.{entriesOf, cuesFrom, blockCue, CanLay, Laid, CanLayAll};
 use crate::numbers::frames_of;
 use crate::numbers::segment_count;
-
-// The lesser of two numbers.
-fn least(a: usize, b: usize) -> usize
-    ensures { λ r. ⌜ r ≡ min a b ⌝ }
-{
-    if a <= b {
-        return a;
-    }
-    b
-}
+use bitio::numbers::least;
 
 // Where a segment stands: its frames left, and whether it has had a golden.
 struct Standing {

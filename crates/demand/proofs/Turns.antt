@@ -43,7 +43,7 @@ use Rattle.demand.proofs.AssembleLaws.{Says, Paired, matches-length, ma
 -- what a unit's bytes say
 says-frame : {q : Sequence} {s u : List ℕ} {x : FrameHeaderInfo} → Says q s u x → unitFrame true q u ≡ accepted x
 unfolding unitFrame andNext
-says-frame w = rw (w .unit .written .reads, sole-is (w .unit .held) (w .unit .single), w .reads)
+says-frame w = rw (w .unit .written .reads, sole-is true (w .unit .held) (w .unit .single), w .reads)
 
 module _ {q : Sequence} {new : Option (List ℕ)} {s : List ℕ} {x : Segment} {b : Prepared} (ok : Paired q new s x b) where
   flags-small : ok .info .«refresh_frame_flags» < 256

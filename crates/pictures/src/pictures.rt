@@ -14,7 +14,7 @@ use crate::frames::GoldenSlot;
 use crate::frames::golden_slot;
 use crate::rewrite::put_sent;
 use crate::rewrite::sent_len;
-use crate::sizes::plus;
+use bitio::numbers::plus;
 use blocks::numbers::golden_of;
 use blocks::numbers::key_of;
 use blocks::numbers::segment_count;
@@ -44,7 +44,7 @@ fn measure_units(
         GoldenSlot::Lowest(_) => {
             let keys = sent_len(key, new, rewriting);
             let goldens = sent_len(golden, new, rewriting);
-            Measured::Bytes(plus(keys as u64, goldens as u64) as usize)
+            Measured::Bytes(plus(keys, goldens))
         }
     }
 }
@@ -62,7 +62,7 @@ pub fn measure_pictures(
 {
     let count = segment_count(segments);
     let mut i: usize = 0;
-    let mut sum: u64 = 0;
+    let mut sum: usize = 0;
     while i < count {
         let key = key_of(picture, segments, i);
         let golden = golden_of(picture, segments, i);
@@ -70,10 +70,10 @@ pub fn measure_pictures(
         let Measured::Bytes(n) = units else {
             return units;
         };
-        sum = plus(sum, n as u64);
+        sum = plus(sum, n);
         i = i + 1;
     }
-    Measured::Bytes(sum as usize)
+    Measured::Bytes(sum)
 }
 
 // Writes the units of segment i as they go out, and where they end; returns the place behind them.

@@ -9,7 +9,7 @@ ghost use Rattle.obu.specs.Obu.{passes, obuBytes};
 ghost use Rattle.pictures.specs.Prepare.{renewed};
 ghost use Rattle.pictures.specs.Code.{readable, sentBytes, capped};
 ghost use Rattle.pictures.specs.Rewrite.{obuIn, rewritten};
-use crate::sizes::plus;
+use bitio::numbers::plus;
 use obu::reader::Obu;
 use obu::reader::ObuAt;
 use obu::reader::obu_at;
@@ -43,7 +43,7 @@ fn rewritten_len(unit: &[u8], new: &[u8]) -> usize
         let ObuAt::Found(o) = obu_at(unit, at) else {
             return 0;
         };
-        n = plus(n as u64, renewed_len(unit, new, o) as u64) as usize;
+        n = plus(n, renewed_len(unit, new, o));
         at = o.end;
     }
     n

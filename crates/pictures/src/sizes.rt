@@ -4,6 +4,7 @@ ghost use Prim.Native.Nat.{_+_, min};
 ghost use Rattle.blocks.specs.Blocks.{total};
 ghost use Rattle.blocks.specs.Numbers.{framesIn};
 ghost use Rattle.pictures.specs.Sizes.{checkedSays, sized, filledFirst, ranged};
+use bitio::numbers::plus;
 use blocks::numbers::frames_of;
 use blocks::numbers::is_whole;
 use blocks::numbers::is_within;
@@ -17,28 +18,18 @@ pub enum Checked {
     RefusedIn(u32, usize),
 }
 
-// The sum, or the greatest number where it is more.
-pub fn plus(a: u64, b: u64) -> u64
-    ensures { λ r. ⌜ r ≡ min (a + b) 18446744073709551615 ⌝ }
-{
-    if a > 18446744073709551615 - b {
-        return 18446744073709551615;
-    }
-    a + b
-}
-
 // The frames ordered, saturating.
 pub fn total_frames(segments: &[u64]) -> u64
     ensures { λ r. ⌜ r ≡ min (total (framesIn (now (segments .entry)))) 18446744073709551615 ⌝ }
 {
     let count = segment_count(segments);
     let mut i: usize = 0;
-    let mut sum: u64 = 0;
+    let mut sum: usize = 0;
     while i < count {
-        sum = plus(sum, frames_of(segments, i));
+        sum = plus(sum, frames_of(segments, i) as usize);
         i = i + 1;
     }
-    sum
+    sum as u64
 }
 
 // The first segment without frames; past all where there is none.

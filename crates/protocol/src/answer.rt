@@ -26,14 +26,10 @@ pub fn done() -> Answer {
     parts(0, 0)
 }
 
-pub fn refused(number: u64) -> Answer {
+pub fn refused(number: u32) -> Answer {
     let mut answer = done();
-    answer.refusal = number;
+    answer.refusal = number as u64;
     answer
-}
-
-pub fn refused_32(number: u32) -> Answer {
-    refused(number as u64)
 }
 
 impl Answer {

@@ -1,9 +1,9 @@
 // Answers as text, in a buffer that is written out whenever it is full. Each function takes the
 // place where its text goes and returns the place behind it.
-ghost use mathlib.Core.Path.{_≡_};
-ghost use Prim.Native.Nat.{_≤_, min};
+ghost use Prim.Native.Nat.{_≤_};
 ghost use lib.ListN.{length};
 use crate::text::encode_hex;
+use bitio::numbers::least;
 
 const SIZE: usize = 65536;
 
@@ -44,12 +44,6 @@ fn put_hex_part(out: &mut Buffer, at: usize, s: &[u8]) -> usize
     let mut digits = [0u8; 128];
     let n = encode_hex(s, &mut digits);
     put_text(out, at, &digits[0..n])
-}
-
-pub fn least(a: usize, b: usize) -> usize
-    ensures { λ r. ⌜ r ≡ min a b ⌝ }
-{
-    if a < b { a } else { b }
 }
 
 // Bytes in hexadecimal, `-` for none.

@@ -1,11 +1,11 @@
 // Answers the requests of the line protocol, one a line, from standard input to standard output.
+use bitio::numbers::least;
 use protocol::input;
 use protocol::input::Input;
 use protocol::input::read_line;
 use protocol::lent::mark_lent;
 use protocol::output::Buffer;
 use protocol::output::flush;
-use protocol::output::least;
 use protocol::printer::bad_line;
 use protocol::printer::put_answer;
 use replay_requests::Request;

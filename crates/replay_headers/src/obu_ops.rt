@@ -12,7 +12,6 @@ use protocol::answer::Answer;
 use protocol::answer::done;
 use protocol::answer::parts;
 use protocol::answer::refused;
-use protocol::answer::refused_32;
 use protocol::kinds::NO_BYTE;
 
 fn extension_number(extension: Extension) -> u64 {
@@ -66,7 +65,7 @@ pub fn obus(s: &[u8], memory: &mut [u8], ends: &mut [u32], numbers: &mut [u64]) 
             let answer = done().number(n as u64, numbers);
             put_obus(s, memory, ends, numbers, Turn { answer, from: 0 })
         }
-        Counted::Refused(k) => refused_32(k),
+        Counted::Refused(k) => refused(k),
     }
 }
 

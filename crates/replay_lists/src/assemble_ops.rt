@@ -1,6 +1,11 @@
 // The operation of the crate assemble.
 use crate::assembled::put_assembled;
 use assemble::multi::assemble_multi;
+use bitio::numbers::least;
+use blocks::numbers::WIDTH;
+use blocks::numbers::put_record;
+use blocks::numbers::segment_count;
+use pictures::settings::Settings;
 use protocol::answer::Answer;
 use protocol::lent::BYTES_LENT;
 use protocol::lent::END_MARK;
@@ -9,42 +14,39 @@ use protocol::lent::Lent;
 use protocol::memory::end_of;
 use protocol::memory::number_at;
 use protocol::memory::start_of;
-use protocol::output::least;
 
-// Five numbers, or five show bytes, for each segment: no line has more of them than 10,923, six characters each.
-const NUMBERS: usize = 54615;
+// No line has more segments, six characters each.
+const SEGMENTS: usize = 10923;
 
-struct Settings {
-    gop_size: u64,
-    fps: u32,
-    fps_den: u32,
-}
+const NUMBERS: usize = WIDTH * SEGMENTS;
+
+const SHOWS: usize = 5 * SEGMENTS;
 
 // The first three of a request's numbers; behind them are the frames of each segment.
 fn settings_of(numbers: &[u64]) -> Settings {
     Settings {
-        gop_size: number_at(numbers, 0),
+        gop: number_at(numbers, 0),
         fps: (number_at(numbers, 1) % 0x1_0000_0000) as u32,
-        fps_den: (number_at(numbers, 2) % 0x1_0000_0000) as u32,
+        den: (number_at(numbers, 2) % 0x1_0000_0000) as u32,
     }
 }
 
-// Number j of the segments, whose units lie one behind the other: five each, as assembly takes them.
-fn number_of(ends: &[u32], numbers: &[u64], j: usize) -> u64 {
-    let i = j / 5;
-    match j % 5 {
-        0 => start_of(ends, 2 * i) as u64,
-        1 | 2 => end_of(ends, 2 * i) as u64,
-        3 => end_of(ends, 2 * i + 1) as u64,
-        _ => number_at(numbers, 3 + i),
-    }
-}
-
+// The record of each segment, whose units lie one behind the other.
 fn put_segments(ends: &[u32], numbers: &[u64], segments: &mut [u64]) {
-    let mut j: usize = 0;
-    while j < segments.len() {
-        segments[j] = number_of(ends, numbers, j);
-        j += 1;
+    let count = segment_count(segments);
+    let mut i: usize = 0;
+    while i < count {
+        let middle = end_of(ends, 2 * i) as u64;
+        put_record(
+            segments,
+            i,
+            start_of(ends, 2 * i) as u64,
+            middle,
+            middle,
+            end_of(ends, 2 * i + 1) as u64,
+            number_at(numbers, 3 + i),
+        );
+        i += 1;
     }
 }
 
@@ -61,16 +63,12 @@ fn assemble_into(
     numbers: &mut [u64],
 ) -> Answer {
     let mut ends = [END_MARK; ENDS_LENT];
-    let mut shows = [0xa5u8; NUMBERS];
+    let mut shows = [0xa5u8; SHOWS];
     let mut header = [0xa5u8; ENDS_LENT];
     let answer = assemble_multi(
         s,
         segments,
-        pictures::settings::Settings {
-            gop: settings.gop_size,
-            fps: settings.fps,
-            den: settings.fps_den,
-        },
+        settings,
         list,
         cues,
         pictures,
@@ -148,7 +146,7 @@ pub fn assemble(
     numbers: &mut [u64],
 ) -> Answer {
     let mut segments = [0u64; NUMBERS];
-    let len = 5 * least(ends.len() / 2, NUMBERS / 5);
+    let len = WIDTH * least(ends.len() / 2, SEGMENTS);
     assemble_with(
         lent,
         s,

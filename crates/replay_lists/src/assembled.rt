@@ -3,6 +3,7 @@ ghost use Prim.Native.Nat.{_≤_};
 use assemble::multi::Assembled;
 use assemble::multi::Counts;
 use assemble::unit::unit;
+use bitio::numbers::least;
 use protocol::answer::Answer;
 use protocol::answer::done;
 use protocol::answer::refused;
@@ -13,7 +14,6 @@ use protocol::lent::are_ends_marked;
 use protocol::lent::is_marked;
 use protocol::memory::range;
 use protocol::memory::wide;
-use protocol::output::least;
 
 // How much of each lent slice the answer accounts for.
 fn accounted(answer: Assembled) -> Counts {

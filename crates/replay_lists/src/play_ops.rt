@@ -16,7 +16,7 @@ fn put_shown(shown: Shown, so_far: Answer, numbers: &mut [u64]) -> Answer {
     match shown {
         Shown::Shown(position) => so_far.pair(NUMBER, position, numbers),
         Shown::Nothing => so_far.pair(OPTIONAL_BYTE, NO_BYTE, numbers),
-        Shown::Refused(k) => so_far.pair(REFUSED, k, numbers),
+        Shown::Refused(k) => so_far.pair(REFUSED, k as u64, numbers),
     }
 }
 

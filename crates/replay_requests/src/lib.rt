@@ -1,4 +1,5 @@
 // The requests: a row for each, and the operation that answers it.
+use bitio::numbers::least;
 use protocol::answer::Answer;
 use protocol::fields::Fields;
 use protocol::fields::read_fields;
@@ -8,7 +9,6 @@ use protocol::lent::Lent;
 use protocol::lent::room_prefix;
 use protocol::memory::number_at;
 use protocol::memory::part;
-use protocol::output::least;
 use protocol::text::word_end;
 use protocol::text::word_key;
 use replay_headers::bitio_ops;

@@ -10,19 +10,19 @@ use packets::packets::canonicalize_tu;
 use packets::packets::merge_frameless_packets;
 use protocol::answer::Answer;
 use protocol::answer::parts;
-use protocol::answer::refused_32;
+use protocol::answer::refused;
 
 fn of_split(answer: Split) -> Answer {
     match answer {
         Split::Units(n, u) => parts(n, u),
-        Split::Refused(k) => refused_32(k),
+        Split::Refused(k) => refused(k),
     }
 }
 
 fn of_joined(answer: Joined) -> Answer {
     match answer {
         Joined::Bytes(n) => parts(n, 0),
-        Joined::Refused(k) => refused_32(k),
+        Joined::Refused(k) => refused(k),
     }
 }
 
@@ -66,6 +66,6 @@ pub fn packets(
             answer.numbers = u;
             answer
         }
-        Merged::Refused(k) => refused_32(k),
+        Merged::Refused(k) => refused(k),
     }
 }
