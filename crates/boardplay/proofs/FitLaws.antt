@@ -5,6 +5,7 @@ use mathlib.Core.Path.{_≡_, ap, _∙_}
 use mathlib.Core.List.{List}
 use lib.ListN.{length}
 use Rattle.bitio.proofs.LentLaws.{pasted-length}
+use Rattle.blocks.specs.Numbers.{width}
 use Rattle.listing.specs.File.{read, pictureCount, numbersOf, readInto, numbersAfter}
 use Rattle.listing.specs.declared.file.Layout.{Layout}
 use Rattle.listing.proofs.FileLaws.{read-is}
@@ -12,7 +13,7 @@ use Rattle.listing.proofs.FileLaws.{read-is}
 pub record LayoutFits (l : Layout) (s numbers : List ℕ) : Type 0 where
   pub start-first : l .start ≤ l .end
   pub picture : l .end ≤ length s
-  pub numbers-there : 5 * l .segments ≤ length numbers
+  pub numbers-there : width * l .segments ≤ length numbers
 
 pub layout-fits : (s numbers : List ℕ) (l : Layout) (numbers′ : List ℕ) → read l ≡ readInto numbers s → numbers′ ≡ numbersAfter numbers s → LayoutFits l s numbers′
 layout-fits s numbers l numbers′ e w =

@@ -2,6 +2,7 @@
 mod cues;
 mod text;
 
+use blocks::numbers::WIDTH;
 use cues::play;
 use listing::file::FileAnswer;
 use listing::file::read_file;
@@ -20,7 +21,7 @@ fn main() {
         FileAnswer::Read(layout) => {
             let start = layout.start;
             let end = layout.end;
-            let count = 5 * layout.segments;
+            let count = WIDTH * layout.segments;
             play(&file[start..end], &numbers[0..count], layout, &mut text);
         }
         FileAnswer::Bad => {

@@ -41,7 +41,7 @@ fn put_cue(text: &mut [u8], at: usize, turn: usize, cue: u64) -> usize
     put_bytes(text, to, b"annexb\n")
 }
 
-// What a position shows, by playback's number for it: 0 for nothing, 2^64 - 1 - n for refusal n, and these end at 39.
+// What a position shows, by playback's number for it: 0 for nothing, 2^64 - 1 - n for refusal n, a u32.
 fn put_position(text: &mut [u8], at: usize, position: u64, number: u64) -> usize
     requires { ⌜ 64 ≤ length (now text) ⌝ }
 {
@@ -51,7 +51,7 @@ fn put_position(text: &mut [u8], at: usize, position: u64, number: u64) -> usize
         return put_bytes(text, to, b"shows nothing\n");
     }
     let refusal = 18446744073709551615 - number;
-    if refusal < 40 {
+    if refusal < 0x1_0000_0000 {
         return put_counted(text, to, b"refused ", refusal, b'\n');
     }
     put_counted(text, to, b"shows ", number, b'\n')

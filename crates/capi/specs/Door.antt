@@ -30,7 +30,7 @@ unitsOf (accepted x) d = x .units
 abbrev pub assembledCode : Outcome Counts → ℕ
 assembledCode (made c) = 0
 assembledCode (stopped k none) = k
-assembledCode (stopped k (some i)) = k % 4294967296 + (i % 4294967295 + 1) * 4294967296
+assembledCode (stopped k (some i)) = k + (i % 4294967295 + 1) * 4294967296
 
 -- the numbers lent to C, at one moment
 pub record Numbers : Type 0 where

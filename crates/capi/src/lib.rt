@@ -74,8 +74,8 @@ pub extern "C" fn magbelo_assemble(
         shows,
         header,
     ) {
-        Assembled::Refused(k) => k,
-        Assembled::RefusedIn(k, i) => k % 4294967296 + (i as u64 % 4294967295 + 1) * 4294967296,
+        Assembled::Refused(k) => k as u64,
+        Assembled::RefusedIn(k, i) => k as u64 + (i as u64 % 4294967295 + 1) * 4294967296,
         Assembled::Made(c) => {
             *units = c.units;
             *cue_count = c.cues;

@@ -187,26 +187,28 @@ pub fn put_listing<'a>(
 }
 
 // Writes that assembly refused, by document 01's number.
-pub fn put_refused(out: &mut [u8], number: u64) -> Put
+pub fn put_refused(out: &mut [u8], number: u32) -> Put
     ensures answer { λ r. ⌜ putSays r ≡ placed (now (out .entry)) 0 (refusedText number) ⌝ }
     ensures out { λ _. ⌜ now (out .exit) ≡ lent (now (out .entry)) 0 (refusedText number) ⌝ }
 {
-    if out.len() < decimal_len(number) + 9 {
+    let n = number as u64;
+    if out.len() < decimal_len(n) + 9 {
         return Put::Full;
     }
-    let to = put_counted(out, 0, b"refused ", number, b'\n');
+    let to = put_counted(out, 0, b"refused ", n, b'\n');
     Put::Next(to)
 }
 
 // The same, with the segment from 0.
-pub fn put_refused_in(out: &mut [u8], number: u64, segment: usize) -> Put
+pub fn put_refused_in(out: &mut [u8], number: u32, segment: usize) -> Put
     ensures answer { λ r. ⌜ putSays r ≡ placed (now (out .entry)) 0 (refusedInText number segment) ⌝ }
     ensures out { λ _. ⌜ now (out .exit) ≡ lent (now (out .entry)) 0 (refusedInText number segment) ⌝ }
 {
-    if out.len() < decimal_len(number) + decimal_len(segment as u64) + 18 {
+    let n = number as u64;
+    if out.len() < decimal_len(n) + decimal_len(segment as u64) + 18 {
         return Put::Full;
     }
-    let to = put_counted(out, 0, b"refused ", number, b' ');
+    let to = put_counted(out, 0, b"refused ", n, b' ');
     let to = put_counted(out, to, b"segment ", segment as u64, b'\n');
     Put::Next(to)
 }

@@ -42,8 +42,8 @@ module _ (l p e s : List ℕ) where
 
 -- us are all units, rest those not yet measured, n the bytes of the others
 pub record Measuring (us rest : List (List ℕ)) (n : ℕ) : Type 0 where
-  pub low : n ≤ 4000000001
-  pub sum : min (length (streamBytes us)) 4000000001 ≡ min (n + length (streamBytes rest)) 4000000001
+  pub low : n ≤ 18446744073709551615
+  pub sum : min (length (streamBytes us)) 18446744073709551615 ≡ min (n + length (streamBytes rest)) 18446744073709551615
 
 pub measuring-start : (us : List (List ℕ)) → Measuring us us 0
 measuring-start us = record { low = omega arith; sum = omega arith }
@@ -56,13 +56,13 @@ bytes-none : length (streamBytes []) ≡ 0
 unfolding streamBytes flat
 bytes-none = refl
 
-pub measuring-next : {us all rest : List (List ℕ)} {u v : List ℕ} {n m : ℕ} → Measuring us all n → all ≡ u ∷ rest → v ≡ u → m ≡ min (n + length v) 4000000001 → Measuring us rest m
+pub measuring-next : {us all rest : List (List ℕ)} {u v : List ℕ} {n m : ℕ} → Measuring us all n → all ≡ u ∷ rest → v ≡ u → m ≡ min (n + length v) 18446744073709551615 → Measuring us rest m
 measuring-next {rest = rest} {u} {v} z q w k =
     let a = ap (λ x. length (streamBytes x)) q ∙ bytes-length u rest in
     let b : length v ≡ length u = ap length w in
     record { low = omega (arith, k); sum = omega (arith, z .sum, a, b, k) }
 
-pub measuring-end : {us rest : List (List ℕ)} {n : ℕ} → Measuring us rest n → rest ≡ [] → n ≡ min (length (streamBytes us)) 4000000001
+pub measuring-end : {us rest : List (List ℕ)} {n : ℕ} → Measuring us rest n → rest ≡ [] → n ≡ min (length (streamBytes us)) 18446744073709551615
 measuring-end z q =
     let a = ap (λ x. length (streamBytes x)) q ∙ bytes-none in
     omega (arith, z .sum, z .low, a)
@@ -180,7 +180,7 @@ module _ (l p e s d m : List ℕ) where
   unfolding gathered
   gathered-is = refl
 
-  module _ {n : ℕ} (k : n ≡ min size 4000000001) where
+  module _ {n : ℕ} (k : n ≡ min size 18446744073709551615) where
     pub gather-full : ((ltb limit n || ltb (length d) n) || ltb (length m) (length l)) ≡ true → Tells (refused 35) d m
     gather-full t =
         let f : (leb size limit && (leb size (length d) && leb (length us) (length m))) ≡ false = go (leb size limit) (leb size (length d)) (leb (length us) (length m)) refl refl refl in

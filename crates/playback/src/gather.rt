@@ -1,6 +1,6 @@
 // The units of an assembled list, gathered one behind the other with the end of each, as the containers' writers take them.
 ghost use mathlib.Core.Path.{_≡_};
-ghost use Prim.Native.Nat.{_+_, _≤_, min};
+ghost use Prim.Native.Nat.{_≤_, min};
 ghost use lib.ListN.{length};
 ghost use Rattle.bitio.specs.Lent.{pasted};
 ghost use Rattle.container.specs.Stream.{streamBytes};
@@ -8,23 +8,14 @@ ghost use Rattle.container.specs.Units.{endsOf};
 ghost use Rattle.playback.specs.Lent.{store, Stores};
 ghost use Rattle.playback.specs.Gather.{listed, gathered, CanGather};
 use assemble::unit::unit;
+use bitio::limits::LIMIT;
+use bitio::numbers::plus;
 use container::units::Split;
 use obu::writer::put_bytes;
 
-// The sum, or one more than the limit where it is more.
-fn plus(a: usize, b: usize) -> usize
-    requires { ⌜ a ≤ 4000000001 ⌝ }
-    ensures { λ r. ⌜ r ≡ min (a + b) 4000000001 ⌝ }
-{
-    if b > 4_000_000_001 - a {
-        return 4_000_000_001;
-    }
-    a + b
-}
-
-// How many bytes the units have, or one more than the limit where they have more.
+// How many bytes the units have, as far as a usize counts them.
 fn measure<'a>(list: &[u32], pictures: &'a [u8], ends: &[u32], shows: &'a [u8]) -> usize
-    ensures { λ r. ⌜ r ≡ min (length (streamBytes (listed (now (list .entry)) (now (pictures .entry)) (now (ends .entry)) (now (shows .entry))))) 4000000001 ⌝ }
+    ensures { λ r. ⌜ r ≡ min (length (streamBytes (listed (now (list .entry)) (now (pictures .entry)) (now (ends .entry)) (now (shows .entry))))) 18446744073709551615 ⌝ }
 {
     let mut n: usize = 0;
     let mut i: usize = 0;
@@ -72,7 +63,7 @@ pub fn gather_units<'a>(
 {
     let count = list.len();
     let bytes = measure(list, pictures, ends, shows);
-    if (bytes > 4_000_000_000) | (bytes > units.len()) | (count > unit_ends.len()) {
+    if (bytes > LIMIT) | (bytes > units.len()) | (count > unit_ends.len()) {
         return Split::Refused(35);
     }
     put_units(units, unit_ends, list, pictures, ends, shows);

@@ -8,6 +8,7 @@ ghost use Rattle.container.specs.Units.{unitsAt, outAfter};
 ghost use Rattle.player.specs.Code.{playedBy};
 ghost use Rattle.playback.specs.Lent.{held, Fills};
 ghost use Rattle.playback.specs.Shown.{codeNumber, shownBy, playFrom, showsSay, unitIn, CanPlay};
+use bitio::limits::LIMIT;
 use container::lists::check_ends;
 use obu::reader::payload;
 use player::slots::Answer;
@@ -81,7 +82,7 @@ pub fn play_from(units: &[u8], unit_ends: &[u32], cue: usize, shown: &mut [u64])
 {
     let len = units.len();
     let count = unit_ends.len();
-    if len > 4_000_000_000 {
+    if len > LIMIT {
         return Shows::Refused(34);
     }
     if !check_ends(units, unit_ends) {

@@ -112,7 +112,9 @@ magbelo-assemble-spec =
     (tie.spec
     assemble-multi-requires
     enum-known-k
+    (λ c. search needs)
     enum-known-k-2
+    (λ c. search needs)
     add-result
     mul-result
     add-result-2

@@ -15,9 +15,6 @@ abbrev μ-loop : tie.MeasureT-loop
 loop-holds : tie.Need-loop-holds Inv-loop μ-loop
 loop-holds c = measuring-start _
 
-plus-requires : tie.Need-plus-requires Inv-loop μ-loop
-plus-requires c κs = c .before .before .before .loop .inv .low
-
 loop-again : tie.Need-loop-again Inv-loop μ-loop
 loop-again c =
     let u = c .before in
@@ -37,7 +34,7 @@ measure-spec =
     (λ c. search needs)
     (λ c. search needs)
     (λ c κs. search needs)
-    plus-requires
+    (λ c κs. search needs)
     (λ c. search needs)
     (λ c. search needs)
     loop-again

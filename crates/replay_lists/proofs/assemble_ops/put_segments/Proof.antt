@@ -1,5 +1,5 @@
--- `replay_lists::assemble_ops::put_segments` is safe and ends. The loop keeps the length of the segments; what is left of them shrinks. Assumes nothing.
 use borrow.Author.Needs.{needs}
+use native.Mathlib.Omega.{arith}
 use mathlib.Core.Path.{_≡_}
 use Prim.Native.Nat.{_-_}
 use lib.ListN.{length}
@@ -7,10 +7,10 @@ use Rattle.replay_lists.proofs.assemble_ops.put_segments.Statement.{sta
 use Rattle.replay_lists.proofs.assemble_ops.put_segments.Tie as tie
 
 abbrev Inv-loop : tie.InvT-loop
-Inv-loop ends numbers segments₀ j₀ segments j = length segments ≡ length segments₀
+Inv-loop ends numbers segments₀ count i₀ segments i = length segments ≡ length segments₀
 
 abbrev μ-loop : tie.MeasureT-loop
-μ-loop ends numbers segments₀ j₀ segments j = length segments₀ - j
+μ-loop ends numbers segments₀ count i₀ segments i = count - i
 
 pub put-segments-spec : {M : Type 1} → statement M
 put-segments-spec =
@@ -18,10 +18,18 @@ put-segments-spec =
     (tie.spec
     Inv-loop
     μ-loop
+    (λ c κs. search needs)
+    (λ c. search needs)
+    (λ c. search needs)
+    (λ c κs. search needs)
     (λ c. search needs)
     (λ c κs. search needs)
     (λ c. search needs)
     (λ c. search needs)
+    (λ c κs. search needs)
+    (λ c. search needs)
+    (λ c κs. search needs)
+    (λ c κs. search needs)
     (λ c. search needs)
     (λ c. search needs)
     (λ c. search needs)
