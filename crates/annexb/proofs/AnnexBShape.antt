@@ -1,4 +1,4 @@
--- What is read from Annex B is in written form. Assumes nothing.
+-- What is read from Annex B is in written form.
 use Prim.Native.Nat.{ℕ, _^_, _<_}
 use native.Mathlib.Omega.{arith}
 use mathlib.Core.Path.{_≡_}

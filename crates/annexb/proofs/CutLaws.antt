@@ -1,4 +1,4 @@
--- Laws of units in lent memory: cut from their bytes by their ends, one after the other. Assumes nothing.
+-- Laws of units in lent memory: cut from their bytes by their ends, one after the other.
 use Prim.Native.Nat.{ℕ, suc, _+_, _-_, _≤_, _<_}
 use native.Mathlib.Omega.{arith}
 use native.Mathlib.Numerals.{add-one}

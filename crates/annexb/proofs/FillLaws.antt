@@ -1,4 +1,4 @@
--- Laws of the writing pass of Annex B: what each of its loops has written. Assumes nothing.
+-- Laws of the writing pass of Annex B: what each of its loops has written.
 use Prim.Native.Nat.{ℕ, suc, _+_, _≤_, _<_}
 use native.Mathlib.Omega.{arith}
 use mathlib.Core.Path.{_≡_, refl, sym, ap, ap₂, _∙_}

@@ -1,4 +1,4 @@
--- Laws of units written to Annex B: what is counted, and what is written. Assumes nothing.
+-- Laws of units written to Annex B: what is counted, and what is written.
 use Prim.Native.Nat.{ℕ, _+_, _-_, _*_, _≤_, _<_}
 use native.Mathlib.Omega.{arith}
 use mathlib.Core.Path.{_≡_, refl, sym, ap, _∙_}

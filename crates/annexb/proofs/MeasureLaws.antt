@@ -1,4 +1,4 @@
--- Laws of the measuring pass of Annex B: what each of its three loops has behind it. Assumes nothing.
+-- Laws of the measuring pass of Annex B: what each of its three loops has behind it.
 use Prim.Native.Nat.{ℕ, _+_, _-_, _*_, _^_, _≤_, _<_, min}
 use native.Mathlib.Omega.{arith}
 use mathlib.Core.Path.{_≡_, refl, sym, ap, _∙_}

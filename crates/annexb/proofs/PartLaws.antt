@@ -1,4 +1,4 @@
--- Laws of the sized parts of Annex B by position: the outcomes of finding them, and what they say. Assumes nothing.
+-- Laws of the sized parts of Annex B by position: the outcomes of finding them, and what they say.
 use Prim.Native.Nat.{ℕ, _+_, _-_, _/_, _%_, _≤_, _<_}
 use native.Mathlib.Omega.{arith}
 use mathlib.Core.Path.{_≡_, refl, sym, ap, ap₂, _∙_}

@@ -1,4 +1,4 @@
--- Laws of parts of lent bytes by position, and of one thing after another in such a part. Assumes nothing.
+-- Laws of parts of lent bytes by position, and of one thing after another in such a part.
 use Prim.Native.Nat.{ℕ, zero, suc, _+_, _-_, _≤_, _<_}
 use native.Mathlib.Omega.{arith}
 use native.Mathlib.Numerals.{add-one}

@@ -1,4 +1,4 @@
--- What the writing pass of Annex B is given, and what it leaves. Assumes nothing.
+-- What the writing pass of Annex B is given, and what it leaves.
 use Prim.Native.Nat.{ℕ, _+_, _≤_}
 use mathlib.Core.Path.{_≡_}
 use mathlib.Core.List.{List, [], map}

@@ -1,4 +1,4 @@
--- What the passes that write Annex B are given, and what they count. Assumes nothing.
+-- What the passes that write Annex B are given, and what they count.
 use Prim.Native.Nat.{ℕ, _+_, _≤_}
 use mathlib.Core.Path.{_≡_}
 use mathlib.Core.List.{List}

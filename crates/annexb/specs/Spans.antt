@@ -1,4 +1,4 @@
--- Parts of lent bytes by position, as the functions of Annex B find them. Assumes nothing.
+-- Parts of lent bytes by position, as the functions of Annex B find them.
 use Prim.Native.Nat.{ℕ, _-_}
 use mathlib.Core.List.{List}
 use lib.ListN.{length, take, drop}

@@ -1,4 +1,4 @@
--- Laws of an answer with the lent slices: what a refusal leaves, and the same by another outcome. Assumes nothing.
+-- Laws of an answer with the lent slices: what a refusal leaves, and the same by another outcome.
 use Prim.Native.Nat.{ℕ}
 use mathlib.Core.Path.{_≡_, sym, ap, _∙_}
 use mathlib.Core.Option.{Option}

@@ -1,4 +1,4 @@
--- Laws of what is written: how much there is, that it fits, and that it is what assembly hands out. Assumes nothing.
+-- Laws of what is written: how much there is, that it fits, and that it is what assembly hands out.
 use Prim.Native.Nat.{ℕ, _+_, _-_, _≤_, _<_, min}
 use native.Mathlib.Omega.{arith}
 use mathlib.Core.Path.{_≡_, refl, sym, ap, _∙_}

@@ -1,4 +1,4 @@
--- Laws of the plan: for each way in which a stage ends, what it says. Assumes nothing.
+-- Laws of the plan: for each way in which a stage ends, what it says.
 use Prim.Native.Nat.{ℕ, _+_, _-_, _≤_, _<_}
 use native.Mathlib.Omega.{arith}
 use mathlib.Core.Path.{_≡_, refl, sym, ap, ap₂, _∙_}

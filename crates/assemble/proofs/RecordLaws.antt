@@ -1,4 +1,4 @@
--- Laws of segments as structs: their numbers copied one segment after the other, and assembly from the copy. Assumes nothing.
+-- Laws of segments as structs: their numbers copied one segment after the other, and assembly from the copy.
 use Prim.Native.Nat.{ℕ, _+_, _-_, _*_, _/_, _≤_, _<_}
 use native.Mathlib.Omega.{arith}
 use native.Mathlib.Numerals.{add-one}

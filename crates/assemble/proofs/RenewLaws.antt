@@ -1,4 +1,4 @@
--- Laws of the sequence header that replaces another: it can be emitted, and is short. Assumes nothing.
+-- Laws of the sequence header that replaces another: it can be emitted, and is short.
 use Prim.Native.Nat.{ℕ, _≤_, _<_}
 use native.Mathlib.Omega.{arith}
 use mathlib.Core.Path.{_≡_, refl, sym}

@@ -1,4 +1,4 @@
--- Laws of assembly's stages: together they are the whole, and what they tell of the sizes. Assumes nothing.
+-- Laws of assembly's stages: together they are the whole, and what they tell of the sizes.
 use Prim.Native.Nat.{ℕ, zero, suc, _+_, _-_, _≤_}
 use native.Mathlib.Omega.{arith}
 use mathlib.Core.Path.{_≡_, refl, sym, ap, subst, _∙_}

@@ -1,4 +1,4 @@
--- Laws of the whole of assembly: what is asked before it is written, and that the lent memory holds what is handed out. Assumes nothing.
+-- Laws of the whole of assembly: what is asked before it is written, and that the lent memory holds what is handed out.
 use Prim.Native.Nat.{ℕ, zero, suc, _*_, _≤_}
 use native.Mathlib.Omega.{arith}
 use mathlib.Core.Path.{_≡_, refl, sym, ap, _∙_}

@@ -1,4 +1,4 @@
--- Worked answers: 01's listing, a list of two segments that differ, and the sides. Assumes nothing.
+-- Worked answers: 01's listing, a list of two segments that differ, and the sides.
 use Prim.Native.Nat.{ℕ, _^_, _-_}
 use mathlib.Core.Path.{_≡_, refl}
 use mathlib.Core.List.{List, [], _∷_, _++_, map, flatMap}

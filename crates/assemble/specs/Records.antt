@@ -1,4 +1,4 @@
--- Segments as structs (01: a lent list of range records), and assembly from them by way of a lent slice of numbers. Assumes nothing.
+-- Segments as structs (01: a lent list of range records), and assembly from them by way of a lent slice of numbers.
 use Prim.Native.Nat.{ℕ, _/_}
 use mathlib.Core.List.{List, [], _∷_, _++_}
 use mathlib.Core.Bool.{Bool, cond as pick}

@@ -1,4 +1,4 @@
--- Assembly as the code decides it, stage by stage, before anything is written: each stage goes on to the end. Assumes nothing.
+-- Assembly as the code decides it, stage by stage, before anything is written: each stage goes on to the end.
 use Prim.Native.Nat.{ℕ, _+_, _*_}
 use mathlib.Core.Path.{_≡_}
 use mathlib.Core.List.{List}

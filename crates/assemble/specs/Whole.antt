@@ -1,4 +1,4 @@
--- The whole of assembly, answered: its counts, and its outcome into lent slices. Assumes nothing.
+-- The whole of assembly, answered: its counts, and its outcome into lent slices.
 use Prim.Native.Nat.{ℕ}
 use mathlib.Core.Path.{_≡_}
 use mathlib.Core.List.{List}

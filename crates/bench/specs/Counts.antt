@@ -1,4 +1,4 @@
--- An answer as one number for C: what was counted, or 0 after a refusal. Assumes nothing.
+-- An answer as one number for C: what was counted, or 0 after a refusal.
 use Prim.Native.Nat.{ℕ}
 use Rattle.bitio.specs.Parse.{Answer, refused, accepted}
 use Rattle.container.specs.Units.{Sizes}

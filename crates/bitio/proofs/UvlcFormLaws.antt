@@ -1,4 +1,4 @@
--- Laws of the form of uvlc: its width, and its bits. Assumes nothing.
+-- Laws of the form of uvlc: its width, and its bits.
 use mathlib.Core.Path.{_≡_, refl, ap, ap₂, _∙_}
 use Prim.Native.Nat.{ℕ, zero, suc, _+_, _-_, _*_, _/_, _^_, _<_, _≤_}
 use native.Mathlib.Omega.{arith}

@@ -1,4 +1,4 @@
--- Laws of blocks and of the list: as many units as frames, and the numbers of kinds. Assumes nothing.
+-- Laws of blocks and of the list: as many units as frames, and the numbers of kinds.
 use Prim.Native.Nat.{ℕ, zero, suc, _-_, _≤_, _<_, min}
 use native.Mathlib.Omega.{arith}
 use mathlib.Core.Path.{_≡_, refl, ap}

@@ -1,4 +1,4 @@
--- Laws of cues counted: as many as key units, wherever they stand. Assumes nothing.
+-- Laws of cues counted: as many as key units, wherever they stand.
 use Prim.Native.Nat.{ℕ, suc, _+_, _*_, _-_, _%_, _≤_, _<_}
 use native.Mathlib.Omega.{arith}
 use native.Mathlib.Numerals.{add-one}

@@ -1,4 +1,4 @@
--- Laws of the list and the cues laid out: what a block is, and what is left after a part of it. Assumes nothing.
+-- Laws of the list and the cues laid out: what a block is, and what is left after a part of it.
 use Prim.Native.Nat.{ℕ, zero, suc, _+_, _*_, _-_, _%_, _≤_, _<_, min}
 use native.Mathlib.Omega.{arith}
 use native.Mathlib.Numerals.{add-one}

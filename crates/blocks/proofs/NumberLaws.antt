@@ -1,4 +1,4 @@
--- Laws of the segments' records: one after the other, and by index. Assumes nothing.
+-- Laws of the segments' records: one after the other, and by index.
 use Prim.Native.Nat.{ℕ, zero, suc, _+_, _*_, _-_, _≤_, _<_}
 use native.Mathlib.Omega.{arith}
 use mathlib.Core.Path.{_≡_, refl, sym, ap, ap₂, _∙_}

@@ -1,4 +1,4 @@
--- The blocks of a segment, the unit list and the cue list (01, 'Unit list and cue list'). Assumes nothing.
+-- The blocks of a segment, the unit list and the cue list (01, 'Unit list and cue list').
 use Prim.Native.Nat.{ℕ, zero, suc, _+_, _*_, _-_, _%_, min}
 use mathlib.Core.List.{List, [], _∷_, _++_, map}
 use mathlib.Core.Bool.{Bool, false, not, cond as pick, _||_}

@@ -1,4 +1,4 @@
--- Lists and cues laid out in lent memory, from the flat numbers of the segments. Assumes nothing.
+-- Lists and cues laid out in lent memory, from the flat numbers of the segments.
 use Prim.Native.Nat.{ℕ, suc, _+_, _≤_, _<_}
 use mathlib.Core.Path.{_≡_}
 use mathlib.Core.List.{List, [], _∷_, map}

@@ -1,4 +1,4 @@
--- The flat numbers of the segments: what a segment's record holds, and in which order, is said here alone. Assumes nothing.
+-- The flat numbers of the segments: what a segment's record holds, and in which order, is said here alone.
 use Prim.Native.Nat.{ℕ, zero, suc, _*_, _-_, _/_, _%_}
 use mathlib.Core.List.{List, [], _∷_, map}
 use mathlib.Core.Bool.{Bool, _&&_}

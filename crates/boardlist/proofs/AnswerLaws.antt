@@ -1,4 +1,4 @@
--- Laws of what boardlist prints: from lent memory, from answers, from a file. Assumes nothing.
+-- Laws of what boardlist prints: from lent memory, from answers, from a file.
 use Prim.Native.Nat.{ℕ, _+_, _-_, _*_, _≤_}
 use native.Mathlib.Omega.{arith}
 use mathlib.Core.Path.{_≡_, refl, sym, ap, ap₂, _∙_}

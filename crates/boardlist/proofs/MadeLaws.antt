@@ -1,4 +1,4 @@
--- An accepted assembly has room in lent memory. Assumes nothing.
+-- An accepted assembly has room in lent memory.
 use Prim.Native.Nat.{ℕ, _+_, _≤_}
 use mathlib.Core.Path.{_≡_, refl}
 use mathlib.Core.List.{List}

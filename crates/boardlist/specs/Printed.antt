@@ -1,4 +1,4 @@
--- What boardlist prints for any bytes (01, 'Unit list and cue list'). Assumes nothing.
+-- What boardlist prints for any bytes (01, 'Unit list and cue list').
 use Prim.Native.Nat.{ℕ, _-_, _*_, _≤_}
 use mathlib.Core.List.{List}
 use mathlib.Core.Option.{none, some}

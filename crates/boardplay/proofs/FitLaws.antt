@@ -1,4 +1,4 @@
--- What a file's layout says lies within the file and within the numbers read. Assumes nothing.
+-- What a file's layout says lies within the file and within the numbers read.
 use Prim.Native.Nat.{ℕ, _+_, _*_, _≤_}
 use native.Mathlib.Omega.{arith}
 use mathlib.Core.Path.{_≡_, ap, _∙_}

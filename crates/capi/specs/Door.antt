@@ -1,4 +1,4 @@
--- An answer as numbers for C. Assumes nothing.
+-- An answer as numbers for C.
 use Prim.Native.Nat.{ℕ, _+_, _*_, _%_}
 use mathlib.Core.Path.{_≡_}
 use mathlib.Core.Option.{none, some}

@@ -1,4 +1,4 @@
--- The cases that 01 marks P, and a list of two different segments: a row is an answer that the definitions compute, and what 01 says it is. One table, one check. Assumes nothing.
+-- The cases that 01 marks P, and a list of two different segments: a row is an answer that the definitions compute, and what 01 says it is. One table, one check.
 use Prim.Native.Nat.{ℕ}
 use mathlib.Core.Path.{_≡_, refl}
 use mathlib.Core.List.{List, [], _∷_, _++_, flatMap}

@@ -1,4 +1,4 @@
--- Annex B gives back the units that were written to it. Assumes nothing.
+-- Annex B gives back the units that were written to it.
 use Prim.Native.Nat.{ℕ, zero, suc, _+_, _*_, _^_, _≤_, _<_}
 use native.Mathlib.Omega.{arith}
 use mathlib.Core.Path.{_≡_, refl, sym, ap, _∙_}

@@ -1,4 +1,4 @@
--- Units have no more bytes than all OBUs, and no more than one for each frame, or one. Assumes nothing.
+-- Units have no more bytes than all OBUs, and no more than one for each frame, or one.
 use Prim.Native.Nat.{ℕ, suc, _+_, _≤_}
 use native.Mathlib.Omega.{arith}
 use mathlib.Core.Path.{_≡_, refl, ap, _∙_}

@@ -1,4 +1,4 @@
--- Writing a list of units and reading it back, with 01's limits: the containers' part of demand 3. Assumes nothing.
+-- Writing a list of units and reading it back, with 01's limits: the containers' part of demand 3.
 use Prim.Native.Nat.{ℕ, zero, suc, _+_, _^_, _≤_, _<_}
 use native.Mathlib.Omega.{arith}
 use mathlib.Core.Path.{_≡_, refl, sym, ap, _∙_}

@@ -1,4 +1,4 @@
--- Laws of where units lie: the unit at the front of what is left. Assumes nothing.
+-- Laws of where units lie: the unit at the front of what is left.
 use Prim.Native.Nat.{ℕ, suc, _+_, _-_, _≤_, _<_}
 use native.Mathlib.Omega.{arith}
 use mathlib.Core.Path.{_≡_, refl, sym, ap, ap₂, _∙_}

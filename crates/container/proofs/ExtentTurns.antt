@@ -1,4 +1,4 @@
--- The turns of the loops that find where a unit lies, and what they find. Assumes nothing.
+-- The turns of the loops that find where a unit lies, and what they find.
 use Prim.Native.Nat.{ℕ, suc, _+_, _-_, _≤_, _<_}
 use native.Mathlib.Omega.{arith}
 use mathlib.Core.Path.{_≡_, refl, sym, ap, ap₂, _∙_}

@@ -1,4 +1,4 @@
--- Units in lent memory, written: the same as units in a list. Assumes nothing.
+-- Units in lent memory, written: the same as units in a list.
 use Prim.Native.Nat.{ℕ, _+_, _-_}
 use native.Mathlib.Omega.{arith}
 use mathlib.Core.Path.{_≡_, refl}

@@ -1,4 +1,4 @@
--- Laws of lists of units in lent memory, and of the stream written from them. Assumes nothing.
+-- Laws of lists of units in lent memory, and of the stream written from them.
 use Prim.Native.Nat.{ℕ, suc, _+_, _-_, _≤_, _<_}
 use native.Mathlib.Numerals.{add-one}
 use native.Mathlib.Omega.{arith}

@@ -1,4 +1,4 @@
--- Laws of OBUs from one position to another, measured and written. Assumes nothing.
+-- Laws of OBUs from one position to another, measured and written.
 use Prim.Native.Nat.{ℕ, zero, suc, _+_, _-_, _*_, _^_, _≤_, _<_}
 use native.Mathlib.Nat.{eq-or-lt-of-le}
 use native.Mathlib.Omega.{arith}

@@ -1,4 +1,4 @@
--- Units in written form come back from the stream and from Annex B, byte for byte. Assumes nothing.
+-- Units in written form come back from the stream and from Annex B, byte for byte.
 use Prim.Native.Nat.{ℕ, zero, suc, _+_, _^_, _≤_, _<_}
 use native.Mathlib.Omega.{arith}
 use mathlib.Core.Path.{_≡_, refl, sym, ap, ap₂, _∙_}

@@ -1,4 +1,4 @@
--- Laws of units: taken from the front, and given back as they were written. Assumes nothing.
+-- Laws of units: taken from the front, and given back as they were written.
 use Prim.Native.Nat.{ℕ, zero, suc, _+_, _^_, _≤_, _<_}
 use native.Mathlib.Omega.{arith}
 use mathlib.Core.Path.{_≡_, refl, sym, ap, ap₂, _∙_}

@@ -1,4 +1,4 @@
--- What the units of a stream are like: in written form, and again the units of their own bytes. Assumes nothing.
+-- What the units of a stream are like: in written form, and again the units of their own bytes.
 use Prim.Native.Nat.{ℕ, zero, suc, _+_, _^_, _≤_, _<_}
 use native.Mathlib.Omega.{arith}
 use mathlib.Core.Path.{_≡_, refl, sym, ap, subst, _∙_}

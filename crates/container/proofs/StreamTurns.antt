@@ -1,4 +1,4 @@
--- The turns of the loops over a stream's units, and what reading a stream comes to. Assumes nothing.
+-- The turns of the loops over a stream's units, and what reading a stream comes to.
 use Prim.Native.Nat.{ℕ, suc, _+_, _-_, _*_, _^_, _≤_, _<_}
 use native.Mathlib.Omega.{arith}
 use mathlib.Core.Path.{_≡_, refl, sym, ap, ap₂, _∙_}

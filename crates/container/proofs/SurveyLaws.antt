@@ -1,4 +1,4 @@
--- The turns of the loop that reads a stream through once. Assumes nothing.
+-- The turns of the loop that reads a stream through once.
 use Prim.Native.Nat.{ℕ, suc, _+_, _-_, _*_, _^_, _≤_, _<_}
 use native.Mathlib.Omega.{arith}
 use mathlib.Core.Path.{_≡_, refl, sym, ap, _∙_}

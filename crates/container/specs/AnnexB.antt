@@ -1,4 +1,4 @@
--- Units from and to Annex B (01, 'Units from and to Annex B'). Assumes nothing.
+-- Units from and to Annex B (01, 'Units from and to Annex B').
 use Prim.Native.Nat.{ℕ}
 use mathlib.Core.List.{List, [], _∷_, _++_, map, flatMap}
 use mathlib.Core.Option.{Option, none, some}

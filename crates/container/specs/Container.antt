@@ -1,4 +1,4 @@
--- The operations of both containers, with their limits: what the contracts and demand 3 speak of. Assumes nothing.
+-- The operations of both containers, with their limits: what the contracts and demand 3 speak of.
 use Prim.Native.Nat.{ℕ}
 use mathlib.Core.List.{List}
 use mathlib.Core.Bool.{cond as pick}

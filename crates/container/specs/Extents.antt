@@ -1,4 +1,4 @@
--- Where the units of a stream lie in its bytes. Assumes nothing.
+-- Where the units of a stream lie in its bytes.
 use Prim.Native.Nat.{ℕ, _+_, _-_, _≤_, _<_}
 use mathlib.Core.Path.{_≡_}
 use mathlib.Core.List.{List, [], _∷_, _++_}

@@ -1,4 +1,4 @@
--- Limits of input, output and lent room (01, 'Refusals by operation'). Assumes nothing.
+-- Limits of input, output and lent room (01, 'Refusals by operation').
 use Prim.Native.Nat.{ℕ}
 use mathlib.Core.List.{List}
 use mathlib.Core.Bool.{Bool, cond as pick, _&&_}

@@ -1,4 +1,4 @@
--- Whether a list of units in lent memory is one. Assumes nothing.
+-- Whether a list of units in lent memory is one.
 use mathlib.Core.Bool.{Bool, true, false}
 use Rattle.bitio.specs.Parse.{Answer, refused, accepted}
 

@@ -1,4 +1,4 @@
--- OBUs from one position of lent bytes to another, and what is written of them. Assumes nothing.
+-- OBUs from one position of lent bytes to another, and what is written of them.
 use Prim.Native.Nat.{ℕ, _+_, _≤_, _<_}
 use mathlib.Core.Path.{_≡_}
 use mathlib.Core.List.{List, [], _∷_}

@@ -1,4 +1,4 @@
--- Units from a stream (01, 'Units from a stream'). Assumes nothing.
+-- Units from a stream (01, 'Units from a stream').
 use Prim.Native.Nat.{ℕ}
 use mathlib.Core.List.{List, [], _∷_, _++_, map}
 use mathlib.Core.Bool.{Bool, true, false, cond as pick, _||_, _&&_}

@@ -1,4 +1,4 @@
--- A stream read through once, and whether its units have room. Assumes nothing.
+-- A stream read through once, and whether its units have room.
 use Prim.Native.Nat.{ℕ}
 use mathlib.Core.Path.{_≡_}
 use mathlib.Core.List.{List}

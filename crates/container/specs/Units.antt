@@ -1,4 +1,4 @@
--- Lists of units as lent memory has them: their bytes one behind the other, and the end of each. Assumes nothing.
+-- Lists of units as lent memory has them: their bytes one behind the other, and the end of each.
 use Prim.Native.Nat.{ℕ, _+_, _-_}
 use mathlib.Core.List.{List, [], _∷_}
 use mathlib.Core.Bool.{Bool, cond as pick, _&&_}

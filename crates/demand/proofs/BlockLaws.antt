@@ -1,4 +1,4 @@
--- Segments one behind the other are laid, whatever their blocks, and so are today's. Assumes nothing.
+-- Segments one behind the other are laid, whatever their blocks, and so are today's.
 use Prim.Native.Nat.{ℕ, zero, suc, _+_, _-_, _≤_, _<_, min}
 use native.Mathlib.Omega.{arith}
 use mathlib.Core.Path.{_≡_, refl, ap, subst, _∙_}

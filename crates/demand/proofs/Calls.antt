@@ -1,4 +1,4 @@
--- Calls of the running player, as its contract gives them, are a course; and what the running code hands out is what demand 3 has to be shown. Assumes nothing.
+-- Calls of the running player, as its contract gives them, are a course; and what the running code hands out is what demand 3 has to be shown.
 use Prim.Native.Nat.{ℕ, zero, suc, _+_, _-_, _≤_, _<_}
 use native.Mathlib.Omega.{arith}
 use mathlib.Core.Path.{_≡_, ap, subst, _∙_}

@@ -1,4 +1,4 @@
--- Demand 3: the whole way from the segments to the last unit played. specs/Demand.antt says what is claimed. Assumes nothing.
+-- Demand 3: the whole way from the segments to the last unit played. specs/Demand.antt says what is claimed.
 use Prim.Native.Nat.{ℕ, _-_, _≤_, _<_}
 use native.Mathlib.Omega.{arith}
 use mathlib.Core.Path.{_≡_, refl, sym, subst}

@@ -1,4 +1,4 @@
--- Any segments can be given to assembly: their units laid one behind the other, and their numbers. Assumes nothing.
+-- Any segments can be given to assembly: their units laid one behind the other, and their numbers.
 use Prim.Native.Nat.{ℕ, _+_, _*_, _/_, _%_}
 use native.Mathlib.Omega.{arith}
 use mathlib.Core.Path.{_≡_, refl, sym, ap, _∙_}

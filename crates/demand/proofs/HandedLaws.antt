@@ -1,4 +1,4 @@
--- The unit that a list entry names, in what is handed out, is its segment's own. Assumes nothing.
+-- The unit that a list entry names, in what is handed out, is its segment's own.
 use Prim.Native.Nat.{ℕ, zero, suc, _+_, _*_, _-_, _≤_, _<_}
 use native.Mathlib.Omega.{arith}
 use mathlib.Core.Path.{_≡_, sym}

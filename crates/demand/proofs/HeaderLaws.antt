@@ -1,4 +1,4 @@
--- What demand 3 rests on in the header's laws. Assumes nothing.
+-- What demand 3 rests on in the header's laws.
 use Prim.Native.Nat.{ℕ, _*_, _^_, _<_}
 use native.Mathlib.Omega.{arith}
 use mathlib.Core.Path.{_≡_, sym, ap, _∙_}

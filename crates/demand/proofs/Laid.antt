@@ -1,4 +1,4 @@
--- What demand 3 needs of a list's entries, whatever blocks they come from: `Laid`, and what follows from it. Assumes nothing.
+-- What demand 3 needs of a list's entries, whatever blocks they come from: `Laid`, and what follows from it.
 use Prim.Native.Nat.{ℕ, zero, suc, _+_, _-_, _≤_, _<_}
 use native.Mathlib.Omega.{arith}
 use mathlib.Core.Path.{_≡_, refl, sym, ap, subst, _∙_}

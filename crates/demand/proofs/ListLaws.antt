@@ -1,4 +1,4 @@
--- Laws of positions in a list, and of an entry's number. Assumes nothing.
+-- Laws of positions in a list, and of an entry's number.
 use Prim.Native.Nat.{ℕ, zero, suc, _+_, _-_, _/_, _%_, _≤_, _<_}
 use native.Mathlib.Omega.{arith}
 use mathlib.Core.Path.{_≡_, refl, _∙_}

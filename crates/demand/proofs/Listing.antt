@@ -1,4 +1,4 @@
--- Demand 3 spelt out for three lists: 01's own, and one of two segments that differ in every unit, whose headers come untimed or timed. Assumes nothing.
+-- Demand 3 spelt out for three lists: 01's own, and one of two segments that differ in every unit, whose headers come untimed or timed.
 use Prim.Native.Nat.{ℕ, zero, suc, _-_, _<_}
 use native.Mathlib.Omega.{arith}
 use mathlib.Core.Path.{_≡_, refl, sym, ap, subst, _∙_}

@@ -1,4 +1,4 @@
--- Laws of the player: the slots that a frame fills, the header that a unit leaves, and the outcome of an accepted play. Assumes nothing.
+-- Laws of the player: the slots that a frame fills, the header that a unit leaves, and the outcome of an accepted play.
 use Prim.Native.Nat.{ℕ, suc, _/_, _%_, _^_, _≤_, _<_}
 use native.Mathlib.Omega.{arith}
 use mathlib.Core.Path.{_≡_, refl, ap}

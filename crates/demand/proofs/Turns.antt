@@ -1,4 +1,4 @@
--- One turn of a course, and every course: the units of a list of whatever blocks, played from a cue on. Assumes nothing.
+-- One turn of a course, and every course: the units of a list of whatever blocks, played from a cue on.
 use Prim.Native.Nat.{ℕ, suc, _+_, _-_, _^_, _≤_, _<_}
 use native.Mathlib.Omega.{arith}
 use mathlib.Core.Path.{_≡_, refl, sym, ap, subst, _∙_}

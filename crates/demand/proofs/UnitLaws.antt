@@ -1,4 +1,4 @@
--- A unit of demand 3's kind, as it goes out: copied, or with its sequence headers replaced. Assumes nothing.
+-- A unit of demand 3's kind, as it goes out: copied, or with its sequence headers replaced.
 use Prim.Native.Nat.{ℕ, _^_, _<_}
 use native.Mathlib.Omega.{arith}
 use mathlib.Core.Path.{_≡_, refl, sym, _∙_}

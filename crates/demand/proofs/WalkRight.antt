@@ -1,4 +1,4 @@
--- What the running `walk` hands out is what demand 3 claims. Assumes nothing.
+-- What the running `walk` hands out is what demand 3 claims.
 use Prim.Native.Nat.{ℕ, _+_, _-_, _≤_}
 use native.Mathlib.Omega.{arith}
 use mathlib.Core.Path.{_≡_, sym, ap, subst, _∙_}

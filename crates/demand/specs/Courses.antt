@@ -1,4 +1,4 @@
--- Courses of events: units played one after the other, with refused ones anywhere between (01, 'What demand 3 speaks of', the last point). Assumes nothing.
+-- Courses of events: units played one after the other, with refused ones anywhere between (01, 'What demand 3 speaks of', the last point).
 use Prim.Native.Nat.{ℕ, suc}
 use mathlib.Core.Path.{_≡_}
 use mathlib.Core.List.{List, [], _∷_}

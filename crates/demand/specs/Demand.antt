@@ -1,4 +1,4 @@
--- What demand 3 claims of a list that is given out, of whatever blocks, or of its first units (01, 'What demand 3 speaks of'). Assumes nothing.
+-- What demand 3 claims of a list that is given out, of whatever blocks, or of its first units (01, 'What demand 3 speaks of').
 -- A segment is 01's board. Premises says what is asked of the segments, Kinds what a unit is, Courses what is played.
 use Prim.Native.Nat.{ℕ, suc, _-_, _≤_, _<_}
 use mathlib.Core.Path.{_≡_}

@@ -1,4 +1,4 @@
--- What a unit is, as its bytes say, and whose position a position is (01, 'What demand 3 speaks of'). Assumes nothing.
+-- What a unit is, as its bytes say, and whose position a position is (01, 'What demand 3 speaks of').
 use Prim.Native.Nat.{ℕ, suc, _-_}
 use mathlib.Core.List.{List, [], _∷_}
 use mathlib.Core.Bool.{Bool, false, true, cond as pick, _&&_}

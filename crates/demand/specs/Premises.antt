@@ -1,4 +1,4 @@
--- What demand 3 asks of the segments (01's boards) and the settings. Assumes nothing.
+-- What demand 3 asks of the segments (01's boards) and the settings.
 use Prim.Native.Nat.{ℕ, _^_, _<_}
 use mathlib.Core.Path.{_≡_}
 use mathlib.Core.List.{List, [], _∷_}

@@ -1,4 +1,4 @@
--- Laws of emitted sequence headers: read back, emitted again, and timed. Assumes nothing.
+-- Laws of emitted sequence headers: read back, emitted again, and timed.
 use mathlib.Core.Path.{_≡_, sym, ap, _∙_}
 use Prim.Native.Nat.{ℕ, _+_, _*_, _-_, _%_, _^_, _<_, _≤_}
 use native.Mathlib.Omega.{arith}

@@ -1,4 +1,4 @@
--- What stands behind the operating points, as it is read. Assumes nothing.
+-- What stands behind the operating points, as it is read.
 use Prim.Native.Nat.{ℕ}
 use mathlib.Core.List.{List}
 use mathlib.Core.Bool.{Bool, true}

@@ -1,4 +1,4 @@
--- A field that is read has a value that some bits read as, and its bits are those that are put for it. Assumes nothing.
+-- A field that is read has a value that some bits read as, and its bits are those that are put for it.
 use mathlib.Core.Path.{_≡_, refl, sym, ap, subst, _∙_}
 use Prim.Native.Nat.{ℕ, zero, suc, _+_, _-_, _*_, _/_, _%_, _^_, _<_, _≤_}
 use native.Mathlib.Omega.{arith}

@@ -1,4 +1,4 @@
--- What stands before the operating points, as it is read. Assumes nothing.
+-- What stands before the operating points, as it is read.
 use mathlib.Core.Path.{_≡_, refl}
 use Prim.Native.Nat.{ℕ}
 use mathlib.Core.List.{List}

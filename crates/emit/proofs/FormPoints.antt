@@ -1,4 +1,4 @@
--- The operating points, as they are read. Assumes nothing.
+-- The operating points, as they are read.
 use mathlib.Core.Path.{_≡_, refl, ap}
 use Prim.Native.Nat.{ℕ, zero, suc}
 use mathlib.Core.List.{List}

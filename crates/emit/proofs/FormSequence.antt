@@ -1,4 +1,4 @@
--- A sequence header that is read has fields that some payload reads as, and its bits are those that are put for them. Assumes nothing.
+-- A sequence header that is read has fields that some payload reads as, and its bits are those that are put for them.
 use Prim.Native.Nat.{ℕ}
 use mathlib.Core.Path.{_≡_}
 use mathlib.Core.List.{List}

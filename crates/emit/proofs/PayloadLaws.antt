@@ -1,4 +1,4 @@
--- A payload that was written field by field is the one that the fields have. Assumes nothing.
+-- A payload that was written field by field is the one that the fields have.
 use mathlib.Core.Path.{_≡_, refl, sym, ap, ap₂, _∙_}
 use Prim.Native.Nat.{ℕ, _+_, _*_, _-_, _/_, _%_, _^_, _≤_, _<_}
 use native.Mathlib.Omega.{arith}

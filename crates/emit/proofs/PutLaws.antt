@@ -1,4 +1,4 @@
--- The bits of a header's fields stand before those of what follows, and there are not too many. Assumes nothing.
+-- The bits of a header's fields stand before those of what follows, and there are not too many.
 use mathlib.Core.Path.{_≡_, refl, sym, ap, _∙_}
 use Prim.Native.Nat.{ℕ, _+_, _*_, _≤_, _<_}
 use native.Mathlib.Omega.{arith}

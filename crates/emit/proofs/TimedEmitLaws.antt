@@ -1,4 +1,4 @@
--- Laws of a timed sequence header, emitted and read back. Assumes nothing.
+-- Laws of a timed sequence header, emitted and read back.
 use mathlib.Core.Path.{_≡_, refl, ap, _∙_}
 use Prim.Native.Nat.{ℕ, _*_, _^_, _<_}
 use native.Mathlib.Omega.{arith}

@@ -1,4 +1,4 @@
--- Laws of bits written one field after the other. Assumes nothing.
+-- Laws of bits written one field after the other.
 use mathlib.Core.Path.{_≡_, refl, sym, ap, ap₂, _∙_}
 use Prim.Native.Nat.{ℕ, _+_, _*_, _-_, _≤_, _<_}
 use native.Mathlib.Omega.{arith}

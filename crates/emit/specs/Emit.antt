@@ -1,4 +1,4 @@
--- A sequence header as a payload, and that in lent memory. Assumes nothing.
+-- A sequence header as a payload, and that in lent memory.
 use Prim.Native.Nat.{ℕ, zero, suc, _+_, _*_, _/_, _^_}
 use mathlib.Core.List.{List, [], _∷_, _++_}
 use mathlib.Core.Bool.{Bool, cond as pick}

@@ -1,4 +1,4 @@
--- Bits written one field after the other. Assumes nothing.
+-- Bits written one field after the other.
 use Prim.Native.Nat.{ℕ, _+_, _≤_}
 use mathlib.Core.Path.{_≡_}
 use mathlib.Core.List.{List, _++_}

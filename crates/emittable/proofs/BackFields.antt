@@ -1,4 +1,4 @@
--- Fields that were put are read back, and then what stands behind them is seen. Assumes nothing.
+-- Fields that were put are read back, and then what stands behind them is seen.
 use mathlib.Core.Path.{_≡_, refl, sym, ap, _∙_}
 use Prim.Native.Nat.{ℕ, _+_, _-_, _^_, _≤_}
 use native.Mathlib.Omega.{arith}

@@ -1,4 +1,4 @@
--- The operating points are read back. Assumes nothing.
+-- The operating points are read back.
 use mathlib.Core.Path.{_≡_}
 use Prim.Native.Nat.{ℕ, _≤_}
 use native.Mathlib.Omega.{arith}

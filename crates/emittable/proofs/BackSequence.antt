@@ -1,4 +1,4 @@
--- A sequence header's fields are read back. Assumes nothing.
+-- A sequence header's fields are read back.
 use mathlib.Core.Path.{_≡_, sym}
 use Prim.Native.Nat.{ℕ, _≤_, _<_}
 use native.Mathlib.Omega.{arith}

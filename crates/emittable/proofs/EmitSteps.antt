@@ -1,4 +1,4 @@
--- Steps of the emitter's code. Assumes nothing.
+-- Steps of the emitter's code.
 use mathlib.Core.Path.{_≡_, refl, sym, ap, ap₂, _∙_}
 use Prim.Native.Nat.{ℕ, _+_, _*_, _%_, _^_, _<_, _≤_}
 use native.Mathlib.Omega.{arith}

@@ -1,4 +1,4 @@
--- Fields that some payload reads as, section by section. Assumes nothing.
+-- Fields that some payload reads as, section by section.
 use Prim.Native.Nat.{ℕ, _+_}
 use mathlib.Core.List.{List, [], _∷_}
 use mathlib.Core.Bool.{Bool, true, false, not, _&&_}

@@ -1,4 +1,4 @@
--- The bits of one field, before those of what follows it; and whether some bits read as its value. Assumes nothing.
+-- The bits of one field, before those of what follows it; and whether some bits read as its value.
 use Prim.Native.Nat.{ℕ, _+_, _-_, _^_}
 use mathlib.Core.List.{List, _++_}
 use mathlib.Core.Bool.{Bool, not, _||_, cond as pick}

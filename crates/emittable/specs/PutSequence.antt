@@ -1,4 +1,4 @@
--- The bits of a sequence header's fields (AV1 5.5), section by section, before those of what follows. Assumes nothing.
+-- The bits of a sequence header's fields (AV1 5.5), section by section, before those of what follows.
 use Prim.Native.Nat.{ℕ, _+_}
 use mathlib.Core.List.{List, [], _∷_}
 use mathlib.Core.Bool.{Bool, not, _&&_}

@@ -1,4 +1,4 @@
--- Following a reading link by link inside the answer that it comes to. Assumes nothing.
+-- Following a reading link by link inside the answer that it comes to.
 use Prim.Native.Nat.{ℕ}
 use mathlib.Core.Path.{_≡_, sym, ap, _∙_}
 use mathlib.Core.Bool.{Bool, cond as pick}

@@ -1,4 +1,4 @@
--- A frame header read from both payloads is the frame's read under the sequence header that was read. Assumes nothing.
+-- A frame header read from both payloads is the frame's read under the sequence header that was read.
 use Prim.Native.Nat.{ℕ, _-_}
 use native.Mathlib.Omega.{arith}
 use mathlib.Core.Path.{_≡_, refl, sym, ap, _∙_}

@@ -1,4 +1,4 @@
--- What a frame header that was read says of itself, under any sequence header and whichever removal times there are. Assumes nothing.
+-- What a frame header that was read says of itself, under any sequence header and whichever removal times there are.
 use Prim.Native.Nat.{ℕ, _^_, _<_}
 use native.Mathlib.Omega.{arith}
 use mathlib.Core.Path.{_≡_, refl, sym, subst, ap, _∙_}

@@ -1,4 +1,4 @@
--- The payload of a show unit reads as show-existing of its slot. Assumes nothing.
+-- The payload of a show unit reads as show-existing of its slot.
 use Prim.Native.Nat.{ℕ, _+_, _*_, _/_, _%_, _<_}
 use native.Mathlib.Omega.{arith}
 use mathlib.Core.Path.{_≡_, ap, _∙_}

@@ -1,4 +1,4 @@
--- Where a frame header reads the same by 01's removal times and by AV1's own. Assumes nothing.
+-- Where a frame header reads the same by 01's removal times and by AV1's own.
 use Prim.Native.Nat.{ℕ}
 use mathlib.Core.Path.{_≡_, refl, sym, ap, _∙_}
 use mathlib.Core.List.{List}

@@ -1,4 +1,4 @@
--- A frame header reads the same under a header and under its timed form, where shown frames carry no temporal_point_info. Assumes nothing.
+-- A frame header reads the same under a header and under its timed form, where shown frames carry no temporal_point_info.
 use Prim.Native.Nat.{ℕ}
 use mathlib.Core.Path.{_≡_, refl, ap}
 use mathlib.Core.List.{List}

@@ -1,4 +1,4 @@
--- Removal times, one operating point after another. Assumes nothing.
+-- Removal times, one operating point after another.
 use Prim.Native.Nat.{ℕ, _+_, _≤_, _<_, min}
 use mathlib.Core.Path.{_≡_, sym, ap, _∙_}
 use mathlib.Core.List.{List}

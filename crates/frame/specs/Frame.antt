@@ -1,4 +1,4 @@
--- AV1 5.9.2 uncompressed_header up to refresh_frame_flags, under a sequence header. Assumes nothing.
+-- AV1 5.9.2 uncompressed_header up to refresh_frame_flags, under a sequence header.
 use Prim.Native.Nat.{ℕ, _+_, _/_, _%_, _^_}
 use mathlib.Core.List.{List, [], _∷_}
 use mathlib.Core.Bool.{Bool, true, false, not, _&&_, _||_, cond as pick}

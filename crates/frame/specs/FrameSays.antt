@@ -1,4 +1,4 @@
--- What the functions that read a frame header's sections answer. Assumes nothing.
+-- What the functions that read a frame header's sections answer.
 use Prim.Native.Nat.{ℕ}
 use Rattle.bitio.specs.Parse.{Answer}
 use Rattle.bitio.specs.Bits.{Reading, fails, reads, andThen}

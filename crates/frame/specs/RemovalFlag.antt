@@ -1,4 +1,4 @@
--- AV1 5.9.2 buffer_removal_time_present_flag of a frame header: whether removal times are read. Assumes nothing.
+-- AV1 5.9.2 buffer_removal_time_present_flag of a frame header: whether removal times are read.
 use Prim.Native.Nat.{ℕ}
 use mathlib.Core.List.{List}
 use mathlib.Core.Bool.{Bool, false, cond as pick}

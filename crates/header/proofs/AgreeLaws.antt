@@ -1,4 +1,4 @@
--- Agreement with AV1's own sequence header. Assumes nothing.
+-- Agreement with AV1's own sequence header.
 use Prim.Native.Nat.{ℕ, zero, suc, _*_, _^_, _-_, _≤_, _<_}
 use native.Mathlib.Omega.{arith}
 use mathlib.Core.Path.{_≡_, refl, sym, ap, _∙_}

@@ -1,4 +1,4 @@
--- Laws of the limit. Assumes nothing.
+-- Laws of the limit.
 use Prim.Native.Nat.{ℕ, _≤_, _<_}
 use native.Mathlib.Omega.{arith}
 use mathlib.Core.Path.{_≡_}

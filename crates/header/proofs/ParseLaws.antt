@@ -1,4 +1,4 @@
--- Laws of reading a whole sequence header, as the code goes. Assumes nothing.
+-- Laws of reading a whole sequence header, as the code goes.
 use Prim.Native.Nat.{ℕ}
 use native.Mathlib.Omega.{arith}
 use mathlib.Core.Path.{_≡_, refl, sym, ap, _∙_}

@@ -1,4 +1,4 @@
--- Laws of the operating points: a loop that reads them into an array. Assumes nothing.
+-- Laws of the operating points: a loop that reads them into an array.
 use Prim.Native.Nat.{ℕ, zero, suc, _+_, _-_, _≤_, _<_}
 use native.Mathlib.Omega.{arith}
 use native.Mathlib.Numerals.{add-one}

@@ -1,4 +1,4 @@
--- Laws of reading one thing after another at a bit position. Assumes nothing.
+-- Laws of reading one thing after another at a bit position.
 use Prim.Native.Nat.{ℕ, _<_, _^_}
 use native.Mathlib.Omega.{arith}
 use mathlib.Core.Path.{_≡_, refl, sym, ap, _∙_}

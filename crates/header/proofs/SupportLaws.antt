@@ -1,4 +1,4 @@
--- Laws of reading a supported header, as the code goes. Assumes nothing.
+-- Laws of reading a supported header, as the code goes.
 use Prim.Native.Nat.{ℕ}
 use native.Mathlib.Omega.{arith}
 use mathlib.Core.Path.{_≡_, sym, ap, _∙_}

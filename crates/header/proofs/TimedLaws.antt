@@ -1,4 +1,4 @@
--- Laws of timed sequence headers. Assumes nothing.
+-- Laws of timed sequence headers.
 use Prim.Native.Nat.{ℕ}
 use native.Mathlib.Omega.{arith}
 use mathlib.Core.Path.{_≡_, refl, ap, _∙_}

@@ -1,4 +1,4 @@
--- Bounds of what a sequence header is read as. Assumes nothing.
+-- Bounds of what a sequence header is read as.
 use Prim.Native.Nat.{ℕ, _≤_, _<_}
 use native.Mathlib.Omega.{arith}
 use mathlib.Core.Path.{_≡_}

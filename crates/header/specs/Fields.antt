@@ -1,4 +1,4 @@
--- Flags, and fields that are there only on a condition: else they count as a given value and take no bits. Assumes nothing.
+-- Flags, and fields that are there only on a condition: else they count as a given value and take no bits.
 use Prim.Native.Nat.{ℕ}
 use mathlib.Core.List.{List}
 use mathlib.Core.Bool.{Bool, cond as pick}

@@ -1,4 +1,4 @@
--- What each answer of reading a sequence header says: 01's number, or the values and the position behind them. Assumes nothing.
+-- What each answer of reading a sequence header says: 01's number, or the values and the position behind them.
 use Prim.Native.Nat.{ℕ}
 use mathlib.Core.List.{List, []}
 use mathlib.Core.Bool.{Bool, false, not}

@@ -1,4 +1,4 @@
--- AV1 5.5 sequence_header_obu: the whole, as 01 reads it and as AV1 does. Assumes nothing.
+-- AV1 5.5 sequence_header_obu: the whole, as 01 reads it and as AV1 does.
 use Prim.Native.Nat.{ℕ}
 use mathlib.Core.List.{List, []}
 use mathlib.Core.Bool.{not}

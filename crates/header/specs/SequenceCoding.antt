@@ -1,4 +1,4 @@
--- AV1 5.5.1 sequence_header_obu behind the operating points. full: the header is not reduced. Assumes nothing.
+-- AV1 5.5.1 sequence_header_obu behind the operating points. full: the header is not reduced.
 use Prim.Native.Nat.{ℕ, _+_}
 use mathlib.Core.List.{List}
 use mathlib.Core.Bool.{Bool, true, false, not, _&&_, _||_}

@@ -1,4 +1,4 @@
--- AV1 5.5.1 sequence_header_obu up to the operating points. A reduced header has values without bits. Assumes nothing.
+-- AV1 5.5.1 sequence_header_obu up to the operating points. A reduced header has values without bits.
 use Prim.Native.Nat.{ℕ}
 use mathlib.Core.List.{List}
 use mathlib.Core.Bool.{Bool, true, false, not, cond as pick}

@@ -1,4 +1,4 @@
--- AV1 5.5.1: the operating points. Assumes nothing.
+-- AV1 5.5.1: the operating points.
 use Prim.Native.Nat.{ℕ, zero, suc, _+_, _-_}
 use mathlib.Core.List.{List, [], _∷_, _++_}
 use mathlib.Core.Bool.{Bool, true, false, not, _&&_}

@@ -1,4 +1,4 @@
--- Where the Rust reads a sequence header otherwise than AV1 5.5, and 01 follows it: one definition serves both. Assumes nothing.
+-- Where the Rust reads a sequence header otherwise than AV1 5.5, and 01 follows it: one definition serves both.
 use Prim.Native.Nat.{ℕ, suc, _*_}
 use mathlib.Core.List.{List}
 use mathlib.Core.Bool.{Bool, true, false}

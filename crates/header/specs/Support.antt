@@ -1,4 +1,4 @@
--- What a list of units asks of its sequence header. Assumes nothing.
+-- What a list of units asks of its sequence header.
 use Prim.Native.Nat.{ℕ}
 use mathlib.Core.List.{List}
 use mathlib.Core.Bool.{Bool, not, _&&_, cond as pick}

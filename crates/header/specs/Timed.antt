@@ -1,4 +1,4 @@
--- Constant-rate timing. Assumes nothing.
+-- Constant-rate timing.
 use Prim.Native.Nat.{ℕ}
 use mathlib.Core.Bool.{Bool, true, cond as pick}
 use lib.Dec.{eqb}

@@ -1,4 +1,4 @@
--- Laws of decimal digits: one more digit, their number, and that they are right. Assumes nothing.
+-- Laws of decimal digits: one more digit, their number, and that they are right.
 use Prim.Native.Nat.{ℕ, zero, suc, _+_, _-_, _*_, _/_, _%_, _^_, _≤_, _<_}
 use native.Mathlib.Omega.{arith}
 use native.Mathlib.Nat.{pow-suc}

@@ -1,4 +1,4 @@
--- Laws of the file: whether it is whole, and what is read from it. Assumes nothing.
+-- Laws of the file: whether it is whole, and what is read from it.
 use Prim.Native.Nat.{ℕ, _+_, _*_, _/_, _≤_, _<_}
 use native.Mathlib.Omega.{arith}
 use mathlib.Core.Path.{_≡_, refl, sym, ap, ap₂, _∙_}

@@ -1,4 +1,4 @@
--- Laws of the file's numbers: read, summed, and written a record a segment. Assumes nothing.
+-- Laws of the file's numbers: read, summed, and written a record a segment.
 use Prim.Native.Nat.{ℕ, zero, suc, _+_, _-_, _*_, _/_, _%_, _^_, _≤_, _<_}
 use native.Mathlib.Omega.{arith}
 use native.Mathlib.Nat.{pow-suc}

@@ -1,4 +1,4 @@
--- Laws of the text: the lengths of lines, and one line behind the other. Assumes nothing.
+-- Laws of the text: the lengths of lines, and one line behind the other.
 use Prim.Native.Nat.{ℕ, suc, _+_, _-_, _*_, _/_, _%_, _≤_, _<_}
 use native.Mathlib.Omega.{arith}
 use native.Mathlib.Numerals.{add-one}

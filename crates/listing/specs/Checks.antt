@@ -1,4 +1,4 @@
--- Worked answers: 01's file and its listing, the listing of two segments that differ, files that are none, and the other texts. Assumes nothing.
+-- Worked answers: 01's file and its listing, the listing of two segments that differ, files that are none, and the other texts.
 use Prim.Native.Nat.{ℕ, _+_}
 use mathlib.Core.Path.{_≡_, refl}
 use mathlib.Core.List.{List, [], _∷_, _++_, map}

@@ -1,4 +1,4 @@
--- Decimal numbers as text, in ASCII codes. Assumes nothing.
+-- Decimal numbers as text, in ASCII codes.
 use Prim.Native.Nat.{ℕ, zero, suc, _+_, _/_, _%_}
 use mathlib.Core.Path.{_≡_}
 use mathlib.Core.List.{List, [], _∷_, _++_}

@@ -1,4 +1,4 @@
--- The file that boardlist reads (01, 'Unit list and cue list'). Assumes nothing.
+-- The file that boardlist reads (01, 'Unit list and cue list').
 use Prim.Native.Nat.{ℕ, zero, suc, _+_, _*_, _≤_}
 use mathlib.Core.Path.{_≡_}
 use mathlib.Core.List.{List, [], _++_}

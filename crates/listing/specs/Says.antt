@@ -1,4 +1,4 @@
--- What the answers of src/file.rt stand for. Assumes nothing.
+-- What the answers of src/file.rt stand for.
 use mathlib.Core.Option.{Option, none, some}
 use Rattle.listing.specs.File.{Reading, bad, full, read}
 use Rattle.listing.specs.declared.file.Layout.{Layout}

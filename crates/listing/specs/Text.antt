@@ -1,4 +1,4 @@
--- The text that boardlist prints (01, 'Unit list and cue list'), in ASCII codes. Assumes nothing.
+-- The text that boardlist prints (01, 'Unit list and cue list'), in ASCII codes.
 use Prim.Native.Nat.{ℕ, suc, _+_, _*_, _/_, _%_}
 use mathlib.Core.List.{List, [], _∷_, _++_}
 use mathlib.Core.Bool.{cond as pick}

@@ -1,4 +1,4 @@
--- Laws of the length of written OBUs. Assumes nothing.
+-- Laws of the length of written OBUs.
 use Prim.Native.Nat.{ℕ, zero, suc, _+_, _-_, _*_, _/_, _%_, _^_, _≤_, _<_}
 use native.Mathlib.Omega.{arith}
 use mathlib.Core.Path.{_≡_, refl, sym, ap, _∙_}

@@ -1,4 +1,4 @@
--- Laws of OBUs: what is read, and reading back what was written. Assumes nothing.
+-- Laws of OBUs: what is read, and reading back what was written.
 use Prim.Native.Nat.{ℕ, zero, suc, _+_, _-_, _*_, _/_, _%_, _^_, _≤_, _<_}
 use native.Mathlib.Omega.{arith}
 use mathlib.Core.Path.{_≡_, refl, sym, ap, _∙_}

@@ -1,4 +1,4 @@
--- Laws of the OBU at a position: the outcomes of reading it, and what it says. Assumes nothing.
+-- Laws of the OBU at a position: the outcomes of reading it, and what it says.
 use Prim.Native.Nat.{ℕ, zero, suc, _+_, _-_, _*_, _/_, _%_, _^_, _≤_, _<_}
 use native.Mathlib.Omega.{arith}
 use native.Mathlib.Numerals.{add-one}

@@ -1,4 +1,4 @@
--- Laws of the questions on a unit: one OBU more. Assumes nothing.
+-- Laws of the questions on a unit: one OBU more.
 use Prim.Native.Nat.{ℕ, zero, suc, _+_, _-_, _≤_, _<_}
 use native.Mathlib.Omega.{arith}
 use mathlib.Core.Path.{_≡_, refl, sym, ap, _∙_}

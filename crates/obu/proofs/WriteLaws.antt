@@ -1,4 +1,4 @@
--- Laws of writing an OBU. Assumes nothing.
+-- Laws of writing an OBU.
 use Prim.Native.Nat.{ℕ, _+_, _-_, _*_, _≤_, _<_}
 use borrow.Rule.Slice.PartMut.{putMid, post-is}
 use native.Mathlib.Omega.{arith}

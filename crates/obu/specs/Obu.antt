@@ -1,4 +1,4 @@
--- OBUs, read and written (AV1 5.3). Assumes nothing.
+-- OBUs, read and written (AV1 5.3).
 use Prim.Native.Nat.{ℕ, _+_, _*_, _/_, _%_}
 use mathlib.Core.List.{List, [], _∷_, _++_, flatMap}
 use mathlib.Core.Option.{Option, none, some}

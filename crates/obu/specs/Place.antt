@@ -1,4 +1,4 @@
--- The OBU at a position of lent bytes. Assumes nothing.
+-- The OBU at a position of lent bytes.
 use Prim.Native.Nat.{ℕ, _+_, _-_}
 use mathlib.Core.List.{List, []}
 use mathlib.Core.Option.{Option, none, some}

@@ -1,4 +1,4 @@
--- Questions on the OBUs of a unit. Assumes nothing.
+-- Questions on the OBUs of a unit.
 use Prim.Native.Nat.{ℕ, zero, suc, _-_}
 use mathlib.Core.List.{List, [], _∷_}
 use mathlib.Core.Option.{Option, none, some}

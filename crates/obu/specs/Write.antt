@@ -1,4 +1,4 @@
--- An OBU put into lent memory in written form. Assumes nothing.
+-- An OBU put into lent memory in written form.
 use Prim.Native.Nat.{ℕ, _+_}
 use mathlib.Core.List.{List}
 use mathlib.Core.Option.{Option}

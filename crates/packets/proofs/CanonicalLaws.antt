@@ -1,4 +1,4 @@
--- Laws of canonicalize_tu: its outcomes. Assumes nothing.
+-- Laws of canonicalize_tu: its outcomes.
 use Prim.Native.Nat.{ℕ, _≤_, _<_}
 use native.Mathlib.Omega.{arith}
 use mathlib.Core.Path.{_≡_, refl, sym, ap, _∙_}

@@ -1,4 +1,4 @@
--- Laws of packets joined: one output packet after another. Assumes nothing.
+-- Laws of packets joined: one output packet after another.
 use Prim.Native.Nat.{ℕ, _^_, _<_}
 use native.Mathlib.Omega.{arith}
 use mathlib.Core.Path.{_≡_, refl, sym, ap, ap₂, _∙_}

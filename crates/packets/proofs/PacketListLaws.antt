@@ -1,4 +1,4 @@
--- Laws of packets in lent memory: the units that their ends give. Assumes nothing.
+-- Laws of packets in lent memory: the units that their ends give.
 use Prim.Native.Nat.{ℕ, zero, suc, _+_, _-_, _^_, _≤_, _<_}
 use native.Mathlib.Omega.{arith}
 use mathlib.Core.Path.{_≡_, refl, sym, ap, _∙_}

@@ -1,4 +1,4 @@
--- Laws of all output packets, measured and written. Assumes nothing.
+-- Laws of all output packets, measured and written.
 use Prim.Native.Nat.{ℕ, suc, _+_, _≤_, _<_, min}
 use native.Mathlib.Omega.{arith}
 use mathlib.Core.Path.{_≡_, refl, sym, ap, ap₂, _∙_}

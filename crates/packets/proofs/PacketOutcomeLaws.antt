@@ -1,4 +1,4 @@
--- Laws of merge_frameless_packets: its outcomes. Assumes nothing.
+-- Laws of merge_frameless_packets: its outcomes.
 use Prim.Native.Nat.{ℕ, _+_, _≤_, _<_, min}
 use native.Mathlib.Omega.{arith}
 use mathlib.Core.Path.{_≡_, refl, sym, ap, ap₂, _∙_}

@@ -1,4 +1,4 @@
--- Laws of packets by their index: the output packet that a run of them makes. Assumes nothing.
+-- Laws of packets by their index: the output packet that a run of them makes.
 use Prim.Native.Nat.{ℕ, _+_, _≤_, _<_}
 use native.Mathlib.Omega.{arith}
 use native.Mathlib.Numerals.{add-one}

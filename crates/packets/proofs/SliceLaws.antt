@@ -1,4 +1,4 @@
--- Laws of the part of a list from one index to another. Assumes nothing.
+-- Laws of the part of a list from one index to another.
 use Prim.Native.Nat.{ℕ, zero, suc, _+_, _≤_, _<_}
 use native.Mathlib.Omega.{arith}
 use native.Mathlib.Numerals.{add-one}

@@ -1,4 +1,4 @@
--- What the code of canonicalize_tu asks of a unit. Assumes nothing.
+-- What the code of canonicalize_tu asks of a unit.
 use Prim.Native.Nat.{ℕ, _≤_}
 use mathlib.Core.Path.{_≡_}
 use mathlib.Core.List.{List}

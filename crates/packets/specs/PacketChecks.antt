@@ -1,4 +1,4 @@
--- 01's rules for packets and canonical units, on small ones. Assumes nothing.
+-- 01's rules for packets and canonical units, on small ones.
 use Prim.Native.Nat.{ℕ}
 use mathlib.Core.Path.{_≡_, refl}
 use mathlib.Core.List.{List, [], _∷_, flatMap}

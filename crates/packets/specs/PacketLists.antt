@@ -1,4 +1,4 @@
--- Packets as lent memory has them: their bytes one behind the other, the end of each and the time of each. Assumes nothing.
+-- Packets as lent memory has them: their bytes one behind the other, the end of each and the time of each.
 use Prim.Native.Nat.{ℕ}
 use mathlib.Core.List.{List, [], _∷_, map}
 use mathlib.Core.Bool.{Bool, cond as pick, _&&_}

@@ -1,4 +1,4 @@
--- Runs of packets: what the code of merge_frameless_packets asks of them. Assumes nothing.
+-- Runs of packets: what the code of merge_frameless_packets asks of them.
 use Prim.Native.Nat.{ℕ, _+_, _-_, _^_, _≤_, _<_, min}
 use mathlib.Core.Path.{_≡_}
 use mathlib.Core.List.{List, [], _∷_, _++_}

@@ -1,4 +1,4 @@
--- Packets joined, and units made canonical (01, 'Units from a stream'). Assumes nothing.
+-- Packets joined, and units made canonical (01, 'Units from a stream').
 use Prim.Native.Nat.{ℕ}
 use mathlib.Core.List.{List, [], _∷_, _++_, tail}
 use mathlib.Core.Bool.{Bool, true, false, cond as pick}

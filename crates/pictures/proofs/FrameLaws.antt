@@ -1,4 +1,4 @@
--- Laws of what is asked of the first frame header of a unit, by the tests that the code makes. Assumes nothing.
+-- Laws of what is asked of the first frame header of a unit, by the tests that the code makes.
 use Prim.Native.Nat.{ℕ, suc}
 use native.Mathlib.Omega.{arith}
 use mathlib.Core.Path.{_≡_, refl, sym, ap, _∙_}

@@ -1,4 +1,4 @@
--- Laws of a segment judged: what is asked of its units, and its units as they go out. Assumes nothing.
+-- Laws of a segment judged: what is asked of its units, and its units as they go out.
 use Prim.Native.Nat.{ℕ}
 use mathlib.Core.Path.{_≡_, refl, sym, _∙_}
 use mathlib.Core.List.{List, [], map}

@@ -1,4 +1,4 @@
--- Laws of all segments prepared: what goes out is what is judged and sent one by one, and how much that is. Assumes nothing.
+-- Laws of all segments prepared: what goes out is what is judged and sent one by one, and how much that is.
 use Prim.Native.Nat.{ℕ, suc, _+_, _*_}
 use native.Mathlib.Omega.{arith}
 use mathlib.Core.Path.{_≡_, refl, sym, ap, ap₂, _∙_}

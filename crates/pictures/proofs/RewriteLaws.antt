@@ -1,4 +1,4 @@
--- Laws of units with their sequence headers replaced, measured and written: one OBU more. Assumes nothing.
+-- Laws of units with their sequence headers replaced, measured and written: one OBU more.
 use Prim.Native.Nat.{ℕ, _+_, _≤_, min}
 use native.Mathlib.Omega.{arith}
 use mathlib.Core.Path.{_≡_, refl, sym, ap, ap₂, _∙_}

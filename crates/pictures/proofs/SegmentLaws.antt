@@ -1,4 +1,4 @@
--- Laws of the segments by their records, one after the other. Assumes nothing.
+-- Laws of the segments by their records, one after the other.
 use Prim.Native.Nat.{ℕ, _+_, _≤_, _<_}
 use mathlib.Core.Path.{_≡_, sym, ap, ap₂, _∙_}
 use mathlib.Core.List.{List, [], _∷_, map}

@@ -1,4 +1,4 @@
--- Laws of units as they go out: which are copied, and which are rewritten. Assumes nothing.
+-- Laws of units as they go out: which are copied, and which are rewritten.
 use Prim.Native.Nat.{ℕ, _≤_}
 use native.Mathlib.Omega.{arith}
 use mathlib.Core.Path.{_≡_, refl, sym, ap, _∙_}

@@ -1,4 +1,4 @@
--- Laws of the show bytes, written one segment after the other. Assumes nothing.
+-- Laws of the show bytes, written one segment after the other.
 use Prim.Native.Nat.{ℕ, zero, suc, _+_, _*_, _/_, _%_, _^_, _≤_, _<_}
 use native.Mathlib.Omega.{arith}
 use mathlib.Core.Path.{_≡_, refl, sym, ap, ap₂, _∙_}

@@ -1,4 +1,4 @@
--- Laws of the frames ordered: their saturated total, the first segment without frames, and the refusals in their order. Assumes nothing.
+-- Laws of the frames ordered: their saturated total, the first segment without frames, and the refusals in their order.
 use Prim.Native.Nat.{ℕ, suc, _+_, _≤_, _<_, min}
 use native.Mathlib.Omega.{arith}
 use mathlib.Core.Path.{_≡_, refl, sym, ap, _∙_}

@@ -1,4 +1,4 @@
--- Laws of the slot refreshed and of the unit that an entry names, by the tests that the code makes. Assumes nothing.
+-- Laws of the slot refreshed and of the unit that an entry names, by the tests that the code makes.
 use Prim.Native.Nat.{ℕ, zero, suc, _+_, _*_, _-_, _/_, _%_, _<_, _≤_}
 use native.Mathlib.Omega.{arith}
 use mathlib.Core.Path.{_≡_, refl, ap, ap₂, _∙_}

@@ -1,4 +1,4 @@
--- Assembly: from segments to what is handed out, with 01's refusals in their order. Assumes nothing.
+-- Assembly: from segments to what is handed out, with 01's refusals in their order.
 use Prim.Native.Nat.{ℕ, suc, _+_, _*_, _/_, _%_}
 use mathlib.Core.List.{List, [], _∷_, _++_, map, flatMap}
 use mathlib.Core.Bool.{Bool, true, false, cond as pick, _&&_}

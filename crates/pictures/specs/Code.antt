@@ -1,4 +1,4 @@
--- The parts of assembly on the flat numbers of the segments, once their ranges are known to lie within the picture bytes. Assumes nothing.
+-- The parts of assembly on the flat numbers of the segments, once their ranges are known to lie within the picture bytes.
 use Prim.Native.Nat.{ℕ, _+_, _-_, _^_, min}
 use mathlib.Core.List.{List, [], map}
 use mathlib.Core.Bool.{Bool, cond as pick}

@@ -1,4 +1,4 @@
--- One segment's units as they go out, and what is asked of them (01, 'Unit list and cue list'). Assumes nothing.
+-- One segment's units as they go out, and what is asked of them (01, 'Unit list and cue list').
 use Prim.Native.Nat.{ℕ, zero, suc, _+_, _*_, _/_, _%_}
 use mathlib.Core.List.{List, [], _∷_, map}
 use mathlib.Core.Bool.{Bool, false, cond as pick, _&&_}

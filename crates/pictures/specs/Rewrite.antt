@@ -1,4 +1,4 @@
--- Units with their sequence headers replaced. Assumes nothing.
+-- Units with their sequence headers replaced.
 use Prim.Native.Nat.{ℕ}
 use mathlib.Core.List.{List, [], map}
 use Rattle.obu.specs.Obu.{Obu, obus, unitBytes}

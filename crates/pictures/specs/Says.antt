@@ -1,4 +1,4 @@
--- 01's numbers and values for the answers of the parts of assembly. Assumes nothing.
+-- 01's numbers and values for the answers of the parts of assembly.
 use Prim.Native.Nat.{ℕ}
 use mathlib.Core.List.{List}
 use mathlib.Core.Option.{some}

@@ -1,4 +1,4 @@
--- Segments as they are ordered: ranges of the picture bytes, and frames. Assumes nothing.
+-- Segments as they are ordered: ranges of the picture bytes, and frames.
 use Prim.Native.Nat.{ℕ, zero, suc}
 use mathlib.Core.List.{List, [], map}
 use mathlib.Core.Bool.{cond as pick}

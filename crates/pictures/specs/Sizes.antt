@@ -1,4 +1,4 @@
--- What the checks of sizes and ranges answer, by 01's numbers. Assumes nothing.
+-- What the checks of sizes and ranges answer, by 01's numbers.
 use Prim.Native.Nat.{ℕ, suc}
 use mathlib.Core.List.{List, [], _∷_}
 use mathlib.Core.Option.{none, some}

@@ -1,4 +1,4 @@
--- Laws of the units of a list, measured and then gathered in lent memory. Assumes nothing.
+-- Laws of the units of a list, measured and then gathered in lent memory.
 use Prim.Native.Nat.{ℕ, suc, _+_, _≤_, _<_, min}
 use native.Mathlib.Omega.{arith}
 use native.Mathlib.Numerals.{add-one}

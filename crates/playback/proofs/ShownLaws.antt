@@ -1,4 +1,4 @@
--- Laws of units played from a cue on. Assumes nothing.
+-- Laws of units played from a cue on.
 use Prim.Native.Nat.{ℕ, zero, suc, _+_, _-_, _≤_, _<_}
 use native.Mathlib.Omega.{arith}
 use native.Mathlib.Numerals.{add-one}

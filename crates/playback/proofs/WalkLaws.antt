@@ -1,4 +1,4 @@
--- Laws of the whole way: assembly, and what follows it. Assumes nothing.
+-- Laws of the whole way: assembly, and what follows it.
 use Prim.Native.Nat.{ℕ, _-_, _+_, _≤_}
 use native.Mathlib.Omega.{arith}
 use mathlib.Core.Path.{_≡_, refl, sym, ap, subst, _∙_}

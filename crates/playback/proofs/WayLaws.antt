@@ -1,4 +1,4 @@
--- Laws of the way of a list's units, stage after stage in lent memory. Assumes nothing.
+-- Laws of the way of a list's units, stage after stage in lent memory.
 use Prim.Native.Nat.{ℕ, suc, _+_, _-_, _≤_}
 use native.Mathlib.Omega.{arith}
 use mathlib.Core.Path.{_≡_, refl, sym, ap, ap₂, _∙_}

@@ -1,4 +1,4 @@
--- The units that a list's entries name, gathered in lent memory as the containers' writers take them. Assumes nothing.
+-- The units that a list's entries name, gathered in lent memory as the containers' writers take them.
 use Prim.Native.Nat.{ℕ, _≤_}
 use mathlib.Core.List.{List, map}
 use lib.ListN.{length}

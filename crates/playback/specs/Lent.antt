@@ -1,4 +1,4 @@
--- Lent memory at a function's entry and exit, and what each stage of the way does with its own. Assumes nothing.
+-- Lent memory at a function's entry and exit, and what each stage of the way does with its own.
 use Prim.Native.Nat.{ℕ}
 use mathlib.Core.Path.{_≡_}
 use mathlib.Core.List.{List}

@@ -1,4 +1,4 @@
--- What playing units from a cue on shows, a number for each position. Assumes nothing.
+-- What playing units from a cue on shows, a number for each position.
 use Prim.Native.Nat.{ℕ, suc, _+_, _-_, _≤_}
 use mathlib.Core.Path.{_≡_}
 use mathlib.Core.List.{List, [], _∷_}

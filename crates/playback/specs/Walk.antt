@@ -1,4 +1,4 @@
--- The whole way, from picture bytes and segments to what each position shows from one cue on. Assumes nothing.
+-- The whole way, from picture bytes and segments to what each position shows from one cue on.
 use Prim.Native.Nat.{ℕ}
 use mathlib.Core.Path.{_≡_}
 use mathlib.Core.List.{List}

@@ -1,4 +1,4 @@
--- The way of a list's units: gathered, written in a container, read back, and played from a cue. Assumes nothing.
+-- The way of a list's units: gathered, written in a container, read back, and played from a cue.
 -- Of lent memory only the lengths count. 35: a stage has no room; 34 and all others are the operations' own.
 use Prim.Native.Nat.{ℕ}
 use mathlib.Core.List.{List}

@@ -1,4 +1,4 @@
--- Laws of the kept header: one payload read in the code, a walk over a unit's OBUs, and what is kept behind it. Assumes nothing.
+-- Laws of the kept header: one payload read in the code, a walk over a unit's OBUs, and what is kept behind it.
 use Prim.Native.Nat.{ℕ}
 use native.Mathlib.Omega.{arith}
 use mathlib.Core.Path.{_≡_, refl, sym, ap, ap₂, _∙_}

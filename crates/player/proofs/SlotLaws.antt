@@ -1,4 +1,4 @@
--- Laws of the slots in the code: a loop that refreshes them, and one that is shown. Assumes nothing.
+-- Laws of the slots in the code: a loop that refreshes them, and one that is shown.
 use Prim.Native.Nat.{ℕ, zero, suc, _+_, _/_, _%_, _≤_, _<_}
 use native.Mathlib.Omega.{arith}
 use native.Mathlib.Numerals.{add-one}

@@ -1,4 +1,4 @@
--- Laws of a unit played in the code: what is left. Assumes nothing.
+-- Laws of a unit played in the code: what is left.
 use Prim.Native.Nat.{ℕ, _≤_, _<_}
 use native.Mathlib.Omega.{arith}
 use mathlib.Core.Path.{_≡_, refl, sym, ap, _∙_}

@@ -1,4 +1,4 @@
--- Worked answers: each rule and refusal of the player, on bytes. Assumes nothing.
+-- Worked answers: each rule and refusal of the player, on bytes.
 use Prim.Native.Nat.{ℕ}
 use mathlib.Core.Path.{_≡_, refl}
 use mathlib.Core.List.{List, [], _∷_, _++_}

@@ -1,4 +1,4 @@
--- The player's values in the code: what they say, and which ones its functions give. Assumes nothing.
+-- The player's values in the code: what they say, and which ones its functions give.
 use Prim.Native.Nat.{ℕ}
 use mathlib.Core.List.{List, []}
 use mathlib.Core.Option.{Option, none, some}

@@ -1,4 +1,4 @@
--- What putting a byte string into memory comes to. Assumes nothing.
+-- What putting a byte string into memory comes to.
 use mathlib.Core.Path.{_≡_, refl, sym, ap, _∙_}
 use mathlib.Core.List.{List, []}
 use mathlib.Core.Bool.{Bool, true, false, cond as pick}

@@ -1,4 +1,4 @@
--- Laws of marked memory. Assumes nothing.
+-- Laws of marked memory.
 use mathlib.Core.Path.{_≡_}
 use mathlib.Core.Bool.{true, false}
 use mathlib.Core.List.{List}

@@ -1,4 +1,4 @@
--- A byte string that was printed reads as the bytes again. Assumes nothing.
+-- A byte string that was printed reads as the bytes again.
 use mathlib.Core.Path.{_≡_, refl, ap, _∙_}
 use mathlib.Core.List.{List, [], _∷_}
 use mathlib.Core.Bool.{true}

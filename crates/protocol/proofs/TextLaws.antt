@@ -1,4 +1,4 @@
--- Laws of the text of the line protocol. Assumes nothing.
+-- Laws of the text of the line protocol.
 use mathlib.Core.Path.{_≡_, refl}
 use mathlib.Core.List.{List, [], _∷_}
 use mathlib.Core.Bool.{Bool, true, false, cond as pick}

@@ -1,4 +1,4 @@
--- Lent memory that no call has changed since it was marked. Assumes nothing.
+-- Lent memory that no call has changed since it was marked.
 use Prim.Native.Nat.{ℕ}
 use mathlib.Core.List.{List, [], _∷_}
 use mathlib.Core.Bool.{Bool, true, false, cond as pick}

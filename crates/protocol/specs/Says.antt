@@ -1,4 +1,4 @@
--- What the answers of src/text.rt stand for. Assumes nothing.
+-- What the answers of src/text.rt stand for.
 use Prim.Native.Nat.{ℕ, _+_}
 use mathlib.Core.List.{List}
 use mathlib.Core.Bool.{cond as pick}

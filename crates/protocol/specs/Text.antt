@@ -1,4 +1,4 @@
--- The text of the line protocol: hexadecimal byte strings, decimal numbers, words. Characters are ASCII codes. Assumes nothing.
+-- The text of the line protocol: hexadecimal byte strings, decimal numbers, words. Characters are ASCII codes.
 use Prim.Native.Nat.{ℕ, _+_, _-_, _*_, _/_, _%_, _^_}
 use mathlib.Core.List.{List, [], _∷_}
 use mathlib.Core.Bool.{Bool, true, false, cond as pick}

@@ -1,4 +1,4 @@
--- `boardplay::main` is safe and ends: the parts that the layout names lie within its memory. Assumes nothing.
+-- `boardplay::main` is safe and ends: the parts that the layout names lie within its memory.
 use borrow.Author.Needs.{needs}
 use native.Mathlib.Omega.{arith}
 use mathlib.Core.Path.{sym, ap, _∙_}

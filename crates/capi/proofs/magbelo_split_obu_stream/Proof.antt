@@ -7,21 +7,6 @@ use Rattle.capi.specs.Door.{codeOf, bytesOf, unitsOf}
 use Rattle.capi.proofs.magbelo_split_obu_stream.Statement.{statement}
 use Rattle.capi.proofs.magbelo_split_obu_stream.Tie as tie
 
-split-obu-stream-requires : tie.Need-split-obu-stream-requires
-split-obu-stream-requires c κs = search needs
-
-enum-known-k : tie.Need-enum-known-k
-enum-known-k c = search needs
-
-enum-known-n : tie.Need-enum-known-n
-enum-known-n c = search needs
-
-same-length : tie.Need-same-length
-same-length c = search needs
-
-same-length-2 : tie.Need-same-length-2
-same-length-2 c = search needs
-
 returns : tie.Need-returns
 returns c =
     let u = c .before .before .before .before .before .before .before in
@@ -29,12 +14,6 @@ returns c =
     let w = u .split-obu-stream .ensures in
     let e = sym (ap splitSays (c .before .k .given .1)) ∙ w .0 in
     (ap codeOf e, (w .1 .0, (w .1 .1, (ap (λ x. bytesOf x (now (a .bytes))) e, ap (λ x. unitsOf x (now (a .units))) e))))
-
-same-length-3 : tie.Need-same-length-3
-same-length-3 c = search needs
-
-same-length-4 : tie.Need-same-length-4
-same-length-4 c = search needs
 
 returns-2 : tie.Need-returns-2
 returns-2 c =
@@ -48,12 +27,12 @@ pub magbelo-split-obu-stream-spec : {M : Type 1} → statement M
 magbelo-split-obu-stream-spec =
     tie.close
     (tie.spec
-    split-obu-stream-requires
-    enum-known-k
-    enum-known-n
-    same-length
-    same-length-2
+    (λ c κs. search needs)
+    (λ c. search needs)
+    (λ c. search needs)
+    (λ c. search needs)
+    (λ c. search needs)
     returns
-    same-length-3
-    same-length-4
+    (λ c. search needs)
+    (λ c. search needs)
     returns-2)

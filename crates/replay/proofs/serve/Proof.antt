@@ -1,4 +1,4 @@
--- `replay::serve` is safe and ends: its turns are counted down, and the lent slices keep their lengths. Assumes nothing.
+-- `replay::serve` is safe and ends: its turns are counted down, and the lent slices keep their lengths.
 use borrow.Author.Needs.{needs}
 use mathlib.Core.Path.{_≡_}
 use lib.ListN.{length}

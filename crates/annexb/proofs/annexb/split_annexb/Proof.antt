@@ -21,24 +21,12 @@ returns c = says-refused _ _ (read-long _ _ (c .if1 .taken))
 returns-2 : tie.Need-returns-2
 returns-2 c = says-refused _ _ (read-empty _ _ (c .if2 .taken))
 
-measure-requires : tie.Need-measure-requires
-measure-requires c κs = search needs
-
-enum-known-found : tie.Need-enum-known-found
-enum-known-found c = search needs
-
-enum-told : tie.Need-enum-told
-enum-told c = search needs
-
 returns-3 : tie.Need-returns-3
 returns-3 c =
     let m = c .before .before in
     let e = m .before in
     let (k, q, r) = not-units (m .measure .result) (c .before .match .keys2) (m .measure .ensures) in
     rw q (says-refused _ _ (read-refused _ _ (e .before .if1 .left) (omega arith) r))
-
-has-room-requires : tie.Need-has-room-requires
-has-room-requires c κs = search needs
 
 returns-4 : tie.Need-returns-4
 returns-4 c =
@@ -50,12 +38,6 @@ fill-requires : tie.Need-fill-requires
 fill-requires c κs =
     let h = c .before .before in
     measured (size (h .before .before .before)) (sym (h .before .has-room .ensures) ∙ not-false _ (h .if3 .left))
-
-same-length : tie.Need-same-length
-same-length c = search needs
-
-same-length-2 : tie.Need-same-length-2
-same-length-2 c = search needs
 
 returns-5 : tie.Need-returns-5
 returns-5 c =
@@ -71,13 +53,13 @@ split-annexb-spec =
     (tie.spec
     returns
     returns-2
-    measure-requires
-    enum-known-found
-    enum-told
+    (λ c κs. search needs)
+    (λ c. search needs)
+    (λ c. search needs)
     returns-3
-    has-room-requires
+    (λ c κs. search needs)
     returns-4
     fill-requires
-    same-length
-    same-length-2
+    (λ c. search needs)
+    (λ c. search needs)
     returns-5)

@@ -25,20 +25,11 @@ size c = sym (c .before .before .count-units .ensures) ∙ ap joinedSays (c .fou
 returns : tie.Need-returns
 returns c = writes-refused _ (write-long _ _ _ (c .if1 .taken))
 
-check-ends-requires : tie.Need-check-ends-requires
-check-ends-requires c κs = search needs
-
 returns-2 : tie.Need-returns-2
 returns-2 c = writes-refused _ (write-bad _ _ _ (c .before .before .if1 .left) (sym (c .before .check-ends .ensures) ∙ not-true _ (c .if2 .taken)))
 
 count-units-requires : tie.Need-count-units-requires
 count-units-requires c κs = (c .before .before .if1 .left, good c)
-
-enum-known-found : tie.Need-enum-known-found
-enum-known-found c = search needs
-
-enum-told : tie.Need-enum-told
-enum-told c = search needs
 
 returns-3 : tie.Need-returns-3
 returns-3 c =
@@ -46,9 +37,6 @@ returns-3 c =
     let e = m .before in
     let (k, q, r) = not-bytes (m .count-units .result) (c .before .match .keys2) (m .count-units .ensures) in
     rw q (writes-refused _ (write-refused _ _ _ (e .before .before .if1 .left) (good e) r))
-
-has-room-requires : tie.Need-has-room-requires
-has-room-requires c κs = search needs
 
 returns-4 : tie.Need-returns-4
 returns-4 c =
@@ -63,9 +51,6 @@ put-units-requires c κs =
     let e = f .before .before .before in
     (e .before .before .if1 .left, writing _ _ _ (good e) (size f) (sym (h .before .has-room .ensures) ∙ not-false _ (h .if3 .left)))
 
-same-length : tie.Need-same-length
-same-length c = search needs
-
 returns-5 : tie.Need-returns-5
 returns-5 c =
     let w = c .before .before in
@@ -79,14 +64,14 @@ write-annexb-spec =
     tie.close
     (tie.spec
     returns
-    check-ends-requires
+    (λ c κs. search needs)
     returns-2
     count-units-requires
-    enum-known-found
-    enum-told
+    (λ c. search needs)
+    (λ c. search needs)
     returns-3
-    has-room-requires
+    (λ c κs. search needs)
     returns-4
     put-units-requires
-    same-length
+    (λ c. search needs)
     returns-5)

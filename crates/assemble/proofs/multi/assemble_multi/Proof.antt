@@ -10,24 +10,6 @@ use Rattle.assemble.proofs.WholeLaws.{plan-ready, sound, full, can-lay,
 use Rattle.assemble.proofs.multi.assemble_multi.Statement.{statement}
 use Rattle.assemble.proofs.multi.assemble_multi.Tie as tie
 
-plan-multi-requires : tie.Need-plan-multi-requires
-plan-multi-requires c κs = search needs
-
-enum-known-answer : tie.Need-enum-known-answer
-enum-known-answer c = search needs
-
-enum-known-answer-2 : tie.Need-enum-known-answer-2
-enum-known-answer-2 c = search needs
-
-enum-known-answer-3 : tie.Need-enum-known-answer-3
-enum-known-answer-3 c = search needs
-
-slice-aggregate-payload : tie.Need-slice-aggregate-payload
-slice-aggregate-payload c = search needs
-
-payload-requires : tie.Need-payload-requires
-payload-requires c κs = search needs
-
 count-all-requires : tie.Need-count-all-requires
 count-all-requires c κs =
     let g = c in
@@ -50,24 +32,6 @@ fits-room-requires c κs =
     let z = sound s rs (a .settings) (six (a .list) (a .cues) (a .pictures) (a .ends) (a .shows) (a .header)) _ _ _ _ y in
     let w = ap (λ (n : Counts). n .shows) (c .before .before .before .before .before .before .count-all .ensures) in
     omega (arith, z .count, w)
-
-same-length : tie.Need-same-length
-same-length c = search needs
-
-same-length-2 : tie.Need-same-length-2
-same-length-2 c = search needs
-
-same-length-3 : tie.Need-same-length-3
-same-length-3 c = search needs
-
-same-length-4 : tie.Need-same-length-4
-same-length-4 c = search needs
-
-same-length-5 : tie.Need-same-length-5
-same-length-5 c = search needs
-
-same-length-6 : tie.Need-same-length-6
-same-length-6 c = search needs
 
 returns : tie.Need-returns
 returns c =
@@ -143,24 +107,6 @@ returns-3 c =
     let rs = now (a .segments) in
     plan-refused-in s rs (a .settings) (six (a .list) (a .cues) (a .pictures) (a .ends) (a .shows) (a .header)) _ (m .plan-multi .ensures) _ _ (c .before .answer2 .given .1)
 
-same-length-7 : tie.Need-same-length-7
-same-length-7 c = search needs
-
-same-length-8 : tie.Need-same-length-8
-same-length-8 c = search needs
-
-same-length-9 : tie.Need-same-length-9
-same-length-9 c = search needs
-
-same-length-10 : tie.Need-same-length-10
-same-length-10 c = search needs
-
-same-length-11 : tie.Need-same-length-11
-same-length-11 c = search needs
-
-same-length-12 : tie.Need-same-length-12
-same-length-12 c = search needs
-
 returns-4 : tie.Need-returns-4
 returns-4 c =
     let g = c .before .before .before .before .before .before .before .before .before .before .before .before .before .before .before .before .before .before .before .before .before .before .before .before .before .before .before .before .before .before .before in
@@ -179,20 +125,20 @@ pub assemble-multi-spec : {M : Type 1} → statement M
 assemble-multi-spec =
     tie.close
     (tie.spec
-    plan-multi-requires
-    enum-known-answer
-    enum-known-answer-2
-    enum-known-answer-3
-    slice-aggregate-payload
-    payload-requires
+    (λ c κs. search needs)
+    (λ c. search needs)
+    (λ c. search needs)
+    (λ c. search needs)
+    (λ c. search needs)
+    (λ c κs. search needs)
     count-all-requires
     fits-room-requires
-    same-length
-    same-length-2
-    same-length-3
-    same-length-4
-    same-length-5
-    same-length-6
+    (λ c. search needs)
+    (λ c. search needs)
+    (λ c. search needs)
+    (λ c. search needs)
+    (λ c. search needs)
+    (λ c. search needs)
     returns
     put-list-requires
     put-pictures-requires
@@ -200,10 +146,10 @@ assemble-multi-spec =
     put-sequence-obu-requires
     returns-2
     returns-3
-    same-length-7
-    same-length-8
-    same-length-9
-    same-length-10
-    same-length-11
-    same-length-12
+    (λ c. search needs)
+    (λ c. search needs)
+    (λ c. search needs)
+    (λ c. search needs)
+    (λ c. search needs)
+    (λ c. search needs)
     returns-4)

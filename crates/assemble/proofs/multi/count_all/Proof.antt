@@ -7,27 +7,6 @@ use Rattle.assemble.proofs.MultiLaws.{units-are, same-counts}
 use Rattle.assemble.proofs.multi.count_all.Statement.{statement}
 use Rattle.assemble.proofs.multi.count_all.Tie as tie
 
-segment-count-requires : tie.Need-segment-count-requires
-segment-count-requires c κs = search needs
-
-total-frames-requires : tie.Need-total-frames-requires
-total-frames-requires c κs = search needs
-
-count-cues-requires : tie.Need-count-cues-requires
-count-cues-requires c κs = search needs
-
-mul-t12 : tie.Need-mul-t12
-mul-t12 c = search needs
-
-mul-t13 : tie.Need-mul-t13
-mul-t13 c = search needs
-
-header-len-requires : tie.Need-header-len-requires
-header-len-requires c κs = search needs
-
-first-slot-requires : tie.Need-first-slot-requires
-first-slot-requires c κs = search needs
-
 returns : tie.Need-returns
 returns c =
     let z = c .before .before .before .before .before .before .before .before in
@@ -39,11 +18,11 @@ pub count-all-spec : {M : Type 1} → statement M
 count-all-spec =
     tie.close
     (tie.spec
-    segment-count-requires
-    total-frames-requires
-    count-cues-requires
-    mul-t12
-    mul-t13
-    header-len-requires
-    first-slot-requires
+    (λ c κs. search needs)
+    (λ c κs. search needs)
+    (λ c κs. search needs)
+    (λ c. search needs)
+    (λ c. search needs)
+    (λ c κs. search needs)
+    (λ c κs. search needs)
     returns)

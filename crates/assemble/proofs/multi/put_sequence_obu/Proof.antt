@@ -19,17 +19,11 @@ put-measured-requires c κs =
     let a = z .args in
     (one-passes, omega (arith, z .pre .1, length-new (now (a .picture)) (now (a .segments)) (now (a .new)) (a .basis) (c .before .if1 .taken)))
 
-same-length : tie.Need-same-length
-same-length c = search needs
-
 returns : tie.Need-returns
 returns c =
     let m = c .before .before in
     let a = m .before .before .before .before .before .before .before .args in
     m .put-measured .ensures .1 ∙ ap (pasted (now (a .out)) 0) (sym (header-is-new (now (a .picture)) (now (a .segments)) (now (a .new)) (a .basis) (m .before .before .if1 .taken)))
-
-own-payload-requires : tie.Need-own-payload-requires
-own-payload-requires c κs = search needs
 
 put-measured-requires-2 : tie.Need-put-measured-requires-2
 put-measured-requires-2 c κs =
@@ -37,9 +31,6 @@ put-measured-requires-2 c κs =
     let a = z .args in
     let l = ap (λ (l : List ℕ). obuLength (extensionSays (a .basis .extension)) (length l)) (c .own-payload .ensures) in
     (one-passes, omega (arith, z .pre .1, l, length-own (now (a .picture)) (now (a .segments)) (now (a .new)) (a .basis) (c .before .before .if1 .left)))
-
-same-length-2 : tie.Need-same-length-2
-same-length-2 c = search needs
 
 returns-2 : tie.Need-returns-2
 returns-2 c =
@@ -54,9 +45,9 @@ put-sequence-obu-spec =
     tie.close
     (tie.spec
     put-measured-requires
-    same-length
+    (λ c. search needs)
     returns
-    own-payload-requires
+    (λ c κs. search needs)
     put-measured-requires-2
-    same-length-2
+    (λ c. search needs)
     returns-2)

@@ -9,21 +9,6 @@ use Rattle.assemble.proofs.plan.check_input.Tie as tie
 returns : tie.Need-returns
 returns c = let a = c .before .before .before .args in check-long (now (a .picture)) (now (a .segments)) (a .gop) (c .if1 .taken)
 
-check-ranges-requires : tie.Need-check-ranges-requires
-check-ranges-requires c κs = search needs
-
-enum-told : tie.Need-enum-told
-enum-told c = search needs
-
-check-sizes-requires : tie.Need-check-sizes-requires
-check-sizes-requires c κs = search needs
-
-enum-known-ranges : tie.Need-enum-known-ranges
-enum-known-ranges c = search needs
-
-enum-known-ranges-2 : tie.Need-enum-known-ranges-2
-enum-known-ranges-2 c = search needs
-
 returns-2 : tie.Need-returns-2
 returns-2 c =
     let a = c .before .before .before .before .before .before .before .args in
@@ -45,11 +30,11 @@ check-input-spec =
     tie.close
     (tie.spec
     returns
-    check-ranges-requires
-    enum-told
-    check-sizes-requires
-    enum-known-ranges
-    enum-known-ranges-2
+    (λ c κs. search needs)
+    (λ c. search needs)
+    (λ c κs. search needs)
+    (λ c. search needs)
+    (λ c. search needs)
     returns-2
     returns-3
     returns-4)

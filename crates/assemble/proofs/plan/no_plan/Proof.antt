@@ -1,4 +1,3 @@
--- `assemble::plan::no_plan` meets its contract. Assumes nothing.
 use borrow.Author.Needs.{needs}
 use Rattle.assemble.proofs.PlanLaws.{none-is}
 use Rattle.assemble.proofs.plan.no_plan.Statement.{statement}

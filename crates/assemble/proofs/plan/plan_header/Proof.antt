@@ -19,42 +19,6 @@ use Rattle.assemble.proofs.plan.plan_header.Tie as tie
 first-payload : (c : tie.After-payload) → now (c .payload .result) ≡ part (headKey (now (c .before .before .before .before .args .picture)) (now (c .before .before .before .before .args .segments))) (c .before .before .before .before .args .obu .start) (c .before .before .before .before .args .obu .end)
 first-payload c = let a = c .before .before .before .before .args in c .payload .ensures ∙ ap (λ (u : List ℕ). part u (a .obu .start) (a .obu .end)) (c .before .key-of .ensures)
 
-key-of-requires : tie.Need-key-of-requires
-key-of-requires c κs = search needs
-
-payload-requires : tie.Need-payload-requires
-payload-requires c κs = search needs
-
-read-supported-requires : tie.Need-read-supported-requires
-read-supported-requires c κs = search needs
-
-enum-known-answer : tie.Need-enum-known-answer
-enum-known-answer c = search needs
-
-no-plan-requires : tie.Need-no-plan-requires
-no-plan-requires c κs = search needs
-
-enum-known-answer-2 : tie.Need-enum-known-answer-2
-enum-known-answer-2 c = search needs
-
-same-headers-requires : tie.Need-same-headers-requires
-same-headers-requires c κs = search needs
-
-enum-known-k : tie.Need-enum-known-k
-enum-known-k c = search needs
-
-no-plan-requires-2 : tie.Need-no-plan-requires-2
-no-plan-requires-2 c κs = search needs
-
-enum-known-k-2 : tie.Need-enum-known-k-2
-enum-known-k-2 c = search needs
-
-no-plan-requires-3 : tie.Need-no-plan-requires-3
-no-plan-requires-3 c κs = search needs
-
-enum-told : tie.Need-enum-told
-enum-told c = search needs
-
 plan-timing-requires : tie.Need-plan-timing-requires
 plan-timing-requires c κs =
     let r = c .before .before .before .before .before .before .before in
@@ -114,18 +78,18 @@ pub plan-header-spec : {M : Type 1} → statement M
 plan-header-spec =
     tie.close
     (tie.spec
-    key-of-requires
-    payload-requires
-    read-supported-requires
-    enum-known-answer
-    no-plan-requires
-    enum-known-answer-2
-    same-headers-requires
-    enum-known-k
-    no-plan-requires-2
-    enum-known-k-2
-    no-plan-requires-3
-    enum-told
+    (λ c κs. search needs)
+    (λ c κs. search needs)
+    (λ c κs. search needs)
+    (λ c. search needs)
+    (λ c κs. search needs)
+    (λ c. search needs)
+    (λ c κs. search needs)
+    (λ c. search needs)
+    (λ c κs. search needs)
+    (λ c. search needs)
+    (λ c κs. search needs)
+    (λ c. search needs)
     plan-timing-requires
     returns
     returns-2

@@ -19,38 +19,8 @@ fit c = sym (ap checkedSays (c .enum-told .given .1)) ∙ c .before .before .che
 sound : (c : tie.After-enum-told) → Sound (c .before .before .before .before .before .args .settings .gop) (now (c .before .before .before .before .before .args .segments))
 sound c = checked-sound (now (c .before .before .before .before .before .args .picture)) (now (c .before .before .before .before .before .args .segments)) (c .before .before .before .before .before .args .settings .gop) (sym (fit c))
 
-check-input-requires : tie.Need-check-input-requires
-check-input-requires c κs = search needs
-
-enum-known-k : tie.Need-enum-known-k
-enum-known-k c = search needs
-
-no-plan-requires : tie.Need-no-plan-requires
-no-plan-requires c κs = search needs
-
-enum-known-k-2 : tie.Need-enum-known-k-2
-enum-known-k-2 c = search needs
-
-no-plan-requires-2 : tie.Need-no-plan-requires-2
-no-plan-requires-2 c κs = search needs
-
-enum-told : tie.Need-enum-told
-enum-told c = search needs
-
 key-of-requires : tie.Need-key-of-requires
 key-of-requires c κs = omega (arith, sound c .some-there)
-
-first-sequence-requires : tie.Need-first-sequence-requires
-first-sequence-requires c κs = search needs
-
-enum-known-k-3 : tie.Need-enum-known-k-3
-enum-known-k-3 c = search needs
-
-no-plan-requires-3 : tie.Need-no-plan-requires-3
-no-plan-requires-3 c κs = search needs
-
-enum-known-obu : tie.Need-enum-known-obu
-enum-known-obu c = search needs
 
 plan-header-requires : tie.Need-plan-header-requires
 plan-header-requires c κs =
@@ -100,17 +70,17 @@ pub plan-multi-spec : {M : Type 1} → statement M
 plan-multi-spec =
     tie.close
     (tie.spec
-    check-input-requires
-    enum-known-k
-    no-plan-requires
-    enum-known-k-2
-    no-plan-requires-2
-    enum-told
+    (λ c κs. search needs)
+    (λ c. search needs)
+    (λ c κs. search needs)
+    (λ c. search needs)
+    (λ c κs. search needs)
+    (λ c. search needs)
     key-of-requires
-    first-sequence-requires
-    enum-known-k-3
-    no-plan-requires-3
-    enum-known-obu
+    (λ c κs. search needs)
+    (λ c. search needs)
+    (λ c κs. search needs)
+    (λ c. search needs)
     plan-header-requires
     returns
     returns-2

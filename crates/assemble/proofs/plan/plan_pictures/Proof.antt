@@ -11,24 +11,6 @@ use Rattle.assemble.proofs.PlanLaws.{none-planned-in, pictures-refused,
 use Rattle.assemble.proofs.plan.plan_pictures.Statement.{statement}
 use Rattle.assemble.proofs.plan.plan_pictures.Tie as tie
 
-slice-aggregate-payload : tie.Need-slice-aggregate-payload
-slice-aggregate-payload c = search needs
-
-payload-requires : tie.Need-payload-requires
-payload-requires c κs = search needs
-
-measure-pictures-requires : tie.Need-measure-pictures-requires
-measure-pictures-requires c κs = search needs
-
-enum-known-k : tie.Need-enum-known-k
-enum-known-k c = search needs
-
-no-plan-requires : tie.Need-no-plan-requires
-no-plan-requires c κs = search needs
-
-enum-known-n : tie.Need-enum-known-n
-enum-known-n c = search needs
-
 returns : tie.Need-returns
 returns c =
     let m = c .before .before .before .before in
@@ -53,11 +35,11 @@ pub plan-pictures-spec : {M : Type 1} → statement M
 plan-pictures-spec =
     tie.close
     (tie.spec
-    slice-aggregate-payload
-    payload-requires
-    measure-pictures-requires
-    enum-known-k
-    no-plan-requires
-    enum-known-n
+    (λ c. search needs)
+    (λ c κs. search needs)
+    (λ c κs. search needs)
+    (λ c. search needs)
+    (λ c κs. search needs)
+    (λ c. search needs)
     returns
     returns-2)

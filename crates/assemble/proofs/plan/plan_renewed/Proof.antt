@@ -8,18 +8,6 @@ use Rattle.assemble.proofs.PlanLaws.{new-there, renewed-pictures, heade
 use Rattle.assemble.proofs.plan.plan_renewed.Statement.{statement}
 use Rattle.assemble.proofs.plan.plan_renewed.Tie as tie
 
-slice-aggregate-emit-sequence-header : tie.Need-slice-aggregate-emit-sequence-header
-slice-aggregate-emit-sequence-header c = search needs
-
-emit-sequence-header-requires : tie.Need-emit-sequence-header-requires
-emit-sequence-header-requires c κs = search needs
-
-emitted-len-requires : tie.Need-emitted-len-requires
-emitted-len-requires c κs = search needs
-
-plan-pictures-requires : tie.Need-plan-pictures-requires
-plan-pictures-requires c κs = search needs
-
 returns : tie.Need-returns
 returns c =
     let e = c .before .before .before in
@@ -35,8 +23,8 @@ pub plan-renewed-spec : {M : Type 1} → statement M
 plan-renewed-spec =
     tie.close
     (tie.spec
-    slice-aggregate-emit-sequence-header
-    emit-sequence-header-requires
-    emitted-len-requires
-    plan-pictures-requires
+    (λ c. search needs)
+    (λ c κs. search needs)
+    (λ c κs. search needs)
+    (λ c κs. search needs)
     returns)

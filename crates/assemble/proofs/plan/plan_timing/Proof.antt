@@ -9,9 +9,6 @@ use Rattle.assemble.proofs.PlanLaws.{timing-there, timing-new, header-o
 use Rattle.assemble.proofs.plan.plan_timing.Statement.{statement}
 use Rattle.assemble.proofs.plan.plan_timing.Tie as tie
 
-plan-pictures-requires : tie.Need-plan-pictures-requires
-plan-pictures-requires c κs = search needs
-
 returns : tie.Need-returns
 returns c =
     let a = c .before .before .before .before .args in
@@ -20,18 +17,6 @@ returns c =
     c .plan-pictures .ensures
     ∙ timing-there s rs (a .settings) (obuIn (headKey s rs) (a .obu)) (sequenceOf (a .header) (a .points)) _ _ (c .before .if1 .taken)
     (header-own s rs _ _ (a .obu) (c .before .before .before .before .pre .0) refl refl refl refl)
-
-with-timing-info-rate-requires : tie.Need-with-timing-info-rate-requires
-with-timing-info-rate-requires c κs = search needs
-
-enum-known-k : tie.Need-enum-known-k
-enum-known-k c = search needs
-
-no-plan-requires : tie.Need-no-plan-requires
-no-plan-requires c κs = search needs
-
-enum-known-timed : tie.Need-enum-known-timed
-enum-known-timed c = search needs
 
 plan-renewed-requires : tie.Need-plan-renewed-requires
 plan-renewed-requires c κs =
@@ -63,12 +48,12 @@ pub plan-timing-spec : {M : Type 1} → statement M
 plan-timing-spec =
     tie.close
     (tie.spec
-    plan-pictures-requires
+    (λ c κs. search needs)
     returns
-    with-timing-info-rate-requires
-    enum-known-k
-    no-plan-requires
-    enum-known-timed
+    (λ c κs. search needs)
+    (λ c. search needs)
+    (λ c κs. search needs)
+    (λ c. search needs)
     plan-renewed-requires
     returns-2
     returns-3)

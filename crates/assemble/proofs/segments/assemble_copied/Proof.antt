@@ -1,4 +1,3 @@
--- `assemble::segments::assemble_copied` meets its contract. Assumes nothing.
 use borrow.Author.Needs.{needs}
 use Prim.Native.Nat.{_*_, _-_}
 use mathlib.Core.Path.{refl, sym}
@@ -23,42 +22,6 @@ returns-2 c =
     let e = copied-refused (now (a .picture)) (a .count) (now (a .numbers)) (a .settings) (six (a .list) (a .cues) (a .pictures) (a .ends) (a .shows) (a .header)) (c .before .if1 .taken) (c .if2 .left) in
     (kept _ _ _ refl (sym e), refl)
 
-mul-assemble-multi : tie.Need-mul-assemble-multi
-mul-assemble-multi c = search needs
-
-sub-assemble-multi : tie.Need-sub-assemble-multi
-sub-assemble-multi c = search needs
-
-part-assemble-multi-start : tie.Need-part-assemble-multi-start
-part-assemble-multi-start c = search needs
-
-part-assemble-multi-end : tie.Need-part-assemble-multi-end
-part-assemble-multi-end c = search needs
-
-assemble-multi-requires : tie.Need-assemble-multi-requires
-assemble-multi-requires c κs = search needs
-
-same-length : tie.Need-same-length
-same-length c = search needs
-
-same-length-2 : tie.Need-same-length-2
-same-length-2 c = search needs
-
-same-length-3 : tie.Need-same-length-3
-same-length-3 c = search needs
-
-same-length-4 : tie.Need-same-length-4
-same-length-4 c = search needs
-
-same-length-5 : tie.Need-same-length-5
-same-length-5 c = search needs
-
-same-length-6 : tie.Need-same-length-6
-same-length-6 c = search needs
-
-same-length-7 : tie.Need-same-length-7
-same-length-7 c = search needs
-
 returns-3 : tie.Need-returns-3
 returns-3 c =
     let a = c .before .before .before .before .before .before .before .before .before .before .before .before .before .before .before .before .before .before .before .before .before .before .before .before .before .before .before .before .before .before .args in
@@ -72,16 +35,16 @@ assemble-copied-spec =
     (tie.spec
     returns
     returns-2
-    mul-assemble-multi
-    sub-assemble-multi
-    part-assemble-multi-start
-    part-assemble-multi-end
-    assemble-multi-requires
-    same-length
-    same-length-2
-    same-length-3
-    same-length-4
-    same-length-5
-    same-length-6
-    same-length-7
+    (λ c. search needs)
+    (λ c. search needs)
+    (λ c. search needs)
+    (λ c. search needs)
+    (λ c κs. search needs)
+    (λ c. search needs)
+    (λ c. search needs)
+    (λ c. search needs)
+    (λ c. search needs)
+    (λ c. search needs)
+    (λ c. search needs)
+    (λ c. search needs)
     returns-3)

@@ -1,5 +1,5 @@
 -- `assemble::segments::assemble_segments` meets its contract: a walk of its MIR, by hand, straight through two calls.
--- The numbers are lent to `copy_segments` for a lifetime of the call, and come back as it ensures. Then all is handed to `assemble_copied` at its own lifetime, share and ghost name, and what that says of the last values is what is promised. Assumes nothing.
+-- The numbers are lent to `copy_segments` for a lifetime of the call, and come back as it ensures. Then all is handed to `assemble_copied` at its own lifetime, share and ghost name, and what that says of the last values is what is promised.
 use mathlib.Core.Path.{_≡_, refl, sym, _∙_, ap, fun-ext}
 use Prim.Native.Nat.{ℕ}
 use mathlib.Core.List.{List, [], _∷_}

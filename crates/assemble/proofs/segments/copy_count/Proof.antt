@@ -1,4 +1,3 @@
--- `assemble::segments::copy_count` meets its contract. Assumes nothing.
 use Rattle.assemble.proofs.RecordLaws.{copy-all, copy-none}
 use Rattle.assemble.proofs.segments.copy_count.Statement.{statement}
 use Rattle.assemble.proofs.segments.copy_count.Tie as tie

@@ -1,6 +1,6 @@
 -- `assemble::segments::copy_segments` meets its contract: a walk of its MIR, by hand, with a call before its loop and one in each turn.
 -- The slice of segments is looked into once, before the loop, and shut after it. In a turn one segment is copied out, the numbers are lent again for a lifetime of the call, and come back as `put_numbers` ensures.
--- The loop's state is the index, the place and the numbers, with what is known of them; its measure is what is left. Assumes nothing.
+-- The loop's state is the index, the place and the numbers, with what is known of them; its measure is what is left.
 use mathlib.Core.Path.{_≡_, refl, sym, ap, subst}
 use Prim.Native.Nat.{ℕ, _+_, _-_, _*_, _<_, _^_}
 use native.Mathlib.Nat.{lt-of-le-of-lt}

@@ -1,4 +1,3 @@
--- `assemble::blocks::count_cue` meets its contract. Assumes nothing.
 use borrow.Author.Needs.{needs}
 use Rattle.blocks.proofs.CountLaws.{one-more, none-more}
 use Rattle.blocks.proofs.blocks.count_cue.Statement.{statement}

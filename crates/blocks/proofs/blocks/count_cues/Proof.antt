@@ -1,4 +1,3 @@
--- `blocks::blocks::count_cues` meets its contract. Assumes nothing.
 use borrow.Author.Needs.{needs}
 use native.Mathlib.Omega.{arith}
 use Rattle.blocks.proofs.CountLaws.{CountingAll, all-start, all-end, all-small, all-turn}
@@ -13,14 +12,8 @@ Inv-loop gop segments count i₀ n₀ i n = CountingAll gop segments i n
 abbrev μ-loop : tie.MeasureT-loop
 μ-loop gop segments count i₀ n₀ i n = segmentCount segments - i
 
-segment-count-requires : tie.Need-segment-count-requires Inv-loop μ-loop
-segment-count-requires c κs = search needs
-
 loop-holds : tie.Need-loop-holds Inv-loop μ-loop
 loop-holds c = all-start _ _
-
-frames-of-requires : tie.Need-frames-of-requires Inv-loop μ-loop
-frames-of-requires c κs = search needs
 
 count-segment-requires : tie.Need-count-segment-requires Inv-loop μ-loop
 count-segment-requires c κs = c .before .before .before .before .before .pre .0
@@ -30,12 +23,6 @@ add-n c =
     let r = rw (c .before .frames-of .ensures) at (c .count-segment .ensures) in
     let p = c .before .before .before .before .before .before .pre in
     omega (arith, all-small (c .before .before .before .loop .inv) (omega arith) _ (p .0) r, p .1)
-
-add-i : tie.Need-add-i Inv-loop μ-loop
-add-i c = search needs
-
-loop-less : tie.Need-loop-less Inv-loop μ-loop
-loop-less c = search needs
 
 loop-again : tie.Need-loop-again Inv-loop μ-loop
 loop-again c = all-turn (c .before .before .before .loop .inv) (omega arith) _ (rw (c .before .frames-of .ensures) at (c .count-segment .ensures))
@@ -49,12 +36,12 @@ count-cues-spec =
     (tie.spec
     Inv-loop
     μ-loop
-    segment-count-requires
+    (λ c κs. search needs)
     loop-holds
-    frames-of-requires
+    (λ c κs. search needs)
     count-segment-requires
     add-n
-    add-i
-    loop-less
+    (λ c. search needs)
+    (λ c. search needs)
     loop-again
     returns)

@@ -1,4 +1,3 @@
--- `blocks::blocks::count_segment` meets its contract. Assumes nothing.
 use borrow.Author.Needs.{needs}
 use native.Mathlib.Omega.{arith}
 use Rattle.blocks.proofs.CountLaws.{Counting, counting-start, counting-end, counting-turn}
@@ -14,9 +13,6 @@ abbrev μ-loop : tie.MeasureT-loop
 
 loop-holds : tie.Need-loop-holds Inv-loop μ-loop
 loop-holds c = counting-start _ _
-
-next-block-requires : tie.Need-next-block-requires Inv-loop μ-loop
-next-block-requires c κs = search needs
 
 count-cue-requires : tie.Need-count-cue-requires Inv-loop μ-loop
 count-cue-requires c κs = omega (arith, c .before .before .before .loop .inv .small, c .before .if1 .taken)
@@ -41,7 +37,7 @@ count-segment-spec =
     Inv-loop
     μ-loop
     loop-holds
-    next-block-requires
+    (λ c κs. search needs)
     count-cue-requires
     loop-less
     loop-again

@@ -1,4 +1,3 @@
--- `blocks::blocks::next_block` meets its contract. Assumes nothing.
 use borrow.Author.Needs.{needs}
 use Rattle.blocks.proofs.LayLaws.{next-is}
 use Rattle.blocks.proofs.blocks.next_block.Statement.{statement}

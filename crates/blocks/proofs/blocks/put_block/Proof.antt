@@ -1,4 +1,3 @@
--- `assemble::blocks::put_block` meets its contract. Assumes nothing.
 use borrow.Author.Needs.{needs}
 use native.Mathlib.Omega.{arith}
 use Prim.Native.Nat.{ℕ, _-_, _+_, _*_}
@@ -15,23 +14,8 @@ use Rattle.blocks.proofs.LayLaws.{block-one, block-more, two-and-more, 
 use Rattle.blocks.proofs.blocks.put_block.Statement.{statement}
 use Rattle.blocks.proofs.blocks.put_block.Tie as tie
 
-mul-key : tie.Need-mul-key
-mul-key c = search needs
-
-lone-requires : tie.Need-lone-requires
-lone-requires c κs = search needs
-
 add-list : tie.Need-add-list
 add-list c = let s = c .before .before .before in omega (arith, c .lone .ensures, code-small (pick (s .args .after) Show Key), s .pre .1 .1)
-
-mul-list : tie.Need-mul-list
-mul-list c = search needs
-
-slice-write-list : tie.Need-slice-write-list
-slice-write-list c = search needs
-
-same-length : tie.Need-same-length
-same-length c = search needs
 
 returns : tie.Need-returns
 returns c =
@@ -41,29 +25,8 @@ returns c =
     ∙ pasted-one (now (a .list)) (a .at) _ (omega (arith, s .pre .0, s .pre .1 .0))
     ∙ ap (pasted (now (a .list)) (a .at)) (block-one (a .segment) (a .n) (a .after) (s .pre .1 .0) (c .before .if1 .taken))
 
-mul-list-2 : tie.Need-mul-list-2
-mul-list-2 c = search needs
-
-slice-write-list-2 : tie.Need-slice-write-list-2
-slice-write-list-2 c = search needs
-
-add-golden : tie.Need-add-golden
-add-golden c = search needs
-
-add-list-2 : tie.Need-add-list-2
-add-list-2 c = search needs
-
-mul-list-3 : tie.Need-mul-list-3
-mul-list-3 c = search needs
-
 slice-write-list-3 : tie.Need-slice-write-list-3
 slice-write-list-3 c = simp length-set (omega arith)
-
-add-fill : tie.Need-add-fill
-add-fill c = search needs
-
-add-fill-2 : tie.Need-add-fill-2
-add-fill-2 c = search needs
 
 fill-requires : tie.Need-fill-requires
 fill-requires c κs = simp length-set (omega arith)
@@ -88,21 +51,21 @@ pub put-block-spec : {M : Type 1} → statement M
 put-block-spec =
     tie.close
     (tie.spec
-    mul-key
-    lone-requires
+    (λ c. search needs)
+    (λ c κs. search needs)
     add-list
-    mul-list
-    slice-write-list
-    same-length
+    (λ c. search needs)
+    (λ c. search needs)
+    (λ c. search needs)
     returns
-    mul-list-2
-    slice-write-list-2
-    add-golden
-    add-list-2
-    mul-list-3
+    (λ c. search needs)
+    (λ c. search needs)
+    (λ c. search needs)
+    (λ c. search needs)
+    (λ c. search needs)
     slice-write-list-3
-    add-fill
-    add-fill-2
+    (λ c. search needs)
+    (λ c. search needs)
     fill-requires
     same-length-2
     returns-2)

@@ -1,4 +1,3 @@
--- `assemble::blocks::put_cue` meets its contract. Assumes nothing.
 use borrow.Author.Needs.{needs}
 use Prim.Native.Nat.{_<_}
 use lib.ListN.{length}
@@ -10,23 +9,8 @@ use Rattle.blocks.proofs.blocks.put_cue.Tie as tie
 room : (c : tie.Then1) → c .before .args .c < length (now (c .before .args .cues))
 room c = let a = c .before .args in cue-room (a .key) (a .c) (a .at) (length (now (a .cues))) (c .if1 .taken) (c .before .pre .0)
 
-cast-cues : tie.Need-cast-cues
-cast-cues c = search needs
-
-add-cues : tie.Need-add-cues
-add-cues c = search needs
-
-mul-cues : tie.Need-mul-cues
-mul-cues c = search needs
-
 slice-write-cues : tie.Need-slice-write-cues
 slice-write-cues c = room c
-
-add-result : tie.Need-add-result
-add-result c = search needs
-
-same-length : tie.Need-same-length
-same-length c = search needs
 
 returns : tie.Need-returns
 returns c =
@@ -40,11 +24,11 @@ pub put-cue-spec : {M : Type 1} → statement M
 put-cue-spec =
     tie.close
     (tie.spec
-    cast-cues
-    add-cues
-    mul-cues
+    (λ c. search needs)
+    (λ c. search needs)
+    (λ c. search needs)
     slice-write-cues
-    add-result
-    same-length
+    (λ c. search needs)
+    (λ c. search needs)
     returns
     returns-2)

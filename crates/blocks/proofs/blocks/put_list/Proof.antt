@@ -1,4 +1,3 @@
--- `blocks::blocks::put_list` meets its contract. Assumes nothing.
 use borrow.Author.Needs.{needs}
 use native.Mathlib.Omega.{arith}
 use Rattle.blocks.proofs.ListLaws.{Listing, list-start, list-end, list-room, list-small, list-turn}
@@ -14,14 +13,8 @@ Inv-loop list₀ cues₀ gop segments count i₀ at₀ c₀ list cues i at c = L
 abbrev μ-loop : tie.MeasureT-loop
 μ-loop list₀ cues₀ gop segments count i₀ at₀ c₀ list cues i at c = segmentCount segments - i
 
-segment-count-requires : tie.Need-segment-count-requires Inv-loop μ-loop
-segment-count-requires c κs = search needs
-
 loop-holds : tie.Need-loop-holds Inv-loop μ-loop
 loop-holds c = let s = c .before .before .before .before in list-start (now (s .args .list)) (now (s .args .cues)) (s .args .gop) (now (s .args .segments)) (s .pre)
-
-frames-of-requires : tie.Need-frames-of-requires Inv-loop μ-loop
-frames-of-requires c κs = search needs
 
 cast-put-segment : tie.Need-cast-put-segment Inv-loop μ-loop
 cast-put-segment c = omega (arith, c .before .before .before .before .before .before .before .before .before .pre .segments)
@@ -35,12 +28,6 @@ add-at : tie.Need-add-at Inv-loop μ-loop
 add-at c =
     let g = c .before .before .before .before .before .before .before .before .before .before .before .before .before .before .pre in
     omega (arith, list-small (c .before .before .before .before .before .before .before .before .before .loop .inv) (omega arith) (g .gop-size), c .before .before .before .before .before .before .before .frames-of .ensures)
-
-add-i : tie.Need-add-i Inv-loop μ-loop
-add-i c = search needs
-
-loop-less : tie.Need-loop-less Inv-loop μ-loop
-loop-less c = search needs
 
 loop-again : tie.Need-loop-again Inv-loop μ-loop
 loop-again c =
@@ -63,14 +50,14 @@ put-list-spec =
     (tie.spec
     Inv-loop
     μ-loop
-    segment-count-requires
+    (λ c κs. search needs)
     loop-holds
-    frames-of-requires
+    (λ c κs. search needs)
     cast-put-segment
     put-segment-requires
     add-at
-    add-i
-    loop-less
+    (λ c. search needs)
+    (λ c. search needs)
     loop-again
     same-length
     same-length-2

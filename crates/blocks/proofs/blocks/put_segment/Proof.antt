@@ -1,4 +1,3 @@
--- `blocks::blocks::put_segment` meets its contract. Assumes nothing.
 use borrow.Author.Needs.{needs}
 use native.Mathlib.Omega.{arith}
 use Rattle.blocks.proofs.LayLaws.{next-some, next-left, Segmenting, segment-start, segment-end, segment-list-room, segment-small, segment-cue-room, segment-turn}
@@ -14,9 +13,6 @@ abbrev μ-loop : tie.MeasureT-loop
 
 loop-holds : tie.Need-loop-holds Inv-loop μ-loop
 loop-holds c = let a = c .before .before .args in segment-start (now (a .list)) (now (a .cues)) (a .at) (a .c) (a .segment) (a .gop) (a .frames) (c .before .before .pre .0)
-
-next-block-requires : tie.Need-next-block-requires Inv-loop μ-loop
-next-block-requires c κs = search needs
 
 put-block-requires : tie.Need-put-block-requires Inv-loop μ-loop
 put-block-requires c κs =
@@ -71,7 +67,7 @@ put-segment-spec =
     Inv-loop
     μ-loop
     loop-holds
-    next-block-requires
+    (λ c κs. search needs)
     put-block-requires
     put-cue-requires
     add-p

@@ -1,4 +1,3 @@
--- `blocks::numbers::frames_of` meets its contract. Assumes nothing.
 use borrow.Author.Needs.{needs}
 use denote.Ref.{now}
 use Rattle.blocks.proofs.NumberLaws.{number-at}

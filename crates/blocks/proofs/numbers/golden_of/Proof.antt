@@ -1,34 +1,9 @@
--- `blocks::numbers::golden_of` meets its contract. Assumes nothing.
 use borrow.Author.Needs.{needs}
 use mathlib.Core.Path.{_∙_}
 use denote.Ref.{now}
 use Rattle.blocks.proofs.NumberLaws.{golden-at}
 use Rattle.blocks.proofs.numbers.golden_of.Statement.{statement}
 use Rattle.blocks.proofs.numbers.golden_of.Tie as tie
-
-mul-at : tie.Need-mul-at
-mul-at c = search needs
-
-add-payload : tie.Need-add-payload
-add-payload c = search needs
-
-mul-payload : tie.Need-mul-payload
-mul-payload c = search needs
-
-shared-slice-read-payload : tie.Need-shared-slice-read-payload
-shared-slice-read-payload c = search needs
-
-add-payload-2 : tie.Need-add-payload-2
-add-payload-2 c = search needs
-
-mul-payload-2 : tie.Need-mul-payload-2
-mul-payload-2 c = search needs
-
-shared-slice-read-payload-2 : tie.Need-shared-slice-read-payload-2
-shared-slice-read-payload-2 c = search needs
-
-payload-requires : tie.Need-payload-requires
-payload-requires c κs = search needs
 
 returns : tie.Need-returns
 returns c = let a = c .before .before .before .before .before .args in c .payload .ensures ∙ golden-at (now (a .picture)) (now (a .segments)) (a .i)
@@ -37,12 +12,12 @@ pub golden-of-spec : {M : Type 1} → statement M
 golden-of-spec =
     tie.close
     (tie.spec
-    mul-at
-    add-payload
-    mul-payload
-    shared-slice-read-payload
-    add-payload-2
-    mul-payload-2
-    shared-slice-read-payload-2
-    payload-requires
+    (λ c. search needs)
+    (λ c. search needs)
+    (λ c. search needs)
+    (λ c. search needs)
+    (λ c. search needs)
+    (λ c. search needs)
+    (λ c. search needs)
+    (λ c κs. search needs)
     returns)

@@ -1,4 +1,4 @@
--- `boardplay::cues::play_cues` is safe and ends. The loop's invariant: the buffers keep their lengths. The measure is the number of turns left. Assumes nothing.
+-- `boardplay::cues::play_cues` is safe and ends. The loop's invariant: the buffers keep their lengths. The measure is the number of turns left.
 use borrow.Author.Needs.{needs}
 use native.Mathlib.Omega.{arith}
 use Prim.Native.Nat.{_-_, _*_}

@@ -1,4 +1,4 @@
--- `boardplay::text::put_positions` is safe and ends. Assumes nothing.
+-- `boardplay::text::put_positions` is safe and ends.
 use borrow.Author.Needs.{needs}
 use Prim.Native.Nat.{_≤_, _-_}
 use mathlib.Core.Path.{_≡_}

@@ -27,23 +27,11 @@ got c = is-placed _ _ (sym (c .before .before .obu-at .ensures) ∙ ap obuSays (
 loop-holds : tie.Need-loop-holds Inv-loop μ-loop
 loop-holds c = nexting-start (c .before .pre .1)
 
-obu-at-requires : tie.Need-obu-at-requires Inv-loop μ-loop
-obu-at-requires c κs = search needs
-
-enum-known-o : tie.Need-enum-known-o Inv-loop μ-loop
-enum-known-o c = search needs
-
 returns : tie.Need-returns Inv-loop μ-loop
 returns c =
     let k = c .before in
     let t = k .before .loop-test .taken in
     absurd (range-found _ (k .before .before .loop .inv .behind) t (not-found _ _ (k .obu-at .result) (c .match .keys2) t (k .obu-at .ensures)))
-
-is-type-requires : tie.Need-is-type-requires Inv-loop μ-loop
-is-type-requires c κs = search needs
-
-is-type-requires-2 : tie.Need-is-type-requires-2 Inv-loop μ-loop
-is-type-requires-2 c κs = search needs
 
 returns-2 : tie.Need-returns-2 Inv-loop μ-loop
 returns-2 c =
@@ -73,11 +61,11 @@ to-next-spec =
     Inv-loop
     μ-loop
     loop-holds
-    obu-at-requires
-    enum-known-o
+    (λ c κs. search needs)
+    (λ c. search needs)
     returns
-    is-type-requires
-    is-type-requires-2
+    (λ c κs. search needs)
+    (λ c κs. search needs)
     returns-2
     loop-less
     loop-again

@@ -15,12 +15,6 @@ abbrev μ-loop : tie.MeasureT-loop
 loop-holds : tie.Need-loop-holds Inv-loop μ-loop
 loop-holds c = checking-start
 
-mul-e : tie.Need-mul-e Inv-loop μ-loop
-mul-e c = search needs
-
-shared-slice-read-e : tie.Need-shared-slice-read-e Inv-loop μ-loop
-shared-slice-read-e c = search needs
-
 cast-e : tie.Need-cast-e Inv-loop μ-loop
 cast-e c = omega (arith, c .shared-slice-known .given (c .before .before .loop .i))
 
@@ -28,12 +22,6 @@ returns : tie.Need-returns Inv-loop μ-loop
 returns c =
     let i = c .before .before in
     checking-fall (i .before .loop .inv) (i .loop-test .taken) (c .if1 .taken)
-
-add-i : tie.Need-add-i Inv-loop μ-loop
-add-i c = search needs
-
-loop-less : tie.Need-loop-less Inv-loop μ-loop
-loop-less c = search needs
 
 loop-again : tie.Need-loop-again Inv-loop μ-loop
 loop-again c =
@@ -50,11 +38,11 @@ check-ends-spec =
     Inv-loop
     μ-loop
     loop-holds
-    mul-e
-    shared-slice-read-e
+    (λ c. search needs)
+    (λ c. search needs)
     cast-e
     returns
-    add-i
-    loop-less
+    (λ c. search needs)
+    (λ c. search needs)
     loop-again
     returns-2)

@@ -24,21 +24,12 @@ some-kept c =
     let a = c .before .before .before .before in
     kept-some (a .args .keep) (there a) (sym (c .before .is-kept .ensures) ∙ c .if1 .taken)
 
-is-kept-requires : tie.Need-is-kept-requires
-is-kept-requires c κs = search needs
-
-payload-requires : tie.Need-payload-requires
-payload-requires c κs = search needs
-
 put-measured-requires : tie.Need-put-measured-requires
 put-measured-requires c κs =
     let b = c .before .before in
     let a = b .before .before .before .before in
     let e = ap length (some-kept b) ∙ obu-length (there a) in
     rw (c .payload .ensures) (a .pre .0, omega (arith, a .pre .1))
-
-same-length : tie.Need-same-length
-same-length c = search needs
 
 returns : tie.Need-returns
 returns c =
@@ -59,9 +50,9 @@ pub put-kept-spec : {M : Type 1} → statement M
 put-kept-spec =
     tie.close
     (tie.spec
-    is-kept-requires
-    payload-requires
+    (λ c κs. search needs)
+    (λ c κs. search needs)
     put-measured-requires
-    same-length
+    (λ c. search needs)
     returns
     returns-2)

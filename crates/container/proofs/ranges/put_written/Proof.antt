@@ -25,12 +25,6 @@ got c = is-placed _ _ (sym (c .before .before .obu-at .ensures) ∙ ap obuSays (
 loop-holds : tie.Need-loop-holds Inv-loop μ-loop
 loop-holds c = put-start (c .before .before .pre)
 
-obu-at-requires : tie.Need-obu-at-requires Inv-loop μ-loop
-obu-at-requires c κs = search needs
-
-enum-known-o : tie.Need-enum-known-o Inv-loop μ-loop
-enum-known-o c = search needs
-
 same-length : tie.Need-same-length Inv-loop μ-loop
 same-length c = c .before .before .before .loop .inv .long
 
@@ -74,8 +68,8 @@ put-written-spec =
     Inv-loop
     μ-loop
     loop-holds
-    obu-at-requires
-    enum-known-o
+    (λ c κs. search needs)
+    (λ c. search needs)
     same-length
     returns
     put-kept-requires

@@ -25,12 +25,6 @@ got c = is-placed _ _ (sym (c .before .before .obu-at .ensures) ∙ ap obuSays (
 loop-holds : tie.Need-loop-holds Inv-loop μ-loop
 loop-holds c = measure-start (c .before .pre)
 
-obu-at-requires : tie.Need-obu-at-requires Inv-loop μ-loop
-obu-at-requires c κs = search needs
-
-enum-known-o : tie.Need-enum-known-o Inv-loop μ-loop
-enum-known-o c = search needs
-
 returns : tie.Need-returns Inv-loop μ-loop
 returns c =
     let k = c .before in
@@ -74,8 +68,8 @@ written-len-spec =
     Inv-loop
     μ-loop
     loop-holds
-    obu-at-requires
-    enum-known-o
+    (λ c κs. search needs)
+    (λ c. search needs)
     returns
     kept-len-requires
     add-n

@@ -5,12 +5,6 @@ use Rattle.container.proofs.StreamTurns.{roomy-most}
 use Rattle.container.proofs.stream.is_roomy.Statement.{statement}
 use Rattle.container.proofs.stream.is_roomy.Tie as tie
 
-most-units-requires : tie.Need-most-units-requires
-most-units-requires c κs = search needs
-
-has-room-requires : tie.Need-has-room-requires
-has-room-requires c κs = search needs
-
 returns : tie.Need-returns
 returns c =
     let h = c .before in
@@ -19,9 +13,6 @@ returns c =
 
 measure-requires : tie.Need-measure-requires
 measure-requires c κs = c .before .before .before .before .pre .stream
-
-has-room-requires-2 : tie.Need-has-room-requires-2
-has-room-requires-2 c κs = search needs
 
 returns-2 : tie.Need-returns-2
 returns-2 c =
@@ -32,9 +23,9 @@ pub is-roomy-spec : {M : Type 1} → statement M
 is-roomy-spec =
     tie.close
     (tie.spec
-    most-units-requires
-    has-room-requires
+    (λ c κs. search needs)
+    (λ c κs. search needs)
     returns
     measure-requires
-    has-room-requires-2
+    (λ c κs. search needs)
     returns-2)

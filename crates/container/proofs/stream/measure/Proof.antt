@@ -31,9 +31,6 @@ add-units c =
     let n = c .before in
     omega (arith, sizing-fits (n .before .before .loop .inv) (n .next-unit .ensures) (c .unit-len .ensures))
 
-less-requires : tie.Need-less-requires Inv-loop μ-loop
-less-requires c κs = search needs
-
 loop-less : tie.Need-loop-less Inv-loop μ-loop
 loop-less c = let n = c .before .before in omega (arith, n .before .loop-test .taken, n .next-unit .ensures .some)
 
@@ -57,7 +54,7 @@ measure-spec =
     unit-len-requires
     add-bytes
     add-units
-    less-requires
+    (λ c κs. search needs)
     loop-less
     loop-again
     returns)

@@ -20,15 +20,6 @@ seen c =
 returns : tie.Need-returns
 returns c = read-long _ _ _ (omega arith)
 
-survey-requires : tie.Need-survey-requires
-survey-requires c κs = omega arith
-
-enum-known-k : tie.Need-enum-known-k
-enum-known-k c = search needs
-
-enum-known-frames : tie.Need-enum-known-frames
-enum-known-frames c = search needs
-
 is-roomy-requires : tie.Need-is-roomy-requires
 is-roomy-requires c κs = seen c
 
@@ -48,12 +39,6 @@ returns-3 c =
     let k = c .before in
     read-bad _ _ _ (omega arith) _ (sym (k .before .before .survey .ensures) ∙ ap seenSays (k .k .given .1))
 
-same-length : tie.Need-same-length
-same-length c = search needs
-
-same-length-2 : tie.Need-same-length-2
-same-length-2 c = search needs
-
 returns-4 : tie.Need-returns-4
 returns-4 c =
     let w = c .before .before .before .before in
@@ -67,13 +52,13 @@ split-obu-stream-spec =
     tie.close
     (tie.spec
     returns
-    survey-requires
-    enum-known-k
-    enum-known-frames
+    (λ c κs. omega arith)
+    (λ c. search needs)
+    (λ c. search needs)
     is-roomy-requires
     returns-2
     write-requires
     returns-3
-    same-length
-    same-length-2
+    (λ c. search needs)
+    (λ c. search needs)
     returns-4)

@@ -27,20 +27,11 @@ cast-ends c =
     let n = p .before .before in
     omega (arith, writing-small (n .before .before .loop .inv) (n .next-unit .ensures) (p .put-unit .ensures))
 
-mul-ends : tie.Need-mul-ends Inv-loop μ-loop
-mul-ends c = search needs
-
 slice-write-ends : tie.Need-slice-write-ends Inv-loop μ-loop
 slice-write-ends c =
     let p = c .before .before in
     let n = p .before .before in
     writing-slot (n .before .before .loop .inv) (n .next-unit .ensures) (p .put-unit .ensures)
-
-add-u : tie.Need-add-u Inv-loop μ-loop
-add-u c = search needs
-
-less-requires : tie.Need-less-requires Inv-loop μ-loop
-less-requires c κs = search needs
 
 loop-less : tie.Need-loop-less Inv-loop μ-loop
 loop-less c = let n = c .before .before .before .before .before in omega (arith, n .before .loop-test .taken, n .next-unit .ensures .some)
@@ -70,10 +61,10 @@ write-spec =
     next-unit-requires
     put-unit-requires
     cast-ends
-    mul-ends
+    (λ c. search needs)
     slice-write-ends
-    add-u
-    less-requires
+    (λ c. search needs)
+    (λ c κs. search needs)
     loop-less
     loop-again
     same-length

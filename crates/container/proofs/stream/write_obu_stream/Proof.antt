@@ -9,9 +9,6 @@ use Rattle.container.proofs.stream.write_obu_stream.Tie as tie
 returns : tie.Need-returns
 returns c = write-long _ _ _ (omega arith)
 
-check-ends-requires : tie.Need-check-ends-requires
-check-ends-requires c κs = search needs
-
 returns-2 : tie.Need-returns-2
 returns-2 c = write-none _ _ _ (omega arith) (sym (c .before .check-ends .ensures) ∙ not-true _ (c .if2 .taken))
 
@@ -19,12 +16,6 @@ returns-3 : tie.Need-returns-3
 returns-3 c =
     let n = c .before in
     write-full _ _ _ (omega arith) (sym (n .before .check-ends .ensures) ∙ not-false _ (n .if2 .left)) (omega arith)
-
-put-bytes-requires : tie.Need-put-bytes-requires
-put-bytes-requires c κs = search needs
-
-same-length : tie.Need-same-length
-same-length c = search needs
 
 returns-4 : tie.Need-returns-4
 returns-4 c =
@@ -37,9 +28,9 @@ write-obu-stream-spec =
     tie.close
     (tie.spec
     returns
-    check-ends-requires
+    (λ c κs. search needs)
     returns-2
     returns-3
-    put-bytes-requires
-    same-length
+    (λ c κs. search needs)
+    (λ c. search needs)
     returns-4)

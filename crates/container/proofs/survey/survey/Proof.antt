@@ -26,23 +26,11 @@ got c = is-placed _ _ (sym (c .before .before .obu-at .ensures) ∙ ap obuSays (
 loop-holds : tie.Need-loop-holds Inv-loop μ-loop
 loop-holds c = survey-start (c .before .pre)
 
-obu-at-requires : tie.Need-obu-at-requires Inv-loop μ-loop
-obu-at-requires c κs = search needs
-
-enum-known-found : tie.Need-enum-known-found Inv-loop μ-loop
-enum-known-found c = search needs
-
-refusal-requires : tie.Need-refusal-requires Inv-loop μ-loop
-refusal-requires c κs = search needs
-
 returns : tie.Need-returns Inv-loop μ-loop
 returns c =
     let k = c .before in
     let w = k .before .before .before .loop .inv .walked in
     rw (c .refusal .ensures, walk-stop w _ (not-found _ _ (k .before .obu-at .result) (k .match .keys2) (k .before .before .loop-test .taken) (k .before .obu-at .ensures)))
-
-is-type-requires : tie.Need-is-type-requires Inv-loop μ-loop
-is-type-requires c κs = search needs
 
 one-more-requires : tie.Need-one-more-requires Inv-loop μ-loop
 one-more-requires c κs =
@@ -86,11 +74,11 @@ survey-spec =
     Inv-loop
     μ-loop
     loop-holds
-    obu-at-requires
-    enum-known-found
-    refusal-requires
+    (λ c κs. search needs)
+    (λ c. search needs)
+    (λ c κs. search needs)
     returns
-    is-type-requires
+    (λ c κs. search needs)
     one-more-requires
     kept-len-requires
     add-bytes

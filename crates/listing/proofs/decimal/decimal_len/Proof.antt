@@ -1,4 +1,4 @@
--- `listing::decimal::decimal_len` meets its contract. The loop's invariant: the digits counted and those of x, less one, are those of v. Assumes nothing.
+-- `listing::decimal::decimal_len` meets its contract. The loop's invariant: the digits counted and those of x, less one, are those of v.
 use borrow.Author.Needs.{needs}
 use native.Mathlib.Omega.{arith}
 use Prim.Native.Nat.{_<_, _+_, _^_}

@@ -1,4 +1,3 @@
--- `listing::decimal::put_counted` meets its contract. Assumes nothing.
 use borrow.Author.Needs.{needs}
 use native.Mathlib.Omega.{arith}
 use denote.Ref.{now}
@@ -13,9 +12,6 @@ put-bytes-requires c κs = let a = c .before .before .before .args in omega (ari
 put-field-requires : tie.Need-put-field-requires
 put-field-requires c κs = let a = c .before .before .before .before .before .before .before .args in omega (arith, length-counted (now (a .word)) (a .v) (a .last), length-field (a .v) (a .last), c .before .before .before .before .before .before .before .pre, c .before .before .before .put-bytes .ensures .0)
 
-same-length : tie.Need-same-length
-same-length c = search needs
-
 returns : tie.Need-returns
 returns c =
     let a = c .before .before .before .before .before .before .before .before .before .before .args in
@@ -28,5 +24,5 @@ put-counted-spec =
     (tie.spec
     put-bytes-requires
     put-field-requires
-    same-length
+    (λ c. search needs)
     returns)

@@ -1,4 +1,4 @@
--- `listing::decimal::put_decimal` meets its contract. The loop's invariant: putting the digits of x before what stands there makes what putting those of v would have made. Assumes nothing.
+-- `listing::decimal::put_decimal` meets its contract. The loop's invariant: putting the digits of x before what stands there makes what putting those of v would have made.
 use borrow.Author.Needs.{needs}
 use native.Mathlib.Omega.{arith}
 use Prim.Native.Nat.{_<_, _+_, _/_, _%_, _^_}
@@ -18,12 +18,6 @@ Inv-loop out₀ at v end x₀ i₀ out x i = (x < 2 ^ 64) × (length out ≡ len
 abbrev μ-loop : tie.MeasureT-loop
 μ-loop out₀ at v end x₀ i₀ out x i = x
 
-decimal-len-requires : tie.Need-decimal-len-requires Inv-loop μ-loop
-decimal-len-requires c κs = search needs
-
-add-end : tie.Need-add-end Inv-loop μ-loop
-add-end c = search needs
-
 sub-i : tie.Need-sub-i Inv-loop μ-loop
 sub-i c = omega (arith, decimal-some (c .before .before .args .v))
 
@@ -32,20 +26,11 @@ loop-holds c =
     let s = decimal-some (c .before .before .args .v) in
     (omega arith, refl, omega (arith, c .decimal-len .ensures .0), omega (arith, c .decimal-len .ensures .0, c .before .before .pre), refl)
 
-cast-out : tie.Need-cast-out Inv-loop μ-loop
-cast-out c = search needs
-
-add-out : tie.Need-add-out Inv-loop μ-loop
-add-out c = search needs
-
 slice-write-out : tie.Need-slice-write-out Inv-loop μ-loop
 slice-write-out c = omega (arith, c .before .loop .inv .1, c .before .loop .inv .3)
 
 sub-i-2 : tie.Need-sub-i-2 Inv-loop μ-loop
 sub-i-2 c = omega (arith, decimal-length (c .before .loop .x) (omega arith), decimal-some (c .before .loop .x / 10))
-
-loop-less : tie.Need-loop-less Inv-loop μ-loop
-loop-less c = search needs
 
 loop-again : tie.Need-loop-again Inv-loop μ-loop
 loop-again c =
@@ -59,12 +44,6 @@ loop-again c =
       omega arith,
       pasted-behind (l .out) (a .at) (decimal (l .x / 10)) (l .i) (48 + l .x % 10) (omega arith) (omega arith) ∙ ap (pasted (l .out) (a .at)) (sym (decimal-more (l .x) (omega arith))) ∙ l .inv .4,
     )
-
-cast-out-2 : tie.Need-cast-out-2 Inv-loop μ-loop
-cast-out-2 c = search needs
-
-add-out-2 : tie.Need-add-out-2 Inv-loop μ-loop
-add-out-2 c = search needs
 
 slice-write-out-2 : tie.Need-slice-write-out-2 Inv-loop μ-loop
 slice-write-out-2 c = omega (arith, c .before .loop .inv .1, c .before .loop .inv .3)
@@ -89,18 +68,18 @@ put-decimal-spec =
     (tie.spec
     Inv-loop
     μ-loop
-    decimal-len-requires
-    add-end
+    (λ c κs. search needs)
+    (λ c. search needs)
     sub-i
     loop-holds
-    cast-out
-    add-out
+    (λ c. search needs)
+    (λ c. search needs)
     slice-write-out
     sub-i-2
-    loop-less
+    (λ c. search needs)
     loop-again
-    cast-out-2
-    add-out-2
+    (λ c. search needs)
+    (λ c. search needs)
     slice-write-out-2
     same-length
     returns)

@@ -1,4 +1,3 @@
--- `listing::decimal::put_field` meets its contract. Assumes nothing.
 use borrow.Author.Needs.{needs}
 use native.Mathlib.Omega.{arith}
 use Rattle.listing.proofs.WroteLaws.{wrote-store}
@@ -15,9 +14,6 @@ slice-write-out c = omega (arith, length-field (c .before .before .before .befor
 add-result : tie.Need-add-result
 add-result c = omega (arith, length-field (c .before .before .before .before .before .args .v) (c .before .before .before .before .before .args .last), c .before .before .before .before .before .pre, c .before .before .put-decimal .ensures .next)
 
-same-length : tie.Need-same-length
-same-length c = search needs
-
 returns : tie.Need-returns
 returns c = wrote-store (c .before .before .put-decimal .ensures) (c .before .before .before .before .before .args .last) (omega (arith, length-field (c .before .before .before .before .before .args .v) (c .before .before .before .before .before .args .last), c .before .before .before .before .before .pre))
 
@@ -28,5 +24,5 @@ put-field-spec =
     put-decimal-requires
     slice-write-out
     add-result
-    same-length
+    (λ c. search needs)
     returns)

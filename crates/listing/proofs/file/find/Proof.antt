@@ -1,4 +1,3 @@
--- `listing::file::find` meets its contract. Assumes nothing.
 use borrow.Author.Needs.{needs}
 use native.Mathlib.Omega.{arith}
 use denote.Ref.{now}
@@ -18,17 +17,8 @@ number-requires c κs = (omega arith, omega arith)
 returns-3 : tie.Need-returns-3
 returns-3 c = not-sized (now (c .before .before .before .before .before .args .file)) (c .before .before .before .if1 .left) (λ e. omega (arith, e, c .before .number .ensures .0))
 
-add-number : tie.Need-add-number
-add-number c = search needs
-
 number-requires-2 : tie.Need-number-requires-2
 number-requires-2 c κs = (omega arith, omega arith)
-
-sub-if4 : tie.Need-sub-if4
-sub-if4 c = search needs
-
-mul-if4 : tie.Need-mul-if4
-mul-if4 c = search needs
 
 returns-4 : tie.Need-returns-4
 returns-4 c =
@@ -53,10 +43,10 @@ find-spec =
     returns-2
     number-requires
     returns-3
-    add-number
+    (λ c. search needs)
     number-requires-2
-    sub-if4
-    mul-if4
+    (λ c. search needs)
+    (λ c. search needs)
     returns-4
     settings-requires
     returns-5)

@@ -1,4 +1,4 @@
--- `listing::file::number` meets its contract. The loop's invariant: the bytes from i on come to v. Assumes nothing.
+-- `listing::file::number` meets its contract. The loop's invariant: the bytes from i on come to v.
 use borrow.Author.Needs.{needs}
 use native.Mathlib.Omega.{arith}
 use Prim.Native.Nat.{_+_, _-_}
@@ -15,26 +15,14 @@ abbrev μ-loop : tie.MeasureT-loop
 loop-holds : tie.Need-loop-holds Inv-loop μ-loop
 loop-holds c = reads-start _ _ _
 
-sub-i : tie.Need-sub-i Inv-loop μ-loop
-sub-i c = search needs
-
 mul-v : tie.Need-mul-v Inv-loop μ-loop
 mul-v c = omega (arith, reads-room (c .before .loop .inv) (c .before .before .pre .1) (omega arith))
-
-add-v : tie.Need-add-v Inv-loop μ-loop
-add-v c = search needs
-
-shared-slice-read-v : tie.Need-shared-slice-read-v Inv-loop μ-loop
-shared-slice-read-v c = search needs
 
 cast-v : tie.Need-cast-v Inv-loop μ-loop
 cast-v c = omega (arith, c .shared-slice-known .given (c .before .before .before .args .at + (c .before .before .loop .i - 1)))
 
 add-v-2 : tie.Need-add-v-2 Inv-loop μ-loop
 add-v-2 c = omega (arith, reads-room (c .before .before .loop .inv) (c .before .before .before .pre .1) (omega arith), c .shared-slice-known .given (c .before .before .before .args .at + (c .before .before .loop .i - 1)))
-
-loop-less : tie.Need-loop-less Inv-loop μ-loop
-loop-less c = search needs
 
 loop-again : tie.Need-loop-again Inv-loop μ-loop
 loop-again c = reads-turn (c .before .before .loop .inv) (omega arith) (omega (arith, c .shared-slice-known .given (c .before .before .before .args .at + (c .before .before .loop .i - 1))))
@@ -49,12 +37,12 @@ number-spec =
     Inv-loop
     μ-loop
     loop-holds
-    sub-i
+    (λ c. search needs)
     mul-v
-    add-v
-    shared-slice-read-v
+    (λ c. search needs)
+    (λ c. search needs)
     cast-v
     add-v-2
-    loop-less
+    (λ c. search needs)
     loop-again
     returns)

@@ -1,4 +1,4 @@
--- `listing::file::put_numbers` meets its contract. The loop's invariant: what stands there, with what is left, is the whole. Assumes nothing.
+-- `listing::file::put_numbers` meets its contract. The loop's invariant: what stands there, with what is left, is the whole.
 use borrow.Author.Needs.{needs}
 use native.Mathlib.Omega.{arith}
 use Prim.Native.Nat.{_-_}
@@ -27,12 +27,6 @@ put-segment-requires c κs =
     let r = c .before .before .before .before .before .pre .0 in
     (omega (arith, n .kept, c .before .before .before .before .before .pre .1), (omega (arith, r .there), omega (arith, n .small, r .there, r .small)))
 
-add-i : tie.Need-add-i Inv-loop μ-loop
-add-i c = search needs
-
-loop-less : tie.Need-loop-less Inv-loop μ-loop
-loop-less c = search needs
-
 loop-again : tie.Need-loop-again Inv-loop μ-loop
 loop-again c =
     let e = c .before .before .put-segment .ensures in
@@ -54,8 +48,8 @@ put-numbers-spec =
     mul-put-segment
     add-put-segment
     put-segment-requires
-    add-i
-    loop-less
+    (λ c. search needs)
+    (λ c. search needs)
     loop-again
     same-length
     returns)

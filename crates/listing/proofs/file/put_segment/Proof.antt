@@ -1,4 +1,3 @@
--- `listing::file::put_segment` meets its contract. Assumes nothing.
 use borrow.Author.Needs.{needs}
 use native.Mathlib.Omega.{arith}
 use Prim.Native.Nat.{_*_}
@@ -7,33 +6,6 @@ use Rattle.blocks.specs.Numbers.{width}
 use Rattle.listing.proofs.NumberLaws.{segment-put}
 use Rattle.listing.proofs.file.put_segment.Statement.{statement}
 use Rattle.listing.proofs.file.put_segment.Tie as tie
-
-number-requires : tie.Need-number-requires
-number-requires c κs = search needs
-
-add-key : tie.Need-add-key
-add-key c = search needs
-
-add-number : tie.Need-add-number
-add-number c = search needs
-
-number-requires-2 : tie.Need-number-requires-2
-number-requires-2 c κs = search needs
-
-add-golden : tie.Need-add-golden
-add-golden c = search needs
-
-add-number-2 : tie.Need-add-number-2
-add-number-2 c = search needs
-
-number-requires-3 : tie.Need-number-requires-3
-number-requires-3 c κs = search needs
-
-put-record-requires : tie.Need-put-record-requires
-put-record-requires c κs = search needs
-
-same-length : tie.Need-same-length
-same-length c = search needs
 
 returns : tie.Need-returns
 returns c =
@@ -46,13 +18,13 @@ pub put-segment-spec : {M : Type 1} → statement M
 put-segment-spec =
     tie.close
     (tie.spec
-    number-requires
-    add-key
-    add-number
-    number-requires-2
-    add-golden
-    add-number-2
-    number-requires-3
-    put-record-requires
-    same-length
+    (λ c κs. search needs)
+    (λ c. search needs)
+    (λ c. search needs)
+    (λ c κs. search needs)
+    (λ c. search needs)
+    (λ c. search needs)
+    (λ c κs. search needs)
+    (λ c κs. search needs)
+    (λ c. search needs)
     returns)

@@ -1,4 +1,3 @@
--- `listing::file::read_file` meets its contract. Assumes nothing.
 use borrow.Author.Needs.{needs}
 use native.Mathlib.Omega.{arith}
 use denote.Ref.{now}
@@ -7,15 +6,6 @@ use Rattle.listing.specs.Says.{foundSays}
 use Rattle.listing.proofs.FileLaws.{some-whole, read-bad, read-full, read-whole, whole-records}
 use Rattle.listing.proofs.file.read_file.Statement.{statement}
 use Rattle.listing.proofs.file.read_file.Tie as tie
-
-find-requires : tie.Need-find-requires
-find-requires c κs = search needs
-
-enum-known-layout : tie.Need-enum-known-layout
-enum-known-layout c = search needs
-
-enum-told : tie.Need-enum-told
-enum-told c = search needs
 
 returns : tie.Need-returns
 returns c = read-bad (now (c .before .before .before .before .before .args .numbers)) (now (c .before .before .before .before .before .args .file)) (sym (ap foundSays (c .enum-told .given .1)) ∙ c .before .before .find .ensures)
@@ -35,9 +25,6 @@ put-numbers-requires c κs =
     let w = some-whole (now (c .before .before .before .before .before .before .before .before .before .args .file)) _ (sym (ap foundSays (c .before .before .before .before .layout .given .1)) ∙ c .before .before .before .before .before .before .find .ensures) in
     (whole-records (now (c .before .before .before .before .before .before .before .before .before .args .numbers)) (now (c .before .before .before .before .before .before .before .before .before .args .file)) w, omega (arith, c .before .before .if1 .left))
 
-same-length : tie.Need-same-length
-same-length c = search needs
-
 returns-3 : tie.Need-returns-3
 returns-3 c =
     let w = some-whole (now (c .before .before .before .before .before .before .before .before .before .before .before .before .args .file)) _ (sym (ap foundSays (c .before .before .before .before .before .before .before .layout .given .1)) ∙ c .before .before .before .before .before .before .before .before .before .find .ensures) in
@@ -47,12 +34,12 @@ pub read-file-spec : {M : Type 1} → statement M
 read-file-spec =
     tie.close
     (tie.spec
-    find-requires
-    enum-known-layout
-    enum-told
+    (λ c κs. search needs)
+    (λ c. search needs)
+    (λ c. search needs)
     returns
     returns-2
     add-put-numbers
     put-numbers-requires
-    same-length
+    (λ c. search needs)
     returns-3)

@@ -1,4 +1,3 @@
--- `listing::file::settings` meets its contract. Assumes nothing.
 use borrow.Author.Needs.{needs}
 use native.Mathlib.Omega.{arith}
 use Rattle.listing.proofs.FileLaws.{settings-records, settings-three, settings-filled, settings-fps, settings-den, settings-whole}
@@ -53,12 +52,6 @@ returns-4 c = settings-den (c .before .before .before .before .before .before .b
 add-t9 : tie.Need-add-t9
 add-t9 c = omega (arith, c .before .before .before .before .before .before .before .before .before .before .pre .small, c .before .before .before .before .before .before .before .before .before .before .pre .whole, c .before .before .before .before .before .before .before .before .before .before .pre .pictures, c .before .before .before .before .before .before .before .before .before .before .pre .segments)
 
-cast-t13 : tie.Need-cast-t13
-cast-t13 c = search needs
-
-cast-t14 : tie.Need-cast-t14
-cast-t14 c = search needs
-
 returns-5 : tie.Need-returns-5
 returns-5 c = settings-whole (c .before .before .before .before .before .before .before .before .before .before .pre) (c .before .before .before .before .before .before .before .before .number .ensures .0) (c .before .before .before .before .before .before .before .if1 .left) (c .before .before .before .before .before .before .units-len .ensures) (c .before .before .before .before .before .if2 .left) (c .before .before .before .number3 .ensures .0) (c .before .before .if3 .left) (c .before .number4 .ensures .0) (c .before .before .before .before .number2 .ensures .0) (c .if4 .left)
 
@@ -82,6 +75,6 @@ settings-spec =
     number-requires-4
     returns-4
     add-t9
-    cast-t13
-    cast-t14
+    (λ c. search needs)
+    (λ c. search needs)
     returns-5)

@@ -1,4 +1,4 @@
--- `listing::file::units_len` meets its contract. The loop's invariant: the sum and what is left make the whole. Assumes nothing.
+-- `listing::file::units_len` meets its contract. The loop's invariant: the sum and what is left make the whole.
 use borrow.Author.Needs.{needs}
 use native.Mathlib.Omega.{arith}
 use Prim.Native.Nat.{_-_}
@@ -36,12 +36,6 @@ number-requires-2 c κs = (omega (arith, c .before .before .before .before .pre 
 add-sum-2 : tie.Need-add-sum-2 Inv-loop μ-loop
 add-sum-2 c = omega (arith, c .before .before .before .before .before .pre .there, c .before .before .before .before .before .pre .small, c .before .before .before .loop .inv .small, c .before .number .ensures .1, c .number2 .ensures .1)
 
-add-i : tie.Need-add-i Inv-loop μ-loop
-add-i c = search needs
-
-loop-less : tie.Need-loop-less Inv-loop μ-loop
-loop-less c = search needs
-
 loop-again : tie.Need-loop-again Inv-loop μ-loop
 loop-again c = sum-turn (c .before .before .before .loop .inv) _ _ (c .before .before .loop-test .taken) (c .before .number .ensures) (c .number2 .ensures)
 
@@ -62,7 +56,7 @@ units-len-spec =
     add-number
     number-requires-2
     add-sum-2
-    add-i
-    loop-less
+    (λ c. search needs)
+    (λ c. search needs)
     loop-again
     returns)

@@ -1,4 +1,3 @@
--- `listing::text::letter_of` meets its contract. Assumes nothing.
 use Rattle.listing.proofs.TextLaws.{letter-key, letter-golden, letter-show}
 use Rattle.listing.proofs.text.letter_of.Statement.{statement}
 use Rattle.listing.proofs.text.letter_of.Tie as tie

@@ -1,4 +1,3 @@
--- `listing::text::line_len` meets its contract. Assumes nothing.
 use borrow.Author.Needs.{needs}
 use native.Mathlib.Omega.{arith}
 use denote.Ref.{now}
@@ -10,32 +9,14 @@ use Rattle.listing.proofs.TextLaws.{line-digits}
 use Rattle.listing.proofs.text.line_len.Statement.{statement}
 use Rattle.listing.proofs.text.line_len.Tie as tie
 
-unit-len-requires : tie.Need-unit-len-requires
-unit-len-requires c κs = search needs
-
-decimal-len-requires : tie.Need-decimal-len-requires
-decimal-len-requires c κs = search needs
-
-cast-decimal-len : tie.Need-cast-decimal-len
-cast-decimal-len c = search needs
-
-decimal-len-requires-2 : tie.Need-decimal-len-requires-2
-decimal-len-requires-2 c κs = search needs
-
 add-head : tie.Need-add-head
 add-head c = omega (arith, c .before .decimal-len .ensures .1, c .decimal-len2 .ensures .1)
 
 add-head-2 : tie.Need-add-head-2
 add-head-2 c = omega (arith, c .before .decimal-len .ensures .1, c .decimal-len2 .ensures .1)
 
-slot-len-requires : tie.Need-slot-len-requires
-slot-len-requires c κs = search needs
-
 add-result : tie.Need-add-result
 add-result c = omega (arith, c .before .before .decimal-len .ensures .1, c .before .decimal-len2 .ensures .1, c .slot-len .ensures .1)
-
-decimal-len-requires-3 : tie.Need-decimal-len-requires-3
-decimal-len-requires-3 c κs = search needs
 
 add-result-2 : tie.Need-add-result-2
 add-result-2 c = omega (arith, c .before .before .before .decimal-len .ensures .1, c .before .before .decimal-len2 .ensures .1, c .before .slot-len .ensures .1, c .decimal-len3 .ensures .1)
@@ -54,15 +35,15 @@ pub line-len-spec : {M : Type 1} → statement M
 line-len-spec =
     tie.close
     (tie.spec
-    unit-len-requires
-    decimal-len-requires
-    cast-decimal-len
-    decimal-len-requires-2
+    (λ c κs. search needs)
+    (λ c κs. search needs)
+    (λ c. search needs)
+    (λ c κs. search needs)
     add-head
     add-head-2
-    slot-len-requires
+    (λ c κs. search needs)
     add-result
-    decimal-len-requires-3
+    (λ c κs. search needs)
     add-result-2
     add-result-3
     returns)

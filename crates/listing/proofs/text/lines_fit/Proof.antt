@@ -1,4 +1,4 @@
--- `listing::text::lines_fit` meets its contract. The loop's invariant: the room left and what was measured make the room. Assumes nothing.
+-- `listing::text::lines_fit` meets its contract. The loop's invariant: the room left and what was measured make the room.
 use borrow.Author.Needs.{needs}
 use Prim.Native.Nat.{_-_}
 use lib.ListN.{length}
@@ -15,26 +15,8 @@ abbrev μ-loop : tie.MeasureT-loop
 loop-holds : tie.Need-loop-holds Inv-loop μ-loop
 loop-holds c = fit-start _ _ _ _ _
 
-add-line-len : tie.Need-add-line-len Inv-loop μ-loop
-add-line-len c = search needs
-
-mul-line-len : tie.Need-mul-line-len Inv-loop μ-loop
-mul-line-len c = search needs
-
-shared-slice-read-line-len : tie.Need-shared-slice-read-line-len Inv-loop μ-loop
-shared-slice-read-line-len c = search needs
-
-line-len-requires : tie.Need-line-len-requires Inv-loop μ-loop
-line-len-requires c κs = search needs
-
 returns : tie.Need-returns Inv-loop μ-loop
 returns c = fit-over (c .before .before .before .before .loop .inv) _ (c .before .before .before .loop-test .taken) (c .before .line-len .ensures) (c .if1 .taken)
-
-add-i : tie.Need-add-i Inv-loop μ-loop
-add-i c = search needs
-
-loop-less : tie.Need-loop-less Inv-loop μ-loop
-loop-less c = search needs
 
 loop-again : tie.Need-loop-again Inv-loop μ-loop
 loop-again c = fit-turn (c .before .before .before .before .loop .inv) _ (c .before .before .before .loop-test .taken) (c .before .line-len .ensures) (c .if1 .left)
@@ -49,12 +31,12 @@ lines-fit-spec =
     Inv-loop
     μ-loop
     loop-holds
-    add-line-len
-    mul-line-len
-    shared-slice-read-line-len
-    line-len-requires
+    (λ c. search needs)
+    (λ c. search needs)
+    (λ c. search needs)
+    (λ c κs. search needs)
     returns
-    add-i
-    loop-less
+    (λ c. search needs)
+    (λ c. search needs)
     loop-again
     returns-2)

@@ -1,4 +1,3 @@
--- `listing::text::put_line` meets its contract. Assumes nothing.
 use borrow.Author.Needs.{needs}
 use native.Mathlib.Omega.{arith}
 use denote.Ref.{now}
@@ -10,9 +9,6 @@ use Rattle.listing.proofs.TextLaws.{length-line, line-wrote}
 use Rattle.listing.proofs.text.put_line.Statement.{statement}
 use Rattle.listing.proofs.text.put_line.Tie as tie
 
-unit-len-requires : tie.Need-unit-len-requires
-unit-len-requires c κs = search needs
-
 put-field-requires : tie.Need-put-field-requires
 put-field-requires c κs =
     let s = c .before .before .before .before .before .before in
@@ -20,18 +16,12 @@ put-field-requires c κs =
     let e = length-line (now (a .pictures)) (now (a .ends)) (now (a .shows)) (a .position) (a .entry) in
     omega (arith, s .pre, e)
 
-letter-of-requires : tie.Need-letter-of-requires
-letter-of-requires c κs = search needs
-
 put-two-requires : tie.Need-put-two-requires
 put-two-requires c κs =
     let s = c .before .before .before .before .before .before .before .before .before .before .before in
     let a = s .args in
     let e = length-line (now (a .pictures)) (now (a .ends)) (now (a .shows)) (a .position) (a .entry) in
     omega (arith, s .pre, e, c .before .before .before .before .put-field .ensures .next)
-
-cast-put-field : tie.Need-cast-put-field
-cast-put-field c = search needs
 
 put-field-requires-2 : tie.Need-put-field-requires-2
 put-field-requires-2 c κs =
@@ -55,9 +45,6 @@ put-field-requires-3 c κs =
     let u = ap (λ (n : ℕ). length (field n 10)) (c .before .before .before .before .before .before .before .before .before .before .before .before .before .before .before .before .before .before .unit-len .ensures) in
     omega (arith, s .pre, e, u, c .before .before .before .before .before .before .before .before .before .before .before .before .before .before .before .before .put-field .ensures .next, c .before .before .before .before .before .before .before .before .before .before .before .put-two .ensures .next, c .before .before .before .before .before .before .before .put-field2 .ensures .next, c .before .before .before .put-slot .ensures .next)
 
-same-length : tie.Need-same-length
-same-length c = search needs
-
 returns : tie.Need-returns
 returns c =
     let s = c .before .before .before .before .before .before .before .before .before .before .before .before .before .before .before .before .before .before .before .before .before .before .before .before .before .before in
@@ -69,13 +56,13 @@ pub put-line-spec : {M : Type 1} → statement M
 put-line-spec =
     tie.close
     (tie.spec
-    unit-len-requires
+    (λ c κs. search needs)
     put-field-requires
-    letter-of-requires
+    (λ c κs. search needs)
     put-two-requires
-    cast-put-field
+    (λ c. search needs)
     put-field-requires-2
     put-slot-requires
     put-field-requires-3
-    same-length
+    (λ c. search needs)
     returns)

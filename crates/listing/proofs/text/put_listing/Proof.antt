@@ -1,4 +1,3 @@
--- `listing::text::put_listing` meets its contract. Assumes nothing.
 use borrow.Author.Needs.{needs}
 use native.Mathlib.Omega.{arith}
 use denote.Ref.{now}
@@ -11,12 +10,6 @@ use Rattle.listing.proofs.WroteLaws.{wrote-all}
 use Rattle.listing.proofs.TextLaws.{length-counted, listing-length, listing-wrote, fit-yes, fit-no}
 use Rattle.listing.proofs.text.put_listing.Statement.{statement}
 use Rattle.listing.proofs.text.put_listing.Tie as tie
-
-decimal-len-requires : tie.Need-decimal-len-requires
-decimal-len-requires c κs = search needs
-
-decimal-len-requires-2 : tie.Need-decimal-len-requires-2
-decimal-len-requires-2 c κs = search needs
 
 add-head : tie.Need-add-head
 add-head c = omega (arith, c .before .decimal-len .ensures .1, c .decimal-len2 .ensures .1)
@@ -32,12 +25,6 @@ returns c =
     let h : length (now (a .out)) < 0 + length t = omega (arith, e, c .before .before .decimal-len .ensures .0, c .before .decimal-len2 .ensures .0, c .if1 .taken) in
     (sym (placed-full (now (a .out)) 0 t h), sym (lent-full (now (a .out)) 0 t h))
 
-sub-lines-fit : tie.Need-sub-lines-fit
-sub-lines-fit c = search needs
-
-lines-fit-requires : tie.Need-lines-fit-requires
-lines-fit-requires c κs = search needs
-
 returns-2 : tie.Need-returns-2
 returns-2 c =
     let a = c .before .before .before .before .before .before .before .before .before .before .args in
@@ -47,18 +34,12 @@ returns-2 c =
     let h : length (now (a .out)) < 0 + length t = omega (arith, e, c .before .before .before .before .decimal-len .ensures .0, c .before .before .before .decimal-len2 .ensures .0, f) in
     (sym (placed-full (now (a .out)) 0 t h), sym (lent-full (now (a .out)) 0 t h))
 
-slice-aggregate-put-counted : tie.Need-slice-aggregate-put-counted
-slice-aggregate-put-counted c = search needs
-
 put-counted-requires : tie.Need-put-counted-requires
 put-counted-requires c κs =
     let a = c .before .before .before .before .before .before .before .before .before .before .before .before .args in
     let f = fit-yes (length (lines (now (a .pictures)) (now (a .ends)) (now (a .shows)) 1 (now (a .list)))) (length (now (a .out)) - (c .before .before .before .before .before .before .decimal-len .result + c .before .before .before .before .before .decimal-len2 .result + 13)) (c .before .before .before .lines-fit .ensures) (c .before .before .if2 .left) in
     let u = length-counted unitsWord (length (now (a .list))) 10 in
     omega (arith, f, u, c .before .before .before .before .before .before .decimal-len .ensures .0, c .before .before .before .before .before .decimal-len2 .ensures .0, c .before .before .before .before .if1 .left)
-
-slice-aggregate-put-counted-2 : tie.Need-slice-aggregate-put-counted-2
-slice-aggregate-put-counted-2 c = search needs
 
 put-counted-requires-2 : tie.Need-put-counted-requires-2
 put-counted-requires-2 c κs =
@@ -76,9 +57,6 @@ put-lines-requires c κs =
     let w = length-counted cuesWord (a .cues) 10 in
     omega (arith, f, u, w, c .before .before .before .before .before .before .before .before .before .before .before .before .before .before .before .decimal-len .ensures .0, c .before .before .before .before .before .before .before .before .before .before .before .before .before .before .decimal-len2 .ensures .0, c .before .before .before .before .before .before .before .before .before .before .before .before .before .if1 .left, c .before .before .before .before .before .before .before .before .put-counted .ensures .next, c .before .before .before .put-counted2 .ensures .next)
 
-same-length : tie.Need-same-length
-same-length c = search needs
-
 returns-3 : tie.Need-returns-3
 returns-3 c =
     let a = c .before .before .before .before .before .before .before .before .before .before .before .before .before .before .before .before .before .before .before .before .before .before .before .before .args in
@@ -91,18 +69,18 @@ pub put-listing-spec : {M : Type 1} → statement M
 put-listing-spec =
     tie.close
     (tie.spec
-    decimal-len-requires
-    decimal-len-requires-2
+    (λ c κs. search needs)
+    (λ c κs. search needs)
     add-head
     add-head-2
     returns
-    sub-lines-fit
-    lines-fit-requires
+    (λ c. search needs)
+    (λ c κs. search needs)
     returns-2
-    slice-aggregate-put-counted
+    (λ c. search needs)
     put-counted-requires
-    slice-aggregate-put-counted-2
+    (λ c. search needs)
     put-counted-requires-2
     put-lines-requires
-    same-length
+    (λ c. search needs)
     returns-3)

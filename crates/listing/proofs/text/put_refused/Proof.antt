@@ -1,4 +1,3 @@
--- `listing::text::put_refused` meets its contract. Assumes nothing.
 use borrow.Author.Needs.{needs}
 use native.Mathlib.Omega.{arith}
 use denote.Ref.{now}
@@ -10,9 +9,6 @@ use Rattle.listing.proofs.TextLaws.{length-counted}
 use Rattle.listing.proofs.text.put_refused.Statement.{statement}
 use Rattle.listing.proofs.text.put_refused.Tie as tie
 
-decimal-len-requires : tie.Need-decimal-len-requires
-decimal-len-requires c κs = search needs
-
 add-if1 : tie.Need-add-if1
 add-if1 c = omega (arith, c .decimal-len .ensures .1)
 
@@ -23,14 +19,8 @@ returns c =
     let e = length-counted refusedWord (c .before .before .before .args .number) 10 in
     (sym (placed-full d 0 t (omega (arith, e, c .before .decimal-len .ensures .0, c .if1 .taken))), sym (lent-full d 0 t (omega (arith, e, c .before .decimal-len .ensures .0, c .if1 .taken))))
 
-slice-aggregate-put-counted : tie.Need-slice-aggregate-put-counted
-slice-aggregate-put-counted c = search needs
-
 put-counted-requires : tie.Need-put-counted-requires
 put-counted-requires c κs = omega (arith, length-counted refusedWord (c .before .before .before .before .before .args .number) 10, c .before .before .before .decimal-len .ensures .0, c .before .before .if1 .left)
-
-same-length : tie.Need-same-length
-same-length c = search needs
 
 returns-2 : tie.Need-returns-2
 returns-2 c = wrote-all (c .before .before .put-counted .ensures) (omega (arith, length-counted refusedWord (c .before .before .before .before .before .before .before .before .args .number) 10, c .before .before .before .before .before .before .decimal-len .ensures .0, c .before .before .before .before .before .if1 .left))
@@ -39,10 +29,10 @@ pub put-refused-spec : {M : Type 1} → statement M
 put-refused-spec =
     tie.close
     (tie.spec
-    decimal-len-requires
+    (λ c κs. search needs)
     add-if1
     returns
-    slice-aggregate-put-counted
+    (λ c. search needs)
     put-counted-requires
-    same-length
+    (λ c. search needs)
     returns-2)

@@ -1,4 +1,3 @@
--- `listing::text::put_refused_in` meets its contract. Assumes nothing.
 use borrow.Author.Needs.{needs}
 use native.Mathlib.Omega.{arith}
 use denote.Ref.{now}
@@ -11,12 +10,6 @@ use Rattle.listing.proofs.WroteLaws.{wrote-all, wrote-more}
 use Rattle.listing.proofs.TextLaws.{length-counted}
 use Rattle.listing.proofs.text.put_refused_in.Statement.{statement}
 use Rattle.listing.proofs.text.put_refused_in.Tie as tie
-
-decimal-len-requires : tie.Need-decimal-len-requires
-decimal-len-requires c κs = search needs
-
-decimal-len-requires-2 : tie.Need-decimal-len-requires-2
-decimal-len-requires-2 c κs = search needs
 
 add-if1 : tie.Need-add-if1
 add-if1 c = omega (arith, c .before .decimal-len .ensures .1, c .decimal-len2 .ensures .1)
@@ -33,20 +26,11 @@ returns c =
     let y = length-counted segmentWord (c .before .before .before .before .args .segment) 10 in
     (sym (placed-full d 0 t (omega (arith, e, x, y, c .before .before .decimal-len .ensures .0, c .before .decimal-len2 .ensures .0, c .if1 .taken))), sym (lent-full d 0 t (omega (arith, e, x, y, c .before .before .decimal-len .ensures .0, c .before .decimal-len2 .ensures .0, c .if1 .taken))))
 
-slice-aggregate-put-counted : tie.Need-slice-aggregate-put-counted
-slice-aggregate-put-counted c = search needs
-
 put-counted-requires : tie.Need-put-counted-requires
 put-counted-requires c κs = omega (arith, length-counted refusedWord (c .before .before .before .before .before .before .args .number) 32, c .before .before .before .before .decimal-len .ensures .0, c .before .before .before .decimal-len2 .ensures .0, c .before .before .if1 .left)
 
-slice-aggregate-put-counted-2 : tie.Need-slice-aggregate-put-counted-2
-slice-aggregate-put-counted-2 c = search needs
-
 put-counted-requires-2 : tie.Need-put-counted-requires-2
 put-counted-requires-2 c κs = omega (arith, length-counted refusedWord (c .before .before .before .before .before .before .before .before .before .before .before .args .number) 32, length-counted segmentWord (c .before .before .before .before .before .before .before .before .before .before .before .args .segment) 10, c .before .before .before .before .before .before .before .before .before .decimal-len .ensures .0, c .before .before .before .before .before .before .before .before .decimal-len2 .ensures .0, c .before .before .before .before .before .before .before .if1 .left, c .before .before .before .before .put-counted .ensures .next)
-
-same-length : tie.Need-same-length
-same-length c = search needs
 
 returns-2 : tie.Need-returns-2
 returns-2 c =
@@ -57,14 +41,14 @@ pub put-refused-in-spec : {M : Type 1} → statement M
 put-refused-in-spec =
     tie.close
     (tie.spec
-    decimal-len-requires
-    decimal-len-requires-2
+    (λ c κs. search needs)
+    (λ c κs. search needs)
     add-if1
     add-if1-2
     returns
-    slice-aggregate-put-counted
+    (λ c. search needs)
     put-counted-requires
-    slice-aggregate-put-counted-2
+    (λ c. search needs)
     put-counted-requires-2
-    same-length
+    (λ c. search needs)
     returns-2)

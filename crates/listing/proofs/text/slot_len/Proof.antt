@@ -1,4 +1,3 @@
--- `listing::text::slot_len` meets its contract. Assumes nothing.
 use borrow.Author.Needs.{needs}
 use native.Mathlib.Omega.{arith}
 use denote.Ref.{now}
@@ -13,18 +12,6 @@ use Rattle.listing.proofs.text.slot_len.Tie as tie
 returns : tie.Need-returns
 returns c = (sym (ap length (slot-key (now (c .before .before .args .shows)) (c .before .before .args .entry) (c .if1 .taken))), omega arith)
 
-cast-slot-of : tie.Need-cast-slot-of
-cast-slot-of c = search needs
-
-slot-of-requires : tie.Need-slot-of-requires
-slot-of-requires c κs = search needs
-
-decimal-len-requires : tie.Need-decimal-len-requires
-decimal-len-requires c κs = search needs
-
-add-result : tie.Need-add-result
-add-result c = search needs
-
 returns-2 : tie.Need-returns-2
 returns-2 c =
     let e = ap length (slot-other (now (c .before .before .before .before .args .shows)) (c .before .before .before .before .args .entry) (c .before .before .if1 .left)) ∙ length-field _ 32 in
@@ -37,8 +24,8 @@ slot-len-spec =
     tie.close
     (tie.spec
     returns
-    cast-slot-of
-    slot-of-requires
-    decimal-len-requires
-    add-result
+    (λ c. search needs)
+    (λ c κs. search needs)
+    (λ c κs. search needs)
+    (λ c. search needs)
     returns-2)

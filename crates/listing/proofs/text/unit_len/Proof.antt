@@ -1,4 +1,3 @@
--- `listing::text::unit_len` meets its contract. Assumes nothing.
 use borrow.Author.Needs.{needs}
 use mathlib.Core.Path.{ap}
 use lib.ListN.{length}

@@ -38,24 +38,6 @@ returns c =
     let a = b .args in
     body-rest (now (a .s)) (a .h) _ (a .p) (b .pre) (c .if1 .taken)
 
-sub-leb128 : tie.Need-sub-leb128
-sub-leb128 c = search needs
-
-part-leb128-start : tie.Need-part-leb128-start
-part-leb128-start c = search needs
-
-part-leb128-end : tie.Need-part-leb128-end
-part-leb128-end c = search needs
-
-leb128-requires : tie.Need-leb128-requires
-leb128-requires c κs = search needs
-
-enum-known-size : tie.Need-enum-known-size
-enum-known-size c = search needs
-
-enum-told : tie.Need-enum-told
-enum-told c = search needs
-
 returns-2 : tie.Need-returns-2
 returns-2 c =
     let b = c .before .before .before .before .before .before in
@@ -91,12 +73,12 @@ body-at-spec =
     tie.close
     (tie.spec
     returns
-    sub-leb128
-    part-leb128-start
-    part-leb128-end
-    leb128-requires
-    enum-known-size
-    enum-told
+    (λ c. search needs)
+    (λ c. search needs)
+    (λ c. search needs)
+    (λ c κs. search needs)
+    (λ c. search needs)
+    (λ c. search needs)
     returns-2
     add-start
     sub-if2

@@ -20,22 +20,13 @@ passed c = sym (c .before .is-known-type .ensures) ∙ not-false _ (c .if3 .left
 returns : tie.Need-returns
 returns c = at-end _ _ (c .if1 .taken)
 
-shared-slice-read-h : tie.Need-shared-slice-read-h
-shared-slice-read-h c = search needs
-
 returns-2 : tie.Need-returns-2
 returns-2 c = at-forbidden _ _ (c .before .before .if1 .left) (c .if2 .taken)
-
-is-known-type-requires : tie.Need-is-known-type-requires
-is-known-type-requires c κs = search needs
 
 returns-3 : tie.Need-returns-3
 returns-3 c =
     let e = c .before .before in
     at-type _ _ (e .before .before .if1 .left) (e .if2 .left) (sym (c .before .is-known-type .ensures) ∙ not-true _ (c .if3 .taken))
-
-add-p : tie.Need-add-p
-add-p c = search needs
 
 returns-4 : tie.Need-returns-4
 returns-4 c =
@@ -43,24 +34,12 @@ returns-4 c =
     let e = k .before .before in
     at-short _ _ (e .before .before .if1 .left) (e .if2 .left) (passed k) (c .before .if4 .taken) (c .if5 .taken)
 
-shared-slice-read-t14 : tie.Need-shared-slice-read-t14
-shared-slice-read-t14 c = search needs
-
-add-body-at : tie.Need-add-body-at
-add-body-at c = search needs
-
-body-at-requires : tie.Need-body-at-requires
-body-at-requires c κs = search needs
-
 returns-5 : tie.Need-returns-5
 returns-5 c =
     let f = c .before .before in
     let k = f .before .before in
     let e = k .before .before in
     c .body-at .ensures ∙ at-ext _ _ (e .before .before .if1 .left) (e .if2 .left) (passed k) (f .before .if4 .taken) (f .if5 .left)
-
-body-at-requires-2 : tie.Need-body-at-requires-2
-body-at-requires-2 c κs = search needs
 
 returns-6 : tie.Need-returns-6
 returns-6 c =
@@ -73,15 +52,15 @@ obu-at-spec =
     tie.close
     (tie.spec
     returns
-    shared-slice-read-h
+    (λ c. search needs)
     returns-2
-    is-known-type-requires
+    (λ c κs. search needs)
     returns-3
-    add-p
+    (λ c. search needs)
     returns-4
-    shared-slice-read-t14
-    add-body-at
-    body-at-requires
+    (λ c. search needs)
+    (λ c. search needs)
+    (λ c κs. search needs)
     returns-5
-    body-at-requires-2
+    (λ c κs. search needs)
     returns-6)

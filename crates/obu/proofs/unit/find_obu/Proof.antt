@@ -34,19 +34,10 @@ loop-holds : tie.Need-loop-holds Inv-loop μ-loop
 unfolding sought
 loop-holds c = ([], search-start _, refl, refl)
 
-obu-at-requires : tie.Need-obu-at-requires Inv-loop μ-loop
-obu-at-requires c κs = search needs
-
-enum-known-found : tie.Need-enum-known-found Inv-loop μ-loop
-enum-known-found c = search needs
-
 returns : tie.Need-returns Inv-loop μ-loop
 returns c =
     let l = c .before .before .before .loop in
     search-stop (l .inv .1) (c .before .obu-at .result) (c .match .keys2) (c .before .before .loop-test .taken) (c .before .obu-at .ensures) _
-
-is-type-requires : tie.Need-is-type-requires Inv-loop μ-loop
-is-type-requires c κs = search needs
 
 loop-less : tie.Need-loop-less Inv-loop μ-loop
 loop-less c = let g = got (c .before .before .before) .placed in omega (arith, g .after, g .ends, g .within)
@@ -83,10 +74,10 @@ find-obu-spec =
     Inv-loop
     μ-loop
     loop-holds
-    obu-at-requires
-    enum-known-found
+    (λ c κs. search needs)
+    (λ c. search needs)
     returns
-    is-type-requires
+    (λ c κs. search needs)
     loop-less
     loop-again
     returns-2)

@@ -22,29 +22,11 @@ got c = is-placed _ _ (sym (c .before .before .obu-at .ensures) ∙ ap obuSays (
 counted : (c : tie.After-n) → answer (count (isKind TemporalDelimiter)) (obus (now (c .before .before .before .before .args .s))) ≡ accepted (c .n .given .0 .0)
 counted c = sym (c .before .before .count-obus .ensures) ∙ ap countedSays (c .n .given .1)
 
-count-obus-requires : tie.Need-count-obus-requires
-count-obus-requires c κs = search needs
-
-enum-known-n : tie.Need-enum-known-n
-enum-known-n c = search needs
-
-enum-told : tie.Need-enum-told
-enum-told c = search needs
-
 returns : tie.Need-returns
 returns c = sym (stray-refused (obus (now (c .before .before .before .before .args .s))) _ (sym (c .before .before .count-obus .ensures) ∙ ap countedSays (c .enum-told .given .1)))
 
-obu-at-requires : tie.Need-obu-at-requires
-obu-at-requires c κs = search needs
-
-enum-known-o : tie.Need-enum-known-o
-enum-known-o c = search needs
-
 returns-2 : tie.Need-returns-2
 returns-2 c = sym (stray-none _ (c .before .obu-at .result) (c .match2 .keys2) (c .before .obu-at .ensures))
-
-is-type-requires : tie.Need-is-type-requires
-is-type-requires c κs = search needs
 
 returns-3 : tie.Need-returns-3
 returns-3 c =
@@ -62,13 +44,13 @@ pub has-stray-delimiter-spec : {M : Type 1} → statement M
 has-stray-delimiter-spec =
     tie.close
     (tie.spec
-    count-obus-requires
-    enum-known-n
-    enum-told
+    (λ c κs. search needs)
+    (λ c. search needs)
+    (λ c. search needs)
     returns
-    obu-at-requires
-    enum-known-o
+    (λ c κs. search needs)
+    (λ c. search needs)
     returns-2
-    is-type-requires
+    (λ c κs. search needs)
     returns-3
     returns-4)

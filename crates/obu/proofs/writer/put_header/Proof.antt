@@ -17,56 +17,14 @@ room c =
     let h : length (extBytes (extensionSays (b .args .extension))) ≡ 1 = ap (λ x. length (extBytes (extensionSays x))) (c .before .extension .given .1) in
     omega (arith, b .pre .2)
 
-enum-told : tie.Need-enum-told
-enum-told c = search needs
-
-mul-out : tie.Need-mul-out
-mul-out c = search needs
-
-add-out : tie.Need-add-out
-add-out c = search needs
-
-slice-write-out : tie.Need-slice-write-out
-slice-write-out c = search needs
-
-add-result : tie.Need-add-result
-add-result c = search needs
-
-enum-known-extension : tie.Need-enum-known-extension
-enum-known-extension c = search needs
-
-mul-out-2 : tie.Need-mul-out-2
-mul-out-2 c = search needs
-
-add-out-2 : tie.Need-add-out-2
-add-out-2 c = search needs
-
-add-out-3 : tie.Need-add-out-3
-add-out-3 c = search needs
-
-slice-write-out-2 : tie.Need-slice-write-out-2
-slice-write-out-2 c = search needs
-
-add-next : tie.Need-add-next
-add-next c = search needs
-
 slice-write-out-3 : tie.Need-slice-write-out-3
 slice-write-out-3 c = rw length-set (room c)
-
-add-result-2 : tie.Need-add-result-2
-add-result-2 c = search needs
-
-same-length : tie.Need-same-length
-same-length c = search needs
 
 returns : tie.Need-returns
 returns c =
     let a = c .before .before .args in
     let e = c .enum-told .given .1 in
     rw e (omega arith, header-plain (now (a .out)) (a .at) (a .«obu-type») (a .«size-flag») (omega (arith, c .before .before .pre .2)))
-
-same-length-2 : tie.Need-same-length-2
-same-length-2 c = search needs
 
 returns-2 : tie.Need-returns-2
 returns-2 c =
@@ -78,20 +36,20 @@ pub put-header-spec : {M : Type 1} → statement M
 put-header-spec =
     tie.close
     (tie.spec
-    enum-told
-    mul-out
-    add-out
-    slice-write-out
-    add-result
-    enum-known-extension
-    mul-out-2
-    add-out-2
-    add-out-3
-    slice-write-out-2
-    add-next
+    (λ c. search needs)
+    (λ c. search needs)
+    (λ c. search needs)
+    (λ c. search needs)
+    (λ c. search needs)
+    (λ c. search needs)
+    (λ c. search needs)
+    (λ c. search needs)
+    (λ c. search needs)
+    (λ c. search needs)
+    (λ c. search needs)
     slice-write-out-3
-    add-result-2
-    same-length
+    (λ c. search needs)
+    (λ c. search needs)
     returns
-    same-length-2
+    (λ c. search needs)
     returns-2)

@@ -12,14 +12,8 @@ use Rattle.obu.proofs.writer.put_obu.Tie as tie
 passed : (c : tie.Else1) → passes (c .before .before .before .before .args .«obu-type») ≡ true
 passed c = sym (c .before .is-known-type .ensures) ∙ not-false _ (c .if1 .left)
 
-is-known-type-requires : tie.Need-is-known-type-requires
-is-known-type-requires c κs = search needs
-
 returns : tie.Need-returns
 returns c = obu-wrong _ _ _ _ _ (sym (c .before .is-known-type .ensures) ∙ not-true _ (c .if1 .taken))
-
-head-len-requires : tie.Need-head-len-requires
-head-len-requires c κs = search needs
 
 returns-2 : tie.Need-returns-2
 returns-2 c = obu-full _ _ _ _ _ (passed (c .before .before)) (omega arith)
@@ -27,17 +21,11 @@ returns-2 c = obu-full _ _ _ _ _ (passed (c .before .before)) (omega arith)
 returns-3 : tie.Need-returns-3
 returns-3 c = obu-full _ _ _ _ _ (passed (c .before .before .before)) (omega arith)
 
-sub-if4 : tie.Need-sub-if4
-sub-if4 c = search needs
-
 returns-4 : tie.Need-returns-4
 returns-4 c = obu-full _ _ _ _ _ (passed (c .before .before .before .before)) (omega arith)
 
 put-measured-requires : tie.Need-put-measured-requires
 put-measured-requires c κs = (passed (c .before .before .before .before .before), omega arith)
-
-same-length : tie.Need-same-length
-same-length c = search needs
 
 returns-5 : tie.Need-returns-5
 returns-5 c =
@@ -49,13 +37,13 @@ pub put-obu-spec : {M : Type 1} → statement M
 put-obu-spec =
     tie.close
     (tie.spec
-    is-known-type-requires
+    (λ c κs. search needs)
     returns
-    head-len-requires
+    (λ c κs. search needs)
     returns-2
     returns-3
-    sub-if4
+    (λ c. search needs)
     returns-4
     put-measured-requires
-    same-length
+    (λ c. search needs)
     returns-5)

@@ -18,41 +18,17 @@ returns c = let a = c .before .before .before .before .before .before .before .a
 returns-2 : tie.Need-returns-2
 returns-2 c = let a = c .before .before .before .before .before .before .before .before .args in four (out-unmatched (now (a .packets)) (now (a .packet-ends)) (now (a .times)) (now (a .out)) (now (a .out-ends)) (now (a .out-times)) (omega arith) (λ q. omega arith))
 
-check-ends-requires : tie.Need-check-ends-requires
-check-ends-requires c κs = search needs
-
 returns-3 : tie.Need-returns-3
 returns-3 c = let a = c .before .before .before .before .before .before .before .before .before .before .args in four (out-wrong (now (a .packets)) (now (a .packet-ends)) (now (a .times)) (now (a .out)) (now (a .out-ends)) (now (a .out-times)) (omega arith) (omega arith) (sym (c .before .check-ends .ensures) ∙ not-true _ (c .if3 .taken)))
 
-next-close-requires : tie.Need-next-close-requires
-next-close-requires c κs = search needs
-
 merge-none-requires : tie.Need-merge-none-requires
 merge-none-requires c κs = let k = c .before .before .before .before in none-closes (given (k .before)) (k .next-close .ensures) (omega arith)
-
-same-length : tie.Need-same-length
-same-length c = search needs
-
-same-length-2 : tie.Need-same-length-2
-same-length-2 c = search needs
-
-same-length-3 : tie.Need-same-length-3
-same-length-3 c = search needs
 
 returns-4 : tie.Need-returns-4
 returns-4 c = four (c .before .before .before .before .before .before .merge-none .ensures)
 
 merge-some-requires : tie.Need-merge-some-requires
 merge-some-requires c κs = let k = c .before .before .before .before in record { given = given (k .before); next = k .next-close .ensures; some = omega (arith, given (k .before) .match) }
-
-same-length-4 : tie.Need-same-length-4
-same-length-4 c = search needs
-
-same-length-5 : tie.Need-same-length-5
-same-length-5 c = search needs
-
-same-length-6 : tie.Need-same-length-6
-same-length-6 c = search needs
 
 returns-5 : tie.Need-returns-5
 returns-5 c = four (c .before .before .before .before .before .before .merge-some .ensures)
@@ -63,16 +39,16 @@ merge-frameless-packets-spec =
     (tie.spec
     returns
     returns-2
-    check-ends-requires
+    (λ c κs. search needs)
     returns-3
-    next-close-requires
+    (λ c κs. search needs)
     merge-none-requires
-    same-length
-    same-length-2
-    same-length-3
+    (λ c. search needs)
+    (λ c. search needs)
+    (λ c. search needs)
     returns-4
     merge-some-requires
-    same-length-4
-    same-length-5
-    same-length-6
+    (λ c. search needs)
+    (λ c. search needs)
+    (λ c. search needs)
     returns-5)

@@ -1,4 +1,3 @@
--- `assemble::frames::count_readable` meets its contract. Assumes nothing.
 use borrow.Author.Needs.{needs}
 use mathlib.Core.Path.{_∙_}
 use Rattle.pictures.proofs.frames.count_readable.Statement.{statement}

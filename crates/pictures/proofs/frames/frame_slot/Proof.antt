@@ -1,5 +1,3 @@
--- `assemble::frames::frame_slot` meets its contract. Assumes nothing.
-use borrow.Author.Needs.{needs}
 use borrow.Author.Needs.{needs}
 use mathlib.Core.Path.{sym, ap, _∙_}
 use Rattle.frame.specs.Frame.{frameSays}
@@ -7,35 +5,11 @@ use Rattle.pictures.proofs.FrameLaws.{key-refused, key-hidden, golden-r
 use Rattle.pictures.proofs.frames.frame_slot.Statement.{statement}
 use Rattle.pictures.proofs.frames.frame_slot.Tie as tie
 
-unit-frame-requires : tie.Need-unit-frame-requires
-unit-frame-requires c κs = search needs
-
-enum-known-k : tie.Need-enum-known-k
-enum-known-k c = search needs
-
-enum-known-shown : tie.Need-enum-known-shown
-enum-known-shown c = search needs
-
-is-shown-key-requires : tie.Need-is-shown-key-requires
-is-shown-key-requires c κs = search needs
-
 returns : tie.Need-returns
 returns c =
     let k = c .before in
     let y = k .before .before in
     key-hidden _ _ _ _ (sym (y .before .before .unit-frame .ensures) ∙ ap frameSays (y .shown .given .1)) (k .is-shown-key .result) (k .is-shown-key .ensures) (c .if1 .taken)
-
-unit-frame-requires-2 : tie.Need-unit-frame-requires-2
-unit-frame-requires-2 c κs = search needs
-
-enum-known-k-2 : tie.Need-enum-known-k-2
-enum-known-k-2 c = search needs
-
-enum-known-info : tie.Need-enum-known-info
-enum-known-info c = search needs
-
-refreshed-slot-requires : tie.Need-refreshed-slot-requires
-refreshed-slot-requires c κs = search needs
 
 returns-2 : tie.Need-returns-2
 returns-2 c = let k = c .before in key-refused _ _ _ _ (sym (k .before .before .unit-frame .ensures) ∙ ap frameSays (k .k .given .1))
@@ -63,15 +37,15 @@ pub frame-slot-spec : {M : Type 1} → statement M
 frame-slot-spec =
     tie.close
     (tie.spec
-    unit-frame-requires
-    enum-known-k
-    enum-known-shown
-    is-shown-key-requires
+    (λ c κs. search needs)
+    (λ c. search needs)
+    (λ c. search needs)
+    (λ c κs. search needs)
     returns
-    unit-frame-requires-2
-    enum-known-k-2
-    enum-known-info
-    refreshed-slot-requires
+    (λ c κs. search needs)
+    (λ c. search needs)
+    (λ c. search needs)
+    (λ c κs. search needs)
     returns-2
     returns-3
     returns-4)

@@ -1,5 +1,3 @@
--- `assemble::frames::is_shown_key` meets its contract. Assumes nothing.
-use borrow.Author.Needs.{needs}
 use borrow.Author.Needs.{needs}
 use Rattle.pictures.proofs.frames.is_shown_key.Statement.{statement}
 use Rattle.pictures.proofs.frames.is_shown_key.Tie as tie

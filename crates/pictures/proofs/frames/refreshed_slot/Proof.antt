@@ -1,16 +1,8 @@
--- `assemble::frames::refreshed_slot` meets its contract. Assumes nothing.
-use borrow.Author.Needs.{needs}
 use borrow.Author.Needs.{needs}
 use Rattle.bitio.specs.Parse.{andNext}
 use Rattle.pictures.proofs.FrameLaws.{golden-hidden, golden-key, golden-idle, golden-slot}
 use Rattle.pictures.proofs.frames.refreshed_slot.Statement.{statement}
 use Rattle.pictures.proofs.frames.refreshed_slot.Tie as tie
-
-enum-told : tie.Need-enum-told
-enum-told c = search needs
-
-enum-known-info : tie.Need-enum-known-info
-enum-known-info c = search needs
 
 returns : tie.Need-returns
 returns c = golden-hidden (c .before .before .before .info .given .1) (c .if1 .taken)
@@ -23,9 +15,6 @@ returns-3 c =
     let k = c .before .before in
     let e = k .before .before in
     golden-idle (e .before .before .before .info .given .1) (e .if1 .left) (k .if2 .left) (c .if3 .taken)
-
-lowest-refreshed-slot-requires : tie.Need-lowest-refreshed-slot-requires
-lowest-refreshed-slot-requires c κs = search needs
 
 returns-4 : tie.Need-returns-4
 unfolding andNext
@@ -42,11 +31,11 @@ pub refreshed-slot-spec : {M : Type 1} → statement M
 refreshed-slot-spec =
     tie.close
     (tie.spec
-    enum-told
-    enum-known-info
+    (λ c. search needs)
+    (λ c. search needs)
     returns
     returns-2
     returns-3
-    lowest-refreshed-slot-requires
+    (λ c κs. search needs)
     returns-4
     returns-5)

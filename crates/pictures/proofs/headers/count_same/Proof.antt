@@ -1,5 +1,3 @@
--- `assemble::headers::count_same` meets its contract. Assumes nothing.
-use borrow.Author.Needs.{needs}
 use borrow.Author.Needs.{needs}
 use mathlib.Core.Path.{sym, ap, _∙_}
 use Rattle.obu.specs.Unit.{countedSays}
@@ -7,25 +5,10 @@ use Rattle.pictures.proofs.SameLaws.{last-refused, last-missing, last-o
 use Rattle.pictures.proofs.headers.count_same.Statement.{statement}
 use Rattle.pictures.proofs.headers.count_same.Tie as tie
 
-count-obus-requires : tie.Need-count-obus-requires
-count-obus-requires c κs = search needs
-
-enum-known-k : tie.Need-enum-known-k
-enum-known-k c = search needs
-
-enum-known-n : tie.Need-enum-known-n
-enum-known-n c = search needs
-
 returns : tie.Need-returns
 returns c =
     let n = c .before .before in
     last-missing _ _ _ (sym (ap countedSays (n .n .given .1)) ∙ n .before .before .count-obus .ensures) (c .if1 .taken)
-
-last-payload-requires : tie.Need-last-payload-requires
-last-payload-requires c κs = search needs
-
-same-bytes-requires : tie.Need-same-bytes-requires
-same-bytes-requires c κs = search needs
 
 returns-2 : tie.Need-returns-2
 returns-2 c =
@@ -48,12 +31,12 @@ pub count-same-spec : {M : Type 1} → statement M
 count-same-spec =
     tie.close
     (tie.spec
-    count-obus-requires
-    enum-known-k
-    enum-known-n
+    (λ c κs. search needs)
+    (λ c. search needs)
+    (λ c. search needs)
     returns
-    last-payload-requires
-    same-bytes-requires
+    (λ c κs. search needs)
+    (λ c κs. search needs)
     returns-2
     returns-3
     returns-4)

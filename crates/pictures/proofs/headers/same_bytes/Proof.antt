@@ -1,4 +1,3 @@
--- `assemble::headers::same_bytes` meets its contract. Assumes nothing.
 use borrow.Author.Needs.{needs}
 use native.Mathlib.Omega.{arith}
 use Prim.Native.Nat.{_-_}
@@ -19,20 +18,11 @@ returns c = unlike-length _ _ (c .if1 .taken)
 loop-holds : tie.Need-loop-holds Inv-loop μ-loop
 loop-holds c = alike-start _ _ (c .if1 .left)
 
-shared-slice-read-if2 : tie.Need-shared-slice-read-if2 Inv-loop μ-loop
-shared-slice-read-if2 c = search needs
-
 shared-slice-read-if2-2 : tie.Need-shared-slice-read-if2-2 Inv-loop μ-loop
 shared-slice-read-if2-2 c = omega (arith, c .before .before .before .loop .inv .long)
 
 returns-2 : tie.Need-returns-2 Inv-loop μ-loop
 returns-2 c = let t = c .before .before .before in alike-not (t .before .loop .inv) (t .loop-test .taken) (c .if2 .taken)
-
-add-i : tie.Need-add-i Inv-loop μ-loop
-add-i c = search needs
-
-loop-less : tie.Need-loop-less Inv-loop μ-loop
-loop-less c = search needs
 
 loop-again : tie.Need-loop-again Inv-loop μ-loop
 loop-again c = let t = c .before .before .before in alike-turn (t .before .loop .inv) (t .loop-test .taken) (c .if2 .left)
@@ -48,10 +38,10 @@ same-bytes-spec =
     μ-loop
     returns
     loop-holds
-    shared-slice-read-if2
+    (λ c. search needs)
     shared-slice-read-if2-2
     returns-2
-    add-i
-    loop-less
+    (λ c. search needs)
+    (λ c. search needs)
     loop-again
     returns-3)

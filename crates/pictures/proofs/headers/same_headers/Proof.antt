@@ -1,4 +1,3 @@
--- `pictures::headers::same_headers` meets its contract. Assumes nothing.
 use borrow.Author.Needs.{needs}
 use native.Mathlib.Omega.{arith}
 use Rattle.obu.specs.Unit.{countedSays}
@@ -16,35 +15,14 @@ Inv-loop picture segments first count i₀ i = Agree first picture segments i
 abbrev μ-loop : tie.MeasureT-loop
 μ-loop picture segments first count i₀ i = segmentCount segments - i
 
-segment-count-requires : tie.Need-segment-count-requires Inv-loop μ-loop
-segment-count-requires c κs = search needs
-
 loop-holds : tie.Need-loop-holds Inv-loop μ-loop
 loop-holds c = agree-start _ _ _
-
-key-of-requires : tie.Need-key-of-requires Inv-loop μ-loop
-key-of-requires c κs = search needs
-
-count-same-requires : tie.Need-count-same-requires Inv-loop μ-loop
-count-same-requires c κs = search needs
-
-enum-known-k : tie.Need-enum-known-k Inv-loop μ-loop
-enum-known-k c = search needs
 
 returns : tie.Need-returns Inv-loop μ-loop
 returns c =
     let k = c .before in
     let r = k .before .before in
     agree-refused (r .before .before .before .loop .inv) (omega arith) _ (r .before .key-of .ensures) _ (compared-is _ _ ∙ ap legible (sym (r .count-same .ensures)) ∙ ap (λ y. legible (countedSays y)) (k .k .given .1))
-
-enum-told : tie.Need-enum-told Inv-loop μ-loop
-enum-told c = search needs
-
-add-i : tie.Need-add-i Inv-loop μ-loop
-add-i c = search needs
-
-loop-less : tie.Need-loop-less Inv-loop μ-loop
-loop-less c = search needs
 
 loop-again : tie.Need-loop-again Inv-loop μ-loop
 loop-again c =
@@ -60,14 +38,14 @@ same-headers-spec =
     (tie.spec
     Inv-loop
     μ-loop
-    segment-count-requires
+    (λ c κs. search needs)
     loop-holds
-    key-of-requires
-    count-same-requires
-    enum-known-k
+    (λ c κs. search needs)
+    (λ c κs. search needs)
+    (λ c. search needs)
     returns
-    enum-told
-    add-i
-    loop-less
+    (λ c. search needs)
+    (λ c. search needs)
+    (λ c. search needs)
     loop-again
     returns-2)

@@ -1,4 +1,3 @@
--- `assemble::pictures::measure_pictures` meets its contract. Assumes nothing.
 use borrow.Author.Needs.{needs}
 use Prim.Native.Nat.{_-_}
 use native.Mathlib.Omega.{arith}
@@ -14,38 +13,11 @@ Inv-loop picture segments header points new rewriting count i₀ sum₀ i sum = 
 abbrev μ-loop : tie.MeasureT-loop
 μ-loop picture segments header points new rewriting count i₀ sum₀ i sum = segmentCount segments - i
 
-segment-count-requires : tie.Need-segment-count-requires Inv-loop μ-loop
-segment-count-requires c κs = search needs
-
 loop-holds : tie.Need-loop-holds Inv-loop μ-loop
 loop-holds c = measure-start _ _ _ _ _
 
-key-of-requires : tie.Need-key-of-requires Inv-loop μ-loop
-key-of-requires c κs = search needs
-
-golden-of-requires : tie.Need-golden-of-requires Inv-loop μ-loop
-golden-of-requires c κs = search needs
-
-measure-units-requires : tie.Need-measure-units-requires Inv-loop μ-loop
-measure-units-requires c κs = search needs
-
-enum-known-units : tie.Need-enum-known-units Inv-loop μ-loop
-enum-known-units c = search needs
-
-enum-told : tie.Need-enum-told Inv-loop μ-loop
-enum-told c = search needs
-
 returns : tie.Need-returns Inv-loop μ-loop
 returns c = measure-stop (c .before .before .before .before .before .before .loop .inv) (omega arith) _ _ _ (c .before .before .before .before .key-of .ensures) (c .before .before .before .golden-of .ensures) (c .before .before .measure-units .ensures) _ _ (c .enum-told .given .1)
-
-plus-requires : tie.Need-plus-requires Inv-loop μ-loop
-plus-requires c κs = search needs
-
-add-i : tie.Need-add-i Inv-loop μ-loop
-add-i c = search needs
-
-loop-less : tie.Need-loop-less Inv-loop μ-loop
-loop-less c = search needs
 
 loop-again : tie.Need-loop-again Inv-loop μ-loop
 loop-again c = measure-turn (c .before .before .before .before .before .before .before .before .loop .inv) (omega arith) _ _ _ (c .before .before .before .before .before .before .key-of .ensures) (c .before .before .before .before .before .golden-of .ensures) (c .before .before .before .before .measure-units .ensures) _ _ (c .before .before .units .given .1) (c .plus .ensures)
@@ -59,16 +31,16 @@ measure-pictures-spec =
     (tie.spec
     Inv-loop
     μ-loop
-    segment-count-requires
+    (λ c κs. search needs)
     loop-holds
-    key-of-requires
-    golden-of-requires
-    measure-units-requires
-    enum-known-units
-    enum-told
+    (λ c κs. search needs)
+    (λ c κs. search needs)
+    (λ c κs. search needs)
+    (λ c. search needs)
+    (λ c. search needs)
     returns
-    plus-requires
-    add-i
-    loop-less
+    (λ c κs. search needs)
+    (λ c. search needs)
+    (λ c. search needs)
     loop-again
     returns-2)

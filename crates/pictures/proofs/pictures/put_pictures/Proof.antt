@@ -1,4 +1,3 @@
--- `pictures::pictures::put_pictures` meets its contract. Assumes nothing.
 use borrow.Author.Needs.{needs}
 use native.Mathlib.Omega.{arith}
 use Rattle.pictures.proofs.PutLaws.{Putting, put-start, put-front, put-ends, put-turn, put-end}
@@ -13,17 +12,8 @@ Inv-loop pictures₀ ends₀ picture segments new rewriting count i₀ at₀ pic
 abbrev μ-loop : tie.MeasureT-loop
 μ-loop pictures₀ ends₀ picture segments new rewriting count i₀ at₀ pictures ends i at = segmentCount segments - i
 
-segment-count-requires : tie.Need-segment-count-requires Inv-loop μ-loop
-segment-count-requires c κs = search needs
-
 loop-holds : tie.Need-loop-holds Inv-loop μ-loop
 loop-holds c = put-start _ _ _ _ _ _
-
-key-of-requires : tie.Need-key-of-requires Inv-loop μ-loop
-key-of-requires c κs = search needs
-
-golden-of-requires : tie.Need-golden-of-requires Inv-loop μ-loop
-golden-of-requires c κs = search needs
 
 put-units-requires : tie.Need-put-units-requires Inv-loop μ-loop
 put-units-requires c κs =
@@ -33,12 +23,6 @@ put-units-requires c κs =
     let u = c .before .before .golden-of .ensures in
     let f = put-front (l .loop .inv) (omega arith) _ _ k u in
     (omega (arith, f, g .0), (omega (arith, f, g .1 .0, l .loop .inv .pictures-len), put-ends (l .loop .inv) (omega arith) _ _ k u (g .1 .1)))
-
-add-i : tie.Need-add-i Inv-loop μ-loop
-add-i c = search needs
-
-loop-less : tie.Need-loop-less Inv-loop μ-loop
-loop-less c = search needs
 
 loop-again : tie.Need-loop-again Inv-loop μ-loop
 loop-again c =
@@ -63,13 +47,13 @@ put-pictures-spec =
     (tie.spec
     Inv-loop
     μ-loop
-    segment-count-requires
+    (λ c κs. search needs)
     loop-holds
-    key-of-requires
-    golden-of-requires
+    (λ c κs. search needs)
+    (λ c κs. search needs)
     put-units-requires
-    add-i
-    loop-less
+    (λ c. search needs)
+    (λ c. search needs)
     loop-again
     same-length
     same-length-2

@@ -1,4 +1,3 @@
--- `pictures::pictures::put_shows` meets its contract. Assumes nothing.
 use borrow.Author.Needs.{needs}
 use native.Mathlib.Omega.{arith}
 use Prim.Native.Nat.{ℕ, _-_, _<_}
@@ -15,35 +14,14 @@ Inv-loop shows₀ picture segments header points rewriting count i₀ shows i = 
 abbrev μ-loop : tie.MeasureT-loop
 μ-loop shows₀ picture segments header points rewriting count i₀ shows i = segmentCount segments - i
 
-segment-count-requires : tie.Need-segment-count-requires Inv-loop μ-loop
-segment-count-requires c κs = search needs
-
 loop-holds : tie.Need-loop-holds Inv-loop μ-loop
 loop-holds c = show-start _ _ _ _ _
-
-key-of-requires : tie.Need-key-of-requires Inv-loop μ-loop
-key-of-requires c κs = search needs
-
-golden-of-requires : tie.Need-golden-of-requires Inv-loop μ-loop
-golden-of-requires c κs = search needs
-
-slot-or-zero-requires : tie.Need-slot-or-zero-requires Inv-loop μ-loop
-slot-or-zero-requires c κs = search needs
-
-mul-put-show : tie.Need-mul-put-show Inv-loop μ-loop
-mul-put-show c = search needs
 
 put-show-requires : tie.Need-put-show-requires Inv-loop μ-loop
 put-show-requires c κs =
     let l = c .before .before .before .before .before in
     let g = l .before .before .before .before .before .pre in
     (show-room (l .loop .inv) (omega arith) g, subst (λ (n : ℕ). n < 8) (sym (c .before .slot-or-zero .ensures)) (slot-small _ _ _ _))
-
-add-i : tie.Need-add-i Inv-loop μ-loop
-add-i c = search needs
-
-loop-less : tie.Need-loop-less Inv-loop μ-loop
-loop-less c = search needs
 
 loop-again : tie.Need-loop-again Inv-loop μ-loop
 loop-again c =
@@ -64,15 +42,15 @@ put-shows-spec =
     (tie.spec
     Inv-loop
     μ-loop
-    segment-count-requires
+    (λ c κs. search needs)
     loop-holds
-    key-of-requires
-    golden-of-requires
-    slot-or-zero-requires
-    mul-put-show
+    (λ c κs. search needs)
+    (λ c κs. search needs)
+    (λ c κs. search needs)
+    (λ c. search needs)
     put-show-requires
-    add-i
-    loop-less
+    (λ c. search needs)
+    (λ c. search needs)
     loop-again
     same-length
     returns)

@@ -1,4 +1,3 @@
--- `assemble::pictures::put_units` meets its contract. Assumes nothing.
 use borrow.Author.Needs.{needs}
 use native.Mathlib.Omega.{arith}
 use mathlib.Core.Path.{_≡_, ap, _∙_}
@@ -37,35 +36,11 @@ put-sent-requires-2 c κs =
 cast-ends : tie.Need-cast-ends
 cast-ends c = let s = c .before .before .before .before .before .before .before .before .before .before .before .before .before in omega (arith, c .before .before .before .before .before .before .put-sent .ensures .0, s .pre .0, split s)
 
-mul-ends : tie.Need-mul-ends
-mul-ends c = search needs
-
-mul-ends-2 : tie.Need-mul-ends-2
-mul-ends-2 c = search needs
-
-slice-write-ends : tie.Need-slice-write-ends
-slice-write-ends c = search needs
-
 cast-ends-2 : tie.Need-cast-ends-2
 cast-ends-2 c = let s = c .before .before .before .before .before .before .before .before .before .before .before .before .before in omega (arith, c .before .before .before .before .before .before .put-sent .ensures .0, c .before .before .put-sent2 .ensures .0, s .pre .0, split s)
 
-mul-ends-3 : tie.Need-mul-ends-3
-mul-ends-3 c = search needs
-
-add-ends : tie.Need-add-ends
-add-ends c = search needs
-
-mul-ends-4 : tie.Need-mul-ends-4
-mul-ends-4 c = search needs
-
 slice-write-ends-2 : tie.Need-slice-write-ends-2
 slice-write-ends-2 c = simp length-set (omega (arith, c .before .before .before .before .before .before .before .before .before .before .before .before .before .pre .1 .1))
-
-same-length : tie.Need-same-length
-same-length c = search needs
-
-same-length-2 : tie.Need-same-length-2
-same-length-2 c = search needs
 
 returns : tie.Need-returns
 returns c =
@@ -83,14 +58,14 @@ put-units-spec =
     put-sent-requires
     put-sent-requires-2
     cast-ends
-    mul-ends
-    mul-ends-2
-    slice-write-ends
+    (λ c. search needs)
+    (λ c. search needs)
+    (λ c. search needs)
     cast-ends-2
-    mul-ends-3
-    add-ends
-    mul-ends-4
+    (λ c. search needs)
+    (λ c. search needs)
+    (λ c. search needs)
     slice-write-ends-2
-    same-length
-    same-length-2
+    (λ c. search needs)
+    (λ c. search needs)
     returns)

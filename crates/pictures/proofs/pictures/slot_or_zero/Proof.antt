@@ -1,4 +1,3 @@
--- `assemble::pictures::slot_or_zero` meets its contract. Assumes nothing.
 use borrow.Author.Needs.{needs}
 use mathlib.Core.Path.{sym, ap, _∙_}
 use Rattle.pictures.specs.Code.{orElse}

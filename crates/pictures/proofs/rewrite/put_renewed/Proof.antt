@@ -1,4 +1,3 @@
--- `assemble::rewrite::put_renewed` meets its contract. Assumes nothing.
 use borrow.Author.Needs.{needs}
 use native.Mathlib.Omega.{arith}
 use mathlib.Core.Path.{_≡_, sym, ap, _∙_}
@@ -30,18 +29,12 @@ none-new c =
     let a = c .before .before .before .before .before in
     ap obuBytes (renewed-none (now (a .args .new)) (there a) (sym (c .before .is-type .ensures) ∙ c .if1 .left))
 
-is-type-requires : tie.Need-is-type-requires
-is-type-requires c κs = search needs
-
 put-measured-requires : tie.Need-put-measured-requires
 put-measured-requires c κs =
     let b = c .before in
     let a = b .before .before .before .before .before in
     let e = ap length (some-new b) ∙ obu-length (obu (there a .type) (there a .ext) (now (a .args .new))) in
     (a .pre .0, omega (arith, a .pre .1))
-
-same-length : tie.Need-same-length
-same-length c = search needs
 
 returns : tie.Need-returns
 returns c =
@@ -52,18 +45,12 @@ returns c =
     let e = some-new b in
     (w .0 ∙ omega (arith, ap length e, obu-length (obu (there a .type) (there a .ext) (now (a .args .new)))), w .1 ∙ ap (pasted _ _) (sym e))
 
-payload-requires : tie.Need-payload-requires
-payload-requires c κs = search needs
-
 put-measured-requires-2 : tie.Need-put-measured-requires-2
 put-measured-requires-2 c κs =
     let b = c .before .before in
     let a = b .before .before .before .before .before in
     let e = ap length (none-new b) ∙ obu-length (there a) in
     rw (c .payload .ensures) (a .pre .0, omega (arith, a .pre .1))
-
-same-length-2 : tie.Need-same-length-2
-same-length-2 c = search needs
 
 returns-2 : tie.Need-returns-2
 returns-2 c =
@@ -78,11 +65,11 @@ pub put-renewed-spec : {M : Type 1} → statement M
 put-renewed-spec =
     tie.close
     (tie.spec
-    is-type-requires
+    (λ c κs. search needs)
     put-measured-requires
-    same-length
+    (λ c. search needs)
     returns
-    payload-requires
+    (λ c κs. search needs)
     put-measured-requires-2
-    same-length-2
+    (λ c. search needs)
     returns-2)

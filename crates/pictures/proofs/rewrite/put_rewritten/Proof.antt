@@ -1,4 +1,3 @@
--- `assemble::rewrite::put_rewritten` meets its contract. Assumes nothing.
 use borrow.Author.Needs.{needs}
 use native.Mathlib.Omega.{arith}
 use mathlib.Core.Path.{sym, ap, _∙_}
@@ -26,12 +25,6 @@ got c = is-placed _ _ (sym (c .before .before .obu-at .ensures) ∙ ap obuSays (
 
 loop-holds : tie.Need-loop-holds Inv-loop μ-loop
 loop-holds c = let a = c .before .before .before in put-start _ _ _ _ (a .pre .0) (a .pre .1)
-
-obu-at-requires : tie.Need-obu-at-requires Inv-loop μ-loop
-obu-at-requires c κs = search needs
-
-enum-known-o : tie.Need-enum-known-o Inv-loop μ-loop
-enum-known-o c = search needs
 
 same-length : tie.Need-same-length Inv-loop μ-loop
 same-length c = put-long (c .before .before .before .loop .inv)
@@ -70,8 +63,8 @@ put-rewritten-spec =
     Inv-loop
     μ-loop
     loop-holds
-    obu-at-requires
-    enum-known-o
+    (λ c κs. search needs)
+    (λ c. search needs)
     same-length
     returns
     put-renewed-requires

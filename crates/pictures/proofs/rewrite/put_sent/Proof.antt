@@ -1,4 +1,3 @@
--- `assemble::rewrite::put_sent` meets its contract. Assumes nothing.
 use borrow.Author.Needs.{needs}
 use native.Mathlib.Omega.{arith}
 use mathlib.Core.Path.{_≡_, sym, ap, _∙_}
@@ -48,24 +47,12 @@ put-bytes-requires c κs =
     let b = c .before in
     omega (arith, b .before .before .before .before .pre, ap length (copied b))
 
-same-length : tie.Need-same-length
-same-length c = search needs
-
 returns : tie.Need-returns
 returns c =
     let m = c .before .before in
     let e = copied (m .before .before) in
     let w = m .put-bytes .ensures in
     (w .0 ∙ omega (arith, ap length e), w .1 ∙ ap (pasted _ _) (sym e))
-
-count-obus-requires : tie.Need-count-obus-requires
-count-obus-requires c κs = search needs
-
-enum-known-n : tie.Need-enum-known-n
-enum-known-n c = search needs
-
-enum-told : tie.Need-enum-told
-enum-told c = search needs
 
 returns-2 : tie.Need-returns-2
 returns-2 c =
@@ -79,9 +66,6 @@ put-bytes-requires-2 c κs =
     let b = c .before in
     let a = b .before .before .before .before .before .before .before .before .before in
     omega (arith, a .pre, ap length (copied-too b))
-
-same-length-2 : tie.Need-same-length-2
-same-length-2 c = search needs
 
 returns-3 : tie.Need-returns-3
 returns-3 c =
@@ -97,9 +81,6 @@ put-rewritten-requires c κs =
     let (e, r) = changed b in
     (r, omega (arith, a .pre, ap length e))
 
-same-length-3 : tie.Need-same-length-3
-same-length-3 c = search needs
-
 returns-4 : tie.Need-returns-4
 returns-4 c =
     let m = c .before .before in
@@ -112,15 +93,15 @@ put-sent-spec =
     tie.close
     (tie.spec
     put-bytes-requires
-    same-length
+    (λ c. search needs)
     returns
-    count-obus-requires
-    enum-known-n
-    enum-told
+    (λ c κs. search needs)
+    (λ c. search needs)
+    (λ c. search needs)
     returns-2
     put-bytes-requires-2
-    same-length-2
+    (λ c. search needs)
     returns-3
     put-rewritten-requires
-    same-length-3
+    (λ c. search needs)
     returns-4)

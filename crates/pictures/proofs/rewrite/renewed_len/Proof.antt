@@ -1,4 +1,3 @@
--- `assemble::rewrite::renewed_len` meets its contract. Assumes nothing.
 use borrow.Author.Needs.{needs}
 use native.Mathlib.Omega.{arith}
 use mathlib.Core.Path.{_≡_, sym, ap, _∙_}
@@ -18,12 +17,6 @@ use Rattle.pictures.proofs.rewrite.renewed_len.Tie as tie
 abbrev there : tie.Start → Obu
 there a = obuIn (now (a .args .unit)) (a .args .o)
 
-is-type-requires : tie.Need-is-type-requires
-is-type-requires c κs = search needs
-
-obu-len-requires : tie.Need-obu-len-requires
-obu-len-requires c κs = search needs
-
 returns : tie.Need-returns
 returns c =
     let k = c .before .before in
@@ -32,12 +25,6 @@ returns c =
     let t : isSequence (there a) ≡ true = sym (k .is-type .ensures) ∙ c .before .if1 .taken in
     let n = ap (λ x. length (obuBytes x)) (renewed-some new (there a) t) in
     omega (arith, c .obu-len .ensures, n, obu-length (obu (there a .type) (there a .ext) new))
-
-payload-requires : tie.Need-payload-requires
-payload-requires c κs = search needs
-
-obu-len-requires-2 : tie.Need-obu-len-requires-2
-obu-len-requires-2 c κs = search needs
 
 returns-2 : tie.Need-returns-2
 returns-2 c =
@@ -53,9 +40,9 @@ pub renewed-len-spec : {M : Type 1} → statement M
 renewed-len-spec =
     tie.close
     (tie.spec
-    is-type-requires
-    obu-len-requires
+    (λ c κs. search needs)
+    (λ c κs. search needs)
     returns
-    payload-requires
-    obu-len-requires-2
+    (λ c κs. search needs)
+    (λ c κs. search needs)
     returns-2)

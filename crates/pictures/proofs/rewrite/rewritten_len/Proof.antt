@@ -1,4 +1,3 @@
--- `assemble::rewrite::rewritten_len` meets its contract. Assumes nothing.
 use borrow.Author.Needs.{needs}
 use native.Mathlib.Omega.{arith}
 use mathlib.Core.Path.{sym, ap, _∙_}
@@ -27,23 +26,11 @@ got c = is-placed _ _ (sym (c .before .before .obu-at .ensures) ∙ ap obuSays (
 loop-holds : tie.Need-loop-holds Inv-loop μ-loop
 loop-holds c = size-start _ _
 
-obu-at-requires : tie.Need-obu-at-requires Inv-loop μ-loop
-obu-at-requires c κs = search needs
-
-enum-known-o : tie.Need-enum-known-o Inv-loop μ-loop
-enum-known-o c = search needs
-
 returns : tie.Need-returns Inv-loop μ-loop
 returns c =
     let k = c .before in
     let l = k .before .before .loop in
     size-stop (l .inv) _ (not-found _ _ (k .obu-at .result) (c .match .keys2) (k .before .loop-test .taken) (k .obu-at .ensures))
-
-renewed-len-requires : tie.Need-renewed-len-requires Inv-loop μ-loop
-renewed-len-requires c κs = search needs
-
-plus-requires : tie.Need-plus-requires Inv-loop μ-loop
-plus-requires c κs = search needs
 
 loop-less : tie.Need-loop-less Inv-loop μ-loop
 loop-less c = let g = got (c .before .before .before) .placed in omega (arith, g .after, g .ends, g .within)
@@ -64,11 +51,11 @@ rewritten-len-spec =
     Inv-loop
     μ-loop
     loop-holds
-    obu-at-requires
-    enum-known-o
+    (λ c κs. search needs)
+    (λ c. search needs)
     returns
-    renewed-len-requires
-    plus-requires
+    (λ c κs. search needs)
+    (λ c κs. search needs)
     loop-less
     loop-again
     returns-2)

@@ -1,4 +1,3 @@
--- `assemble::rewrite::sent_len` meets its contract. Assumes nothing.
 use borrow.Author.Needs.{needs}
 use native.Mathlib.Omega.{arith}
 use mathlib.Core.Path.{_≡_, sym, ap, _∙_}
@@ -25,15 +24,6 @@ returns c =
     let e = sent-plain (now (a .new)) (now (a .unit)) (a .rewriting) (c .if1 .taken) in
     omega (arith, ap length e)
 
-count-obus-requires : tie.Need-count-obus-requires
-count-obus-requires c κs = search needs
-
-enum-known-n : tie.Need-enum-known-n
-enum-known-n c = search needs
-
-enum-told : tie.Need-enum-told
-enum-told c = search needs
-
 returns-2 : tie.Need-returns-2
 returns-2 c =
     let k = c .before .before in
@@ -48,9 +38,6 @@ returns-3 c =
     let e = sent-copied (now (a .new)) (now (a .unit)) (a .rewriting) (n .before .before .before .if1 .left) _ (c .if2 .taken) (counted n) in
     omega (arith, ap length e)
 
-rewritten-len-requires : tie.Need-rewritten-len-requires
-rewritten-len-requires c κs = search needs
-
 returns-4 : tie.Need-returns-4
 returns-4 c =
     let k = c .before in
@@ -64,10 +51,10 @@ sent-len-spec =
     tie.close
     (tie.spec
     returns
-    count-obus-requires
-    enum-known-n
-    enum-told
+    (λ c κs. search needs)
+    (λ c. search needs)
+    (λ c. search needs)
     returns-2
     returns-3
-    rewritten-len-requires
+    (λ c κs. search needs)
     returns-4)

@@ -1,4 +1,3 @@
--- `pictures::sizes::check_sizes` meets its contract. Assumes nothing.
 use borrow.Author.Needs.{needs}
 use native.Mathlib.Omega.{arith}
 use denote.Ref.{now}
@@ -6,23 +5,14 @@ use Rattle.pictures.proofs.SizeLaws.{refused-21, refused-22, refused-23
 use Rattle.pictures.proofs.sizes.check_sizes.Statement.{statement}
 use Rattle.pictures.proofs.sizes.check_sizes.Tie as tie
 
-segment-count-requires : tie.Need-segment-count-requires
-segment-count-requires c κs = search needs
-
 returns : tie.Need-returns
 returns c = refused-21 (c .before .before .before .args .gop) (now (c .before .before .before .args .segments)) (omega arith)
 
 returns-2 : tie.Need-returns-2
 returns-2 c = refused-22 (c .before .before .before .before .args .gop) (now (c .before .before .before .before .args .segments)) (λ e. absurd (omega arith)) (c .if2 .taken)
 
-total-frames-requires : tie.Need-total-frames-requires
-total-frames-requires c κs = search needs
-
 returns-3 : tie.Need-returns-3
 returns-3 c = refused-23 (c .before .before .before .before .before .before .args .gop) (now (c .before .before .before .before .before .before .args .segments)) (λ e. absurd (omega arith)) (c .before .before .if2 .left) _ (c .before .total-frames .ensures) (c .if3 .taken)
-
-first-empty-requires : tie.Need-first-empty-requires
-first-empty-requires c κs = search needs
 
 returns-4 : tie.Need-returns-4
 returns-4 c = refused-24 (c .before .before .before .before .before .before .before .before .args .gop) (now (c .before .before .before .before .before .before .before .before .args .segments)) (λ e. absurd (omega arith)) (c .before .before .before .before .if2 .left) _ (c .before .before .before .total-frames .ensures) (c .before .before .if3 .left) _ (c .before .first-empty .ensures) (omega arith)
@@ -37,12 +27,12 @@ pub check-sizes-spec : {M : Type 1} → statement M
 check-sizes-spec =
     tie.close
     (tie.spec
-    segment-count-requires
+    (λ c κs. search needs)
     returns
     returns-2
-    total-frames-requires
+    (λ c κs. search needs)
     returns-3
-    first-empty-requires
+    (λ c κs. search needs)
     returns-4
     returns-5
     returns-6)

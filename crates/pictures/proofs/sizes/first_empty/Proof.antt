@@ -1,4 +1,3 @@
--- `pictures::sizes::first_empty` meets its contract. Assumes nothing.
 use borrow.Author.Needs.{needs}
 use native.Mathlib.Omega.{arith}
 use Rattle.pictures.proofs.SizeLaws.{Seeking, seek-start, seek-none, seek-found, seek-turn}
@@ -14,23 +13,11 @@ Inv-loop segments count i₀ i = Seeking segments i
 abbrev μ-loop : tie.MeasureT-loop
 μ-loop segments count i₀ i = segmentCount segments - i
 
-segment-count-requires : tie.Need-segment-count-requires Inv-loop μ-loop
-segment-count-requires c κs = search needs
-
 loop-holds : tie.Need-loop-holds Inv-loop μ-loop
 loop-holds c = seek-start _
 
-frames-of-requires : tie.Need-frames-of-requires Inv-loop μ-loop
-frames-of-requires c κs = search needs
-
 returns : tie.Need-returns Inv-loop μ-loop
 returns c = seek-found (c .before .before .before .loop .inv) (omega arith) (sym (c .before .frames-of .ensures) ∙ c .if1 .taken)
-
-add-i : tie.Need-add-i Inv-loop μ-loop
-add-i c = search needs
-
-loop-less : tie.Need-loop-less Inv-loop μ-loop
-loop-less c = search needs
 
 loop-again : tie.Need-loop-again Inv-loop μ-loop
 loop-again c = seek-turn (c .before .before .before .loop .inv) (omega arith) (λ e. c .if1 .left (c .before .frames-of .ensures ∙ e))
@@ -44,11 +31,11 @@ first-empty-spec =
     (tie.spec
     Inv-loop
     μ-loop
-    segment-count-requires
+    (λ c κs. search needs)
     loop-holds
-    frames-of-requires
+    (λ c κs. search needs)
     returns
-    add-i
-    loop-less
+    (λ c. search needs)
+    (λ c. search needs)
     loop-again
     returns-2)

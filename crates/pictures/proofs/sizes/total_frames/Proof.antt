@@ -1,4 +1,3 @@
--- `assemble::sizes::total_frames` meets its contract. Assumes nothing.
 use borrow.Author.Needs.{needs}
 use Prim.Native.Nat.{_-_}
 use native.Mathlib.Omega.{arith}
@@ -13,23 +12,8 @@ Inv-loop segments count i₀ sum₀ i sum = Summing segments i sum
 abbrev μ-loop : tie.MeasureT-loop
 μ-loop segments count i₀ sum₀ i sum = segmentCount segments - i
 
-segment-count-requires : tie.Need-segment-count-requires Inv-loop μ-loop
-segment-count-requires c κs = search needs
-
 loop-holds : tie.Need-loop-holds Inv-loop μ-loop
 loop-holds c = sum-start _
-
-frames-of-requires : tie.Need-frames-of-requires Inv-loop μ-loop
-frames-of-requires c κs = search needs
-
-plus-requires : tie.Need-plus-requires Inv-loop μ-loop
-plus-requires c κs = search needs
-
-add-i : tie.Need-add-i Inv-loop μ-loop
-add-i c = search needs
-
-loop-less : tie.Need-loop-less Inv-loop μ-loop
-loop-less c = search needs
 
 loop-again : tie.Need-loop-again Inv-loop μ-loop
 loop-again c = sum-turn _ (c .before .before .before .loop .inv) (omega arith) (rw (c .before .frames-of .ensures) at (c .plus .ensures))
@@ -43,11 +27,11 @@ total-frames-spec =
     (tie.spec
     Inv-loop
     μ-loop
-    segment-count-requires
+    (λ c κs. search needs)
     loop-holds
-    frames-of-requires
-    plus-requires
-    add-i
-    loop-less
+    (λ c κs. search needs)
+    (λ c κs. search needs)
+    (λ c. search needs)
+    (λ c. search needs)
     loop-again
     returns)

@@ -1,5 +1,5 @@
 -- `play_unit` meets its contract: a walk of its MIR, by hand. The borrow is opened, the state is copied out and passed to `step`, what comes back is stored, and the borrow is closed at it.
--- All that it knows of `step` is that it meets its contract. Assumes nothing.
+-- All that it knows of `step` is that it meets its contract.
 use mathlib.Core.Path.{_≡_, refl, ap}
 use Prim.Native.Nat.{ℕ, zero, _<_, _^_}
 use mathlib.Core.List.{[], _∷_, List}

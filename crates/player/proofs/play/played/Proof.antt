@@ -1,5 +1,5 @@
 -- `played` meets its contract: a walk of its MIR, by hand. A local is lent to `play_unit` for a lifetime of the call, and comes back at the state that `play_unit` ensures. Its signature lends no struct, so whoever calls it is covered.
--- Assumes nothing.
+--
 use mathlib.Core.Path.{_≡_, refl, ap, ap₂}
 use Prim.Native.Nat.{ℕ, _<_, _^_}
 use mathlib.Core.List.{[], _∷_, List}

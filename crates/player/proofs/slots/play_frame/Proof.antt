@@ -5,18 +5,6 @@ use Rattle.player.specs.Code.{actedOn}
 use Rattle.player.proofs.slots.play_frame.Statement.{statement}
 use Rattle.player.proofs.slots.play_frame.Tie as tie
 
-enum-known-info : tie.Need-enum-known-info
-enum-known-info c = search needs
-
-show-slot-requires : tie.Need-show-slot-requires
-show-slot-requires c κs = search needs
-
-enum-known-info-2 : tie.Need-enum-known-info-2
-enum-known-info-2 c = search needs
-
-refresh-slots-requires : tie.Need-refresh-slots-requires
-refresh-slots-requires c κs = search needs
-
 returns : tie.Need-returns
 returns c =
     let i = c .before .before .before .before .info2 .given .1 in
@@ -36,10 +24,10 @@ pub play-frame-spec : {M : Type 1} → statement M
 play-frame-spec =
     tie.close
     (tie.spec
-    enum-known-info
-    show-slot-requires
-    enum-known-info-2
-    refresh-slots-requires
+    (λ c. search needs)
+    (λ c κs. search needs)
+    (λ c. search needs)
+    (λ c κs. search needs)
     returns
     returns-2
     returns-3)

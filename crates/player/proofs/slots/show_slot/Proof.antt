@@ -12,12 +12,6 @@ returns c =
     let h : length (a .t1) ≡ 8 = search needs in
     show-past (a .t1) (a .slot) (omega arith)
 
-mul-held : tie.Need-mul-held
-mul-held c = search needs
-
-array-copy-out-held : tie.Need-array-copy-out-held
-array-copy-out-held c = search needs
-
 returns-2 : tie.Need-returns-2
 returns-2 c = let a = c .before .before .before .before .args in show-empty (a .t1) (a .slot) (not-true (c .if2 .taken))
 
@@ -35,8 +29,8 @@ show-slot-spec =
     tie.close
     (tie.spec
     returns
-    mul-held
-    array-copy-out-held
+    (λ c. search needs)
+    (λ c. search needs)
     returns-2
     returns-3
     returns-4

@@ -1,4 +1,3 @@
--- `player::start::start_state` meets its contract. Assumes nothing.
 use borrow.Author.Needs.{needs}
 use mathlib.Core.Path.{ap}
 use lib.ListN.{replicate}

@@ -3,18 +3,6 @@ use mathlib.Core.Path.{_∙_}
 use Rattle.player.proofs.step.leave.Statement.{statement}
 use Rattle.player.proofs.step.leave.Tie as tie
 
-enum-known-answer : tie.Need-enum-known-answer
-enum-known-answer c = search needs
-
-refuse-requires : tie.Need-refuse-requires
-refuse-requires c κs = search needs
-
-enum-known-answer-2 : tie.Need-enum-known-answer-2
-enum-known-answer-2 c = search needs
-
-enum-told : tie.Need-enum-told
-enum-told c = search needs
-
 returns : tie.Need-returns
 returns c = c .refuse .ensures ∙ rw (c .before .before .answer .given .1)
 
@@ -28,10 +16,10 @@ pub leave-spec : {M : Type 1} → statement M
 leave-spec =
     tie.close
     (tie.spec
-    enum-known-answer
-    refuse-requires
-    enum-known-answer-2
-    enum-told
+    (λ c. search needs)
+    (λ c κs. search needs)
+    (λ c. search needs)
+    (λ c. search needs)
     returns
     returns-2
     returns-3)

@@ -5,28 +5,10 @@ use Rattle.player.proofs.StepLaws.{by-long, by-headers, by-kept}
 use Rattle.player.proofs.step.step.Statement.{statement}
 use Rattle.player.proofs.step.step.Tie as tie
 
-refuse-requires : tie.Need-refuse-requires
-refuse-requires c κs = search needs
-
 returns : tie.Need-returns
 returns c =
     let a = c .before .before .before .args in
     c .refuse .ensures ∙ by-long (a .state) (a .position) (now (a .unit)) (c .before .if1 .taken)
-
-keep-headers-requires : tie.Need-keep-headers-requires
-keep-headers-requires c κs = search needs
-
-enum-known-headers : tie.Need-enum-known-headers
-enum-known-headers c = search needs
-
-refuse-requires-2 : tie.Need-refuse-requires-2
-refuse-requires-2 c κs = search needs
-
-enum-told : tie.Need-enum-told
-enum-told c = search needs
-
-step-frame-requires : tie.Need-step-frame-requires
-step-frame-requires c κs = search needs
 
 returns-2 : tie.Need-returns-2
 returns-2 c =
@@ -44,12 +26,12 @@ pub step-spec : {M : Type 1} → statement M
 step-spec =
     tie.close
     (tie.spec
-    refuse-requires
+    (λ c κs. search needs)
     returns
-    keep-headers-requires
-    enum-known-headers
-    refuse-requires-2
-    enum-told
-    step-frame-requires
+    (λ c κs. search needs)
+    (λ c. search needs)
+    (λ c κs. search needs)
+    (λ c. search needs)
+    (λ c κs. search needs)
     returns-2
     returns-3)

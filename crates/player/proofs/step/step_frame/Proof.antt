@@ -8,33 +8,6 @@ use Rattle.player.proofs.StepLaws.{frame-left, kept-none, kept-refused,
 use Rattle.player.proofs.step.step_frame.Statement.{statement}
 use Rattle.player.proofs.step.step_frame.Tie as tie
 
-enum-told : tie.Need-enum-told
-enum-told c = search needs
-
-refuse-requires : tie.Need-refuse-requires
-refuse-requires c κs = search needs
-
-enum-known-last : tie.Need-enum-known-last
-enum-known-last c = search needs
-
-unit-frame-requires : tie.Need-unit-frame-requires
-unit-frame-requires c κs = search needs
-
-enum-known-k : tie.Need-enum-known-k
-enum-known-k c = search needs
-
-refuse-requires-2 : tie.Need-refuse-requires-2
-refuse-requires-2 c κs = search needs
-
-enum-known-info : tie.Need-enum-known-info
-enum-known-info c = search needs
-
-play-frame-requires : tie.Need-play-frame-requires
-play-frame-requires c κs = search needs
-
-leave-requires : tie.Need-leave-requires
-leave-requires c κs = search needs
-
 returns : tie.Need-returns
 returns c =
     let a = c .before .before .before .before .before .before .args in
@@ -61,15 +34,15 @@ pub step-frame-spec : {M : Type 1} → statement M
 step-frame-spec =
     tie.close
     (tie.spec
-    enum-told
-    refuse-requires
-    enum-known-last
-    unit-frame-requires
-    enum-known-k
-    refuse-requires-2
-    enum-known-info
-    play-frame-requires
-    leave-requires
+    (λ c. search needs)
+    (λ c κs. search needs)
+    (λ c. search needs)
+    (λ c κs. search needs)
+    (λ c. search needs)
+    (λ c κs. search needs)
+    (λ c. search needs)
+    (λ c κs. search needs)
+    (λ c κs. search needs)
     returns
     returns-2
     returns-3)

@@ -1,4 +1,4 @@
--- `protocol::fields::read_fields` is safe and ends. The loop keeps the lengths of the lent slices; what is left of the line shrinks. Assumes nothing.
+-- `protocol::fields::read_fields` is safe and ends. The loop keeps the lengths of the lent slices; what is left of the line shrinks.
 use mathlib.Core.Path.{_≡_}
 use Prim.Native.Nat.{_≤_, _-_}
 use lib.ListN.{length}

@@ -1,4 +1,4 @@
--- `protocol::input::read_line` is safe and ends: its turns are counted down. Assumes nothing.
+-- `protocol::input::read_line` is safe and ends: its turns are counted down.
 use borrow.Author.Needs.{needs}
 use Rattle.protocol.proofs.input.read_line.Statement.{statement}
 use Rattle.protocol.proofs.input.read_line.Tie as tie

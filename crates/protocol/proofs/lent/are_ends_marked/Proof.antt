@@ -1,4 +1,4 @@
--- `protocol::lent::are_ends_marked` is safe and ends: what is left of the ends shrinks. Assumes nothing.
+-- `protocol::lent::are_ends_marked` is safe and ends: what is left of the ends shrinks.
 use borrow.Author.Needs.{needs}
 use Prim.Native.Nat.{_-_}
 use lib.ListN.{length}

@@ -1,4 +1,4 @@
--- `protocol::lent::are_numbers_marked` is safe and ends: what is left of the numbers shrinks. Assumes nothing.
+-- `protocol::lent::are_numbers_marked` is safe and ends: what is left of the numbers shrinks.
 use borrow.Author.Needs.{needs}
 use Prim.Native.Nat.{_-_}
 use lib.ListN.{length}

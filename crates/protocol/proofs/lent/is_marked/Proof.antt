@@ -1,4 +1,4 @@
--- `protocol::lent::is_marked` meets its contract. The loop's invariant: what is left decides. The measure is what is left of the memory. Assumes nothing.
+-- `protocol::lent::is_marked` meets its contract. The loop's invariant: what is left decides. The measure is what is left of the memory.
 use mathlib.Core.Path.{_≡_, sym, _∙_}
 use Prim.Native.Nat.{_-_}
 use native.Mathlib.Omega.{arith}

@@ -1,4 +1,4 @@
--- `protocol::lent::mark` meets its contract. The loop's invariant: i marks, and then the memory as it was. The measure is what is left of it. Assumes nothing.
+-- `protocol::lent::mark` meets its contract. The loop's invariant: i marks, and then the memory as it was. The measure is what is left of it.
 use mathlib.Core.Path.{_≡_, ap, _∙_}
 use mathlib.Core.List.{_++_, append-nil}
 use Prim.Native.Nat.{ℕ, _≤_, _-_}

@@ -1,4 +1,4 @@
--- `protocol::lent::mark_ends` is safe and ends: what is left of the ends shrinks. Assumes nothing.
+-- `protocol::lent::mark_ends` is safe and ends: what is left of the ends shrinks.
 use borrow.Author.Needs.{needs}
 use mathlib.Core.Path.{_≡_}
 use Prim.Native.Nat.{_-_}

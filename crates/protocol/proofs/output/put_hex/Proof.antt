@@ -1,4 +1,4 @@
--- `protocol::output::put_hex` is safe and ends. The measure is what is left of the bytes. Assumes nothing.
+-- `protocol::output::put_hex` is safe and ends. The measure is what is left of the bytes.
 use Prim.Native.Nat.{_≤_, _-_}
 use native.Mathlib.Omega.{arith}
 use lib.ListN.{length, length-take, length-drop}

@@ -1,4 +1,4 @@
--- `protocol::output::put_text` is safe and ends. The measure is what is left of the text. Assumes nothing.
+-- `protocol::output::put_text` is safe and ends. The measure is what is left of the text.
 use mathlib.Core.Logic.{⊎-elim}
 use Prim.Native.Nat.{_≤_, _-_}
 use native.Mathlib.Omega.{arith}

@@ -1,4 +1,4 @@
--- `protocol::printer::put_items` is safe and ends: its turns are counted down. Assumes nothing.
+-- `protocol::printer::put_items` is safe and ends: its turns are counted down.
 use borrow.Author.Needs.{needs}
 use Rattle.protocol.proofs.printer.put_items.Statement.{statement}
 use Rattle.protocol.proofs.printer.put_items.Tie as tie

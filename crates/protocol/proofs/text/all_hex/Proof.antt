@@ -1,4 +1,4 @@
--- `protocol::text::all_hex` meets its contract. The loop's invariant: what is left decides. The measure is what is left of the text. Assumes nothing.
+-- `protocol::text::all_hex` meets its contract. The loop's invariant: what is left decides. The measure is what is left of the text.
 use mathlib.Core.Path.{_≡_, sym, _∙_}
 use Prim.Native.Nat.{_≤_, _-_}
 use native.Mathlib.Omega.{arith}

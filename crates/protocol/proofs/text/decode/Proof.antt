@@ -1,4 +1,4 @@
--- `protocol::text::decode` meets its contract: each way that it returns is a law of DecodeLaws. Assumes nothing.
+-- `protocol::text::decode` meets its contract: each way that it returns is a law of DecodeLaws.
 use mathlib.Core.Path.{sym, _∙_}
 use Prim.Native.Nat.{_/_}
 use native.Mathlib.Omega.{arith}

@@ -1,5 +1,5 @@
 -- `protocol::text::decode_hex` meets its contract. The loop's invariant: storing the bytes that are left makes what storing all of them would
--- have made. The measure is how many are left. Assumes nothing.
+-- have made. The measure is how many are left.
 use mathlib.Core.Path.{_≡_, refl, _∙_}
 use Prim.Native.Nat.{suc, _≤_, _-_, _+_, _*_}
 use native.Mathlib.Nat.{add-zero}

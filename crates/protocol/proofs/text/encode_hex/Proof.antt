@@ -1,5 +1,5 @@
 -- `protocol::text::encode_hex` meets its contract. The loop's invariant: storing the digits that are left makes what storing all of them would
--- have made. The measure is how many bytes are left. Assumes nothing.
+-- have made. The measure is how many bytes are left.
 use mathlib.Core.Path.{_≡_, _∙_}
 use Prim.Native.Nat.{suc, _≤_, _-_, _+_, _*_}
 use native.Mathlib.Omega.{arith}

@@ -1,4 +1,3 @@
--- `protocol::text::hex_digit` meets its contract. Assumes nothing.
 use borrow.Author.Tests.{lt-ltb, le-ltb}
 use borrow.Author.Needs.{needs}
 use Rattle.protocol.specs.Text.{hexDigit}

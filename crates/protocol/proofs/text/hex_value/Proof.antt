@@ -1,4 +1,4 @@
--- `protocol::text::hex_value` meets its contract: each range of characters is a law of TextLaws. Assumes nothing.
+-- `protocol::text::hex_value` meets its contract: each range of characters is a law of TextLaws.
 use mathlib.Core.Path.{sym}
 use native.Mathlib.Omega.{arith}
 use borrow.Author.Needs.{needs}

@@ -1,5 +1,5 @@
 -- `protocol::text::read_decimal` meets its contract. The loop's invariant: the digits that are left, after v, make the number. The measure is
--- how many are left. Assumes nothing.
+-- how many are left.
 use mathlib.Core.Path.{_≡_, sym, _∙_}
 use Prim.Native.Nat.{_≤_, _<_, _-_, _^_}
 use native.Mathlib.Omega.{arith}

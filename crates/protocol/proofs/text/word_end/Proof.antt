@@ -1,5 +1,5 @@
 -- `protocol::text::word_end` meets its contract. The loop's invariant: the word that is left ends where the whole word does. The measure is what
--- is left of the line. Assumes nothing.
+-- is left of the line.
 use mathlib.Core.Path.{_≡_, ap}
 use Prim.Native.Nat.{_≤_, _-_, _+_}
 use native.Mathlib.Omega.{arith}

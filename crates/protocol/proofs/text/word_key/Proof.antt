@@ -1,5 +1,5 @@
 -- `protocol::text::word_key` meets its contract. The loop's invariant: the characters that are left, after the key so far, make the key, which has
--- a byte for each character passed. The measure is how many are left. Assumes nothing.
+-- a byte for each character passed. The measure is how many are left.
 use mathlib.Core.Path.{_≡_, sym, _∙_}
 use Prim.Native.Nat.{_≤_, _<_, _-_, _*_, _^_}
 use native.Mathlib.Omega.{arith}

@@ -1,4 +1,4 @@
--- `replay_headers::obu_ops::put_obus` is safe and ends. The loop keeps the lengths of the lent slices; the bytes left get fewer. Assumes nothing.
+-- `replay_headers::obu_ops::put_obus` is safe and ends. The loop keeps the lengths of the lent slices; the bytes left get fewer.
 use borrow.Author.Needs.{needs}
 use mathlib.Core.Path.{_≡_}
 use Prim.Native.Nat.{_-_}

@@ -1,4 +1,4 @@
--- `replay_headers::sequence_fields::put_points` is safe and ends. The loop keeps the length of the numbers; the points left get fewer. Assumes nothing.
+-- `replay_headers::sequence_fields::put_points` is safe and ends. The loop keeps the length of the numbers; the points left get fewer.
 use borrow.Author.Needs.{needs}
 use mathlib.Core.Path.{_≡_}
 use Prim.Native.Nat.{_-_}

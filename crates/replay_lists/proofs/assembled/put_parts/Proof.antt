@@ -1,4 +1,4 @@
--- `replay_lists::assembled::put_parts` is safe and ends. The loop keeps the lengths of the lent slices; the entries left get fewer. Assumes nothing.
+-- `replay_lists::assembled::put_parts` is safe and ends. The loop keeps the lengths of the lent slices; the entries left get fewer.
 use borrow.Author.Needs.{needs}
 use mathlib.Core.Path.{_≡_}
 use Prim.Native.Nat.{_-_}

@@ -1,4 +1,4 @@
--- `replay_lists::play_ops::play_all` is safe and ends. The loop keeps the length of the numbers; the positions left get fewer. Assumes nothing.
+-- `replay_lists::play_ops::play_all` is safe and ends. The loop keeps the length of the numbers; the positions left get fewer.
 use borrow.Author.Needs.{needs}
 use mathlib.Core.Path.{_≡_}
 use Prim.Native.Nat.{_-_}

@@ -40,15 +40,6 @@ next c =
 loop-holds : tie.Need-loop-holds Inv-loop μ-loop
 loop-holds c = counting-start _
 
-obu-at-requires : tie.Need-obu-at-requires Inv-loop μ-loop
-obu-at-requires c κs = search needs
-
-enum-known-found : tie.Need-enum-known-found Inv-loop μ-loop
-enum-known-found c = search needs
-
-refusal-requires : tie.Need-refusal-requires Inv-loop μ-loop
-refusal-requires c κs = search needs
-
 returns : tie.Need-returns Inv-loop μ-loop
 returns c =
     let k = c .before in
@@ -92,9 +83,9 @@ count-inner-spec =
     Inv-loop
     μ-loop
     loop-holds
-    obu-at-requires
-    enum-known-found
-    refusal-requires
+    (λ c κs. search needs)
+    (λ c. search needs)
+    (λ c κs. search needs)
     returns
     sub-inner-len
     inner-len-requires

@@ -63,12 +63,6 @@ next c =
 loop-holds : tie.Need-loop-holds Inv-loop μ-loop
 loop-holds c = totalling-start _ _
 
-mul-end : tie.Need-mul-end Inv-loop μ-loop
-mul-end c = search needs
-
-shared-slice-read-end : tie.Need-shared-slice-read-end Inv-loop μ-loop
-shared-slice-read-end c = search needs
-
 cast-end : tie.Need-cast-end Inv-loop μ-loop
 cast-end c = omega (arith, c .shared-slice-known3 .given (c .before .before .loop .i))
 
@@ -88,12 +82,6 @@ count-inner-requires c κs =
     let l = t .before in
     let g = good t in
     omega (arith, span-length (now (begin l .args .units)) (l .loop .at) (end-of l) (g .1), begin l .pre .0)
-
-enum-known-found : tie.Need-enum-known-found Inv-loop μ-loop
-enum-known-found c = search needs
-
-enum-told : tie.Need-enum-told Inv-loop μ-loop
-enum-told c = search needs
 
 returns : tie.Need-returns Inv-loop μ-loop
 unfolding span
@@ -142,15 +130,15 @@ count-units-spec =
     Inv-loop
     μ-loop
     loop-holds
-    mul-end
-    shared-slice-read-end
+    (λ c. search needs)
+    (λ c. search needs)
     cast-end
     sub-count-inner
     part-count-inner-start
     part-count-inner-end
     count-inner-requires
-    enum-known-found
-    enum-told
+    (λ c. search needs)
+    (λ c. search needs)
     returns
     framed-len-requires
     framed-len-requires-2

@@ -43,15 +43,6 @@ got c =
 loop-holds : tie.Need-loop-holds Inv-loop μ-loop
 loop-holds c = walk-start _ _ length-shrinks _ _ _ _ _ (c .before .before .pre .0 .0)
 
-length-obu-at-requires : tie.Need-length-obu-at-requires Inv-loop μ-loop
-length-obu-at-requires c κs = search needs
-
-enum-known-o : tie.Need-enum-known-o Inv-loop μ-loop
-enum-known-o c = search needs
-
-enum-told : tie.Need-enum-told Inv-loop μ-loop
-enum-told c = search needs
-
 same-length : tie.Need-same-length Inv-loop μ-loop
 same-length c = c .before .before .before .before .loop .inv .kept
 
@@ -95,9 +86,9 @@ fill-frame-spec =
     Inv-loop
     μ-loop
     loop-holds
-    length-obu-at-requires
-    enum-known-o
-    enum-told
+    (λ c κs. search needs)
+    (λ c. search needs)
+    (λ c. search needs)
     same-length
     returns
     put-inner-requires

@@ -8,23 +8,11 @@ use Rattle.annexb.proofs.SpanLaws.{span-length}
 use Rattle.annexb.proofs.annexb.fill.put_inner.Statement.{statement}
 use Rattle.annexb.proofs.annexb.fill.put_inner.Tie as tie
 
-sub-put-measured : tie.Need-sub-put-measured
-sub-put-measured c = search needs
-
-part-put-measured-start : tie.Need-part-put-measured-start
-part-put-measured-start c = search needs
-
-part-put-measured-end : tie.Need-part-put-measured-end
-part-put-measured-end c = search needs
-
 put-measured-requires : tie.Need-put-measured-requires
 unfolding span
 put-measured-requires c κs =
     let s = c .before .before .before .before in
     (s .pre .1 .0, rw (span-length (now (s .args .«data»)) (s .args .o .start) (s .args .o .end) (s .pre .0 .1)) (s .pre .1 .1))
-
-same-length : tie.Need-same-length
-same-length c = search needs
 
 returns : tie.Need-returns
 unfolding span
@@ -36,9 +24,9 @@ pub put-inner-spec : {M : Type 1} → statement M
 put-inner-spec =
     tie.close
     (tie.spec
-    sub-put-measured
-    part-put-measured-start
-    part-put-measured-end
+    (λ c. search needs)
+    (λ c. search needs)
+    (λ c. search needs)
     put-measured-requires
-    same-length
+    (λ c. search needs)
     returns)

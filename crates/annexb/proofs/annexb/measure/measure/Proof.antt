@@ -103,30 +103,12 @@ left c =
 all-holds : tie.Need-all-holds Inv-loop2 μ-loop2 Inv-loop μ-loop Inv-all μ-all
 all-holds c = units-start _
 
-part-at-requires : tie.Need-part-at-requires Inv-loop2 μ-loop2 Inv-loop μ-loop Inv-all μ-all
-part-at-requires c κs = search needs
-
-enum-known-unit : tie.Need-enum-known-unit Inv-loop2 μ-loop2 Inv-loop μ-loop Inv-all μ-all
-enum-known-unit c = search needs
-
-enum-told : tie.Need-enum-told Inv-loop2 μ-loop2 Inv-loop μ-loop Inv-all μ-all
-enum-told c = search needs
-
 part-refusal-requires :
     tie.Need-part-refusal-requires Inv-loop2 μ-loop2 Inv-loop μ-loop Inv-all μ-all
 part-refusal-requires c κs = search needs
 
 loop-holds : tie.Need-loop-holds Inv-loop2 μ-loop2 Inv-loop μ-loop Inv-all μ-all
 loop-holds c = frames-start (at-all (c .before) .all .inv) (unit-got (c .before))
-
-part-at-requires-2 : tie.Need-part-at-requires-2 Inv-loop2 μ-loop2 Inv-loop μ-loop Inv-all μ-all
-part-at-requires-2 c κs = search needs
-
-enum-known-frame : tie.Need-enum-known-frame Inv-loop2 μ-loop2 Inv-loop μ-loop Inv-all μ-all
-enum-known-frame c = search needs
-
-enum-told-2 : tie.Need-enum-told-2 Inv-loop2 μ-loop2 Inv-loop μ-loop Inv-all μ-all
-enum-told-2 c = search needs
 
 part-refusal-requires-2 :
     tie.Need-part-refusal-requires-2 Inv-loop2 μ-loop2 Inv-loop μ-loop Inv-all μ-all
@@ -138,12 +120,6 @@ loop2-holds c = obus-start (at-loop (c .before) .loop .inv) (frame-got (c .befor
 length-obu-at-requires :
     tie.Need-length-obu-at-requires Inv-loop2 μ-loop2 Inv-loop μ-loop Inv-all μ-all
 length-obu-at-requires c κs = search needs
-
-enum-known-found : tie.Need-enum-known-found Inv-loop2 μ-loop2 Inv-loop μ-loop Inv-all μ-all
-enum-known-found c = search needs
-
-enum-told-3 : tie.Need-enum-told-3 Inv-loop2 μ-loop2 Inv-loop μ-loop Inv-all μ-all
-enum-told-3 c = search needs
 
 inner-refusal-requires :
     tie.Need-inner-refusal-requires Inv-loop2 μ-loop2 Inv-loop μ-loop Inv-all μ-all
@@ -168,17 +144,11 @@ loop-less c = let g = frame-got (c .before .before .before) in omega (arith, g .
 loop-again : tie.Need-loop-again Inv-loop2 μ-loop2 Inv-loop μ-loop Inv-all μ-all
 loop-again c = obus-end (c .before .loop2 .inv) (c .loop2-test .left)
 
-add-units : tie.Need-add-units Inv-loop2 μ-loop2 Inv-loop μ-loop Inv-all μ-all
-add-units c = search needs
-
 all-less : tie.Need-all-less Inv-loop2 μ-loop2 Inv-loop μ-loop Inv-all μ-all
 all-less c = let g = unit-got (c .before .before .before) in omega (arith, g .after, g .ends, g .within)
 
 all-again : tie.Need-all-again Inv-loop2 μ-loop2 Inv-loop μ-loop Inv-all μ-all
 all-again c = frames-end (c .before .loop .inv) (c .loop-test .left)
-
-measured-requires : tie.Need-measured-requires Inv-loop2 μ-loop2 Inv-loop μ-loop Inv-all μ-all
-measured-requires c κs = search needs
 
 returns : tie.Need-returns Inv-loop2 μ-loop2 Inv-loop μ-loop Inv-all μ-all
 returns c = c .measured .ensures ∙ left-answer (left (c .before))
@@ -194,19 +164,19 @@ measure-spec =
     Inv-all
     μ-all
     all-holds
-    part-at-requires
-    enum-known-unit
-    enum-told
+    (λ c κs. search needs)
+    (λ c. search needs)
+    (λ c. search needs)
     part-refusal-requires
     loop-holds
-    part-at-requires-2
-    enum-known-frame
-    enum-told-2
+    (λ c κs. search needs)
+    (λ c. search needs)
+    (λ c. search needs)
     part-refusal-requires-2
     loop2-holds
     length-obu-at-requires
-    enum-known-found
-    enum-told-3
+    (λ c. search needs)
+    (λ c. search needs)
     inner-refusal-requires
     written-len-requires
     add-bytes
@@ -214,8 +184,8 @@ measure-spec =
     loop2-again
     loop-less
     loop-again
-    add-units
+    (λ c. search needs)
     all-less
     all-again
-    measured-requires
+    (λ c κs. search needs)
     returns)

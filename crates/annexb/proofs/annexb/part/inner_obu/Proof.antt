@@ -8,31 +8,16 @@ use Rattle.annexb.proofs.annexb.part.inner_obu.Tie as tie
 returns : tie.Need-returns
 returns c = inner-empty _ _ (c .before .before .pre .1) _ (c .if1 .taken)
 
-shared-slice-read-h : tie.Need-shared-slice-read-h
-shared-slice-read-h c = search needs
-
 returns-2 : tie.Need-returns-2
 returns-2 c =
     let k = c .before .before in
     inner-forbidden _ _ (k .before .before .pre .1) _ (k .if1 .left) (c .if2 .taken)
-
-add-p : tie.Need-add-p
-add-p c = search needs
 
 returns-3 : tie.Need-returns-3
 returns-3 c =
     let e = c .before .before in
     let k = e .before .before in
     inner-short _ _ (k .before .before .pre .1) _ (k .if1 .left) (e .if2 .left) (c .before .if3 .taken) (c .if4 .taken)
-
-shared-slice-read-t12 : tie.Need-shared-slice-read-t12
-shared-slice-read-t12 c = search needs
-
-add-typed-obu : tie.Need-add-typed-obu
-add-typed-obu c = search needs
-
-typed-obu-requires : tie.Need-typed-obu-requires
-typed-obu-requires c κs = search needs
 
 returns-4 : tie.Need-returns-4
 returns-4 c =
@@ -41,9 +26,6 @@ returns-4 c =
     let k = e .before .before in
     let m = k .before .before .pre .1 in
     c .typed-obu .ensures ∙ inner-typed _ _ m _ _ _ (omega arith) ∙ inner-ext _ _ m _ (k .if1 .left) (e .if2 .left) (f .before .if3 .taken) (f .if4 .left)
-
-typed-obu-requires-2 : tie.Need-typed-obu-requires-2
-typed-obu-requires-2 c κs = search needs
 
 returns-5 : tie.Need-returns-5
 returns-5 c =
@@ -57,13 +39,13 @@ inner-obu-spec =
     tie.close
     (tie.spec
     returns
-    shared-slice-read-h
+    (λ c. search needs)
     returns-2
-    add-p
+    (λ c. search needs)
     returns-3
-    shared-slice-read-t12
-    add-typed-obu
-    typed-obu-requires
+    (λ c. search needs)
+    (λ c. search needs)
+    (λ c κs. search needs)
     returns-4
-    typed-obu-requires-2
+    (λ c κs. search needs)
     returns-5)

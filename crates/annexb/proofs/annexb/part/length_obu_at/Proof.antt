@@ -14,18 +14,6 @@ got c =
     let b = c .before .before .before .before in
     is-part 10 11 _ _ _ (b .pre .0) (b .pre .1) (sym (c .before .before .part-at .ensures) ∙ ap partSays (c .found .given .1))
 
-part-at-requires : tie.Need-part-at-requires
-part-at-requires c κs = search needs
-
-enum-known-found : tie.Need-enum-known-found
-enum-known-found c = search needs
-
-enum-told : tie.Need-enum-told
-enum-told c = search needs
-
-part-refusal-requires : tie.Need-part-refusal-requires
-part-refusal-requires c κs = search needs
-
 returns : tie.Need-returns
 returns c =
     let k = c .before .before in
@@ -44,10 +32,10 @@ pub length-obu-at-spec : {M : Type 1} → statement M
 length-obu-at-spec =
     tie.close
     (tie.spec
-    part-at-requires
-    enum-known-found
-    enum-told
-    part-refusal-requires
+    (λ c κs. search needs)
+    (λ c. search needs)
+    (λ c. search needs)
+    (λ c κs. search needs)
     returns
     inner-obu-requires
     returns-2)

@@ -1,4 +1,3 @@
--- `container::annexb::part::length_of` meets its contract. Assumes nothing.
 use borrow.Author.Needs.{needs}
 use native.Mathlib.Omega.{arith}
 use Rattle.bitio.proofs.LebLaws.{is-byte}

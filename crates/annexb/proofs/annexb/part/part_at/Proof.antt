@@ -29,24 +29,6 @@ got c =
     let b = c .before .before .before .before .before in
     number-at (now (b .args .s)) (b .args .at) (b .args .end) _ _ (b .pre .0) (b .pre .1) (sym (c .before .before .length-of .ensures) ∙ c .size .given .1)
 
-sub-length-of : tie.Need-sub-length-of
-sub-length-of c = search needs
-
-part-length-of-start : tie.Need-part-length-of-start
-part-length-of-start c = search needs
-
-part-length-of-end : tie.Need-part-length-of-end
-part-length-of-end c = search needs
-
-length-of-requires : tie.Need-length-of-requires
-length-of-requires c κs = search needs
-
-enum-known-size : tie.Need-enum-known-size
-enum-known-size c = search needs
-
-enum-told : tie.Need-enum-told
-enum-told c = search needs
-
 returns : tie.Need-returns
 unfolding span
 returns c =
@@ -78,12 +60,12 @@ pub part-at-spec : {M : Type 1} → statement M
 part-at-spec =
     tie.close
     (tie.spec
-    sub-length-of
-    part-length-of-start
-    part-length-of-end
-    length-of-requires
-    enum-known-size
-    enum-told
+    (λ c. search needs)
+    (λ c. search needs)
+    (λ c. search needs)
+    (λ c κs. search needs)
+    (λ c. search needs)
+    (λ c. search needs)
     returns
     add-start
     sub-if1

@@ -40,12 +40,6 @@ got c = is-placed _ _ (sym (c .before .before .obu-at .ensures) ∙ ap obuSays (
 loop-holds : tie.Need-loop-holds Inv-loop μ-loop
 loop-holds c = walk-start _ _ (obu-shrinks passes) _ _ _ _ _ (omega arith)
 
-obu-at-requires : tie.Need-obu-at-requires Inv-loop μ-loop
-obu-at-requires c κs = search needs
-
-enum-known-o : tie.Need-enum-known-o Inv-loop μ-loop
-enum-known-o c = search needs
-
 same-length : tie.Need-same-length Inv-loop μ-loop
 same-length c = c .before .before .before .loop .inv .kept
 
@@ -89,8 +83,8 @@ put-inner-obus-spec =
     Inv-loop
     μ-loop
     loop-holds
-    obu-at-requires
-    enum-known-o
+    (λ c κs. search needs)
+    (λ c. search needs)
     same-length
     returns
     put-length-obu-requires

@@ -41,9 +41,6 @@ room c =
     let n = ap (λ n. length (lebBytes n)) (c .before .inner-len .ensures) in
     omega (arith, b .pre .1 .1, c .put-leb128 .ensures .0, c .put-leb128 .kept)
 
-sub-inner-len : tie.Need-sub-inner-len
-sub-inner-len c = search needs
-
 inner-len-requires : tie.Need-inner-len-requires
 inner-len-requires c κs = let b = c .before .before .before in omega (arith, b .pre .0)
 
@@ -58,15 +55,6 @@ put-header-requires c κs =
     let b = l .before .before .before .before .before in
     (passes-small _ (b .pre .1 .0), omega arith, omega (arith, room l))
 
-sub-put-bytes : tie.Need-sub-put-bytes
-sub-put-bytes c = search needs
-
-part-put-bytes-start : tie.Need-part-put-bytes-start
-part-put-bytes-start c = search needs
-
-part-put-bytes-end : tie.Need-part-put-bytes-end
-part-put-bytes-end c = search needs
-
 put-bytes-requires : tie.Need-put-bytes-requires
 unfolding span
 put-bytes-requires c κs =
@@ -74,9 +62,6 @@ put-bytes-requires c κs =
     let l = h .before .before .before .before in
     let b = l .before .before .before .before .before in
     omega (arith, room l, h .put-header .ensures .0, size b, h .put-header .kept)
-
-same-length : tie.Need-same-length
-same-length c = search needs
 
 returns : tie.Need-returns
 unfolding span
@@ -94,13 +79,13 @@ pub put-length-obu-spec : {M : Type 1} → statement M
 put-length-obu-spec =
     tie.close
     (tie.spec
-    sub-inner-len
+    (λ c. search needs)
     inner-len-requires
     put-leb128-requires
     put-header-requires
-    sub-put-bytes
-    part-put-bytes-start
-    part-put-bytes-end
+    (λ c. search needs)
+    (λ c. search needs)
+    (λ c. search needs)
     put-bytes-requires
-    same-length
+    (λ c. search needs)
     returns)

@@ -68,12 +68,6 @@ frame-written c =
 count-inner-requires : tie.Need-count-inner-requires
 count-inner-requires c κs = c .before .before .pre .0
 
-enum-known-n : tie.Need-enum-known-n
-enum-known-n c = search needs
-
-enum-told : tie.Need-enum-told
-enum-told c = search needs
-
 returns : tie.Need-returns
 returns c =
     let m = c .before .before in
@@ -103,9 +97,6 @@ put-inner-obus-requires c κs =
     let p = begin f .pre .1 in
     (begin f .pre .0, record { held = p .held; reads = p .reads; room = omega (arith, room-2 l, inner f) })
 
-same-length : tie.Need-same-length
-same-length c = search needs
-
 returns-2 : tie.Need-returns-2
 returns-2 c =
     let o = c .before .before in
@@ -120,12 +111,12 @@ put-unit-spec =
     tie.close
     (tie.spec
     count-inner-requires
-    enum-known-n
-    enum-told
+    (λ c. search needs)
+    (λ c. search needs)
     returns
     framed-len-requires
     put-leb128-requires
     put-leb128-requires-2
     put-inner-obus-requires
-    same-length
+    (λ c. search needs)
     returns-2)

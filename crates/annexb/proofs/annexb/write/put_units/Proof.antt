@@ -31,12 +31,6 @@ turn c = c .before .before .before .before .before .before
 loop-holds : tie.Need-loop-holds Inv-loop μ-loop
 loop-holds c = putted-start _ _ _
 
-mul-end : tie.Need-mul-end Inv-loop μ-loop
-mul-end c = search needs
-
-shared-slice-read-end : tie.Need-shared-slice-read-end Inv-loop μ-loop
-shared-slice-read-end c = search needs
-
 cast-end : tie.Need-cast-end Inv-loop μ-loop
 cast-end c = omega (arith, c .shared-slice-known3 .given (c .before .before .loop .i))
 
@@ -82,8 +76,8 @@ put-units-spec =
     Inv-loop
     μ-loop
     loop-holds
-    mul-end
-    shared-slice-read-end
+    (λ c. search needs)
+    (λ c. search needs)
     cast-end
     sub-put-unit
     part-put-unit-start

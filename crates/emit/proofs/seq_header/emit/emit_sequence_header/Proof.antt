@@ -44,9 +44,6 @@ part-put-bytes-end c =
     let p = c .before .before .before .before .before in
     omega (arith, p .put-sequence .ensures .0, payload-length _ (readable (p .before .before)))
 
-put-bytes-requires : tie.Need-put-bytes-requires
-put-bytes-requires c κs = search needs
-
 returns-4 : tie.Need-returns-4
 returns-4 c =
     let b = c .before .before in
@@ -69,6 +66,6 @@ emit-sequence-header-spec =
     (λ c. search needs)
     (λ c. search needs)
     part-put-bytes-end
-    put-bytes-requires
+    (λ c κs. search needs)
     (λ c. search needs)
     returns-4)

@@ -31,12 +31,6 @@ put-coding-requires c κs =
     let d = c .before .before .before .before .put-points .ensures in
     (omega (arith, p .1, a .near, a .len, d .near, d .len), w .wide, w .high)
 
-put-trailing-requires : tie.Need-put-trailing-requires
-put-trailing-requires c κs = search needs
-
-same-length : tie.Need-same-length
-same-length c = search needs
-
 returns : tie.Need-returns
 returns c =
     let k = c .before .before .before .before .before .before .before .before .before .before .before .before .before .before .before .before .before .before .before in
@@ -52,6 +46,6 @@ put-sequence-spec =
     put-opening-requires
     put-points-requires
     put-coding-requires
-    put-trailing-requires
-    same-length
+    (λ c κs. search needs)
+    (λ c. search needs)
     returns)

@@ -30,12 +30,6 @@ r7 c = (_, _, _, _, _, _, wrote-then (r6 (c .before .before .before .before) .6)
 abbrev r8 : tie.After-put-flag → Run
 r8 c = (_, _, _, _, _, _, wrote-then (r7 (c .before .before .before .before) .6) (c .put-flag .ensures))
 
-put-size-requires : tie.Need-put-size-requires
-put-size-requires c κs = search needs
-
-put-ids-requires : tie.Need-put-ids-requires
-put-ids-requires c κs = search needs
-
 put-tools-requires : tie.Need-put-tools-requires
 put-tools-requires c κs =
     let p = c .before .before .before .before .before .before .before .before .before .before .pre in
@@ -83,8 +77,8 @@ pub put-coding-spec : {M : Type 1} → statement M
 put-coding-spec =
     tie.close
     (tie.spec
-    put-size-requires
-    put-ids-requires
+    (λ c κs. search needs)
+    (λ c κs. search needs)
     put-tools-requires
     put-screen-requires
     put-filters-requires

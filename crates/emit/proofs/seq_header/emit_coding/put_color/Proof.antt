@@ -27,12 +27,6 @@ r6 c = (_, _, _, _, _, _, wrote-then (r5 (c .before .before .before .before) .6)
 abbrev r7 : tie.After-put-bits-or3 → Run
 r7 c = (_, _, _, _, _, _, wrote-then (r6 (c .before .before .before .before) .6) (c .put-bits-or3 .ensures))
 
-put-flag-requires : tie.Need-put-flag-requires
-put-flag-requires c κs = search needs
-
-put-flag-or-requires : tie.Need-put-flag-or-requires
-put-flag-or-requires c κs = search needs
-
 put-flag-or-requires-2 : tie.Need-put-flag-or-requires-2
 put-flag-or-requires-2 c κs =
     let p = c .before .before .before .before .before .before .before .before .before .before .before .pre in
@@ -74,8 +68,8 @@ pub put-color-spec : {M : Type 1} → statement M
 put-color-spec =
     tie.close
     (tie.spec
-    put-flag-requires
-    put-flag-or-requires
+    (λ c κs. search needs)
+    (λ c κs. search needs)
     put-flag-or-requires-2
     put-flag-requires-2
     put-bits-or-requires

@@ -18,23 +18,11 @@ r3 c = (_, _, _, _, _, _, wrote-then (r2 (c .before .before .before .before) .6)
 abbrev r4 : tie.After-put-bits4 → Run
 r4 c = (_, _, _, _, _, _, wrote-then (r3 (c .before .before .before .before) .6) (c .put-bits4 .ensures))
 
-put-bits-requires : tie.Need-put-bits-requires
-put-bits-requires c κs = search needs
-
-put-bits-requires-2 : tie.Need-put-bits-requires-2
-put-bits-requires-2 c κs = search needs
-
-add-put-bits : tie.Need-add-put-bits
-add-put-bits c = search needs
-
 put-bits-requires-3 : tie.Need-put-bits-requires-3
 put-bits-requires-3 c κs =
     let p = c .before .before .before .before .before .before .before .before .before .before .pre in
     let w = r2 (c .before .before .before) .6 in
     omega (arith, p .0, p .1, w .near, w .len)
-
-add-put-bits-2 : tie.Need-add-put-bits-2
-add-put-bits-2 c = search needs
 
 put-bits-requires-4 : tie.Need-put-bits-requires-4
 put-bits-requires-4 c κs =
@@ -53,11 +41,11 @@ pub put-size-spec : {M : Type 1} → statement M
 put-size-spec =
     tie.close
     (tie.spec
-    put-bits-requires
-    put-bits-requires-2
-    add-put-bits
+    (λ c κs. search needs)
+    (λ c κs. search needs)
+    (λ c. search needs)
     put-bits-requires-3
-    add-put-bits-2
+    (λ c. search needs)
     put-bits-requires-4
     same-length
     returns)

@@ -36,12 +36,6 @@ r9 c = (_, _, _, _, _, _, wrote-then (r8 (c .before .before .before .before) .6)
 abbrev r10 : tie.After-put-flag-or7 → Run
 r10 c = (_, _, _, _, _, _, wrote-then (r9 (c .before .before .before .before) .6) (c .put-flag-or7 .ensures))
 
-put-flag-requires : tie.Need-put-flag-requires
-put-flag-requires c κs = search needs
-
-put-flag-requires-2 : tie.Need-put-flag-requires-2
-put-flag-requires-2 c κs = search needs
-
 put-flag-requires-3 : tie.Need-put-flag-requires-3
 put-flag-requires-3 c κs =
     let p = c .before .before .before .before .before .before .before .before .before .before .pre in
@@ -101,8 +95,8 @@ pub put-tools-spec : {M : Type 1} → statement M
 put-tools-spec =
     tie.close
     (tie.spec
-    put-flag-requires
-    put-flag-requires-2
+    (λ c κs. search needs)
+    (λ c κs. search needs)
     put-flag-requires-3
     put-flag-or-requires
     put-flag-or-requires-2

@@ -5,23 +5,8 @@ use Rattle.emit.proofs.WroteLaws.{never-full-trailing, wrote-trailing}
 use mathlib.Core.Path.{sym, ap, _∙_}
 use Rattle.bitio.specs.Write.{bitPutSays}
 
-trailing-bits-requires : tie.Need-trailing-bits-requires
-trailing-bits-requires c κs = search needs
-
-enum-known-next : tie.Need-enum-known-next
-enum-known-next c = search needs
-
-enum-told : tie.Need-enum-told
-enum-told c = search needs
-
-same-length : tie.Need-same-length
-same-length c = search needs
-
 returns : tie.Need-returns
 returns c = absurd (never-full-trailing _ _ (c .before .before .before .before .before .before .before .pre) (sym (ap bitPutSays (c .enum-told .given .1)) ∙ c .before .before .before .before .trailing-bits .ensures .0))
-
-same-length-2 : tie.Need-same-length-2
-same-length-2 c = search needs
 
 returns-2 : tie.Need-returns-2
 returns-2 c = wrote-trailing _ _ (c .before .before .before .before .before .before .before .before .pre) (sym (ap bitPutSays (c .before .next .given .1)) ∙ c .before .before .before .before .before .trailing-bits .ensures .0) (c .before .before .before .before .before .trailing-bits .ensures .1)
@@ -30,10 +15,10 @@ pub put-trailing-spec : {M : Type 1} → statement M
 put-trailing-spec =
     tie.close
     (tie.spec
-    trailing-bits-requires
-    enum-known-next
-    enum-told
-    same-length
+    (λ c κs. search needs)
+    (λ c. search needs)
+    (λ c. search needs)
+    (λ c. search needs)
     returns
-    same-length-2
+    (λ c. search needs)
     returns-2)

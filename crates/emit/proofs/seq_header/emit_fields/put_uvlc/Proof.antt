@@ -5,26 +5,8 @@ use Rattle.emit.proofs.WroteLaws.{never-full-uvlc, wrote-uvlc}
 use mathlib.Core.Path.{sym, ap, _∙_}
 use Rattle.bitio.specs.Write.{bitPutSays}
 
-cast-uvlc : tie.Need-cast-uvlc
-cast-uvlc c = search needs
-
-uvlc-requires : tie.Need-uvlc-requires
-uvlc-requires c κs = search needs
-
-enum-known-next : tie.Need-enum-known-next
-enum-known-next c = search needs
-
-enum-told : tie.Need-enum-told
-enum-told c = search needs
-
-same-length : tie.Need-same-length
-same-length c = search needs
-
 returns : tie.Need-returns
 returns c = absurd (never-full-uvlc _ _ _ (c .before .before .before .before .before .before .before .pre .0) (sym (ap bitPutSays (c .enum-told .given .1)) ∙ c .before .before .before .before .uvlc .ensures .0))
-
-same-length-2 : tie.Need-same-length-2
-same-length-2 c = search needs
 
 returns-2 : tie.Need-returns-2
 returns-2 c = wrote-uvlc _ _ _ (c .before .before .before .before .before .before .before .before .pre .0) (sym (ap bitPutSays (c .before .next .given .1)) ∙ c .before .before .before .before .before .uvlc .ensures .0) (c .before .before .before .before .before .uvlc .ensures .1)
@@ -33,11 +15,11 @@ pub put-uvlc-spec : {M : Type 1} → statement M
 put-uvlc-spec =
     tie.close
     (tie.spec
-    cast-uvlc
-    uvlc-requires
-    enum-known-next
-    enum-told
-    same-length
+    (λ c. search needs)
+    (λ c κs. search needs)
+    (λ c. search needs)
+    (λ c. search needs)
+    (λ c. search needs)
     returns
-    same-length-2
+    (λ c. search needs)
     returns-2)

@@ -27,20 +27,11 @@ r6 c = (_, _, _, _, _, _, wrote-then (r5 (c .before .before .before .before) .6)
 abbrev r7 : tie.After-put-bits-or → Run
 r7 c = (_, _, _, _, _, _, wrote-then (r6 (c .before .before .before .before) .6) (c .put-bits-or .ensures))
 
-put-bits-requires : tie.Need-put-bits-requires
-put-bits-requires c κs = search needs
-
-put-flag-requires : tie.Need-put-flag-requires
-put-flag-requires c κs = search needs
-
 put-flag-requires-2 : tie.Need-put-flag-requires-2
 put-flag-requires-2 c κs =
     let p = c .before .before .before .before .before .before .before .before .before .before .before .pre in
     let w = r2 (c .before .before .before) .6 in
     omega (arith, p .0, p .1, w .near, w .len)
-
-put-timing-requires : tie.Need-put-timing-requires
-put-timing-requires c κs = search needs
 
 put-model-requires : tie.Need-put-model-requires
 put-model-requires c κs =
@@ -71,10 +62,10 @@ pub put-opening-spec : {M : Type 1} → statement M
 put-opening-spec =
     tie.close
     (tie.spec
-    put-bits-requires
-    put-flag-requires
+    (λ c κs. search needs)
+    (λ c κs. search needs)
     put-flag-requires-2
-    put-timing-requires
+    (λ c κs. search needs)
     put-model-requires
     put-flag-or-requires
     put-bits-or-requires

@@ -33,15 +33,6 @@ r8 c = (_, _, _, _, _, _, wrote-then (r7 (c .before .before .before .before) .6)
 abbrev r9 : tie.After-put-bits-or4 → Run
 r9 c = (_, _, _, _, _, _, wrote-then (r8 (c .before .before .before .before) .6) (c .put-bits-or4 .ensures))
 
-add-n : tie.Need-add-n
-add-n c = search needs
-
-put-bits-or-requires : tie.Need-put-bits-or-requires
-put-bits-or-requires c κs = search needs
-
-put-bits-requires : tie.Need-put-bits-requires
-put-bits-requires c κs = search needs
-
 put-flag-or-requires : tie.Need-put-flag-or-requires
 put-flag-or-requires c κs =
     let p = c .before .before .before .before .before .before .before .before .before .before .before .before .pre in
@@ -95,9 +86,9 @@ pub put-point-spec : {M : Type 1} → statement M
 put-point-spec =
     tie.close
     (tie.spec
-    add-n
-    put-bits-or-requires
-    put-bits-requires
+    (λ c. search needs)
+    (λ c κs. search needs)
+    (λ c κs. search needs)
     put-flag-or-requires
     put-flag-or-requires-2
     put-bits-or-requires-2

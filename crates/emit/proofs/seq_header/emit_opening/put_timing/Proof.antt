@@ -21,12 +21,6 @@ r4 c = (_, _, _, _, _, _, wrote-then (r3 (c .before .before .before .before) .6)
 abbrev r5 : tie.After-put-uvlc-or → Run
 r5 c = (_, _, _, _, _, _, wrote-then (r4 (c .before .before .before .before) .6) (c .put-uvlc-or .ensures))
 
-put-flag-or-requires : tie.Need-put-flag-or-requires
-put-flag-or-requires c κs = search needs
-
-put-bits-or-requires : tie.Need-put-bits-or-requires
-put-bits-or-requires c κs = search needs
-
 put-bits-or-requires-2 : tie.Need-put-bits-or-requires-2
 put-bits-or-requires-2 c κs =
     let p = c .before .before .before .before .before .before .before .before .before .before .pre in
@@ -39,9 +33,6 @@ put-flag-or-requires-2 c κs =
     let w = r3 (c .before .before .before) .6 in
     omega (arith, p .0, p .1, w .near, w .len)
 
-put-uvlc-or-requires : tie.Need-put-uvlc-or-requires
-put-uvlc-or-requires c κs = search needs
-
 same-length : tie.Need-same-length
 same-length c = r5 (c .before .before) .6 .len
 
@@ -53,10 +44,10 @@ pub put-timing-spec : {M : Type 1} → statement M
 put-timing-spec =
     tie.close
     (tie.spec
-    put-flag-or-requires
-    put-bits-or-requires
+    (λ c κs. search needs)
+    (λ c κs. search needs)
     put-bits-or-requires-2
     put-flag-or-requires-2
-    put-uvlc-or-requires
+    (λ c κs. search needs)
     same-length
     returns)

@@ -7,9 +7,6 @@ use borrow.Author.Tests.{not-true, not-false}
 use Rattle.emittable.proofs.EmitSteps.{opening-bad, opening-good}
 use Rattle.emittable.proofs.BackSequence.{opening-delay, opening-count}
 
-opening-fits-requires : tie.Need-opening-fits-requires
-opening-fits-requires c κs = search needs
-
 returns : tie.Need-returns
 returns c = opening-bad _ _ (sym (c .before .opening-fits .ensures) ∙ not-true _ (c .if1 .taken))
 
@@ -23,9 +20,6 @@ points-fit-requires c κs =
     let g = sym (c .before .opening-fits .ensures) ∙ not-false _ (c .if1 .left) in
     (opening-delay _ g, opening-count _ g)
 
-coding-fits-requires : tie.Need-coding-fits-requires
-coding-fits-requires c κs = search needs
-
 returns-2 : tie.Need-returns-2
 returns-2 c =
     let e = c .before .before .before in
@@ -36,9 +30,9 @@ pub is-emittable-spec : {M : Type 1} → statement M
 is-emittable-spec =
     tie.close
     (tie.spec
-    opening-fits-requires
+    (λ c κs. search needs)
     returns
     add-count
     points-fit-requires
-    coding-fits-requires
+    (λ c κs. search needs)
     returns-2)

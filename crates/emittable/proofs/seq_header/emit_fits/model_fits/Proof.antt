@@ -3,21 +3,6 @@ use Rattle.emittable.proofs.seq_header.emit_fits.model_fits.Statement.{
 use Rattle.emittable.proofs.seq_header.emit_fits.model_fits.Tie as tie
 use Rattle.emittable.specs.Emittable.{modelFits}
 
-flag-fits-or-requires : tie.Need-flag-fits-or-requires
-flag-fits-or-requires c κs = search needs
-
-bits-fit-or-requires : tie.Need-bits-fit-or-requires
-bits-fit-or-requires c κs = search needs
-
-bits-fit-or-requires-2 : tie.Need-bits-fit-or-requires-2
-bits-fit-or-requires-2 c κs = search needs
-
-bits-fit-or-requires-3 : tie.Need-bits-fit-or-requires-3
-bits-fit-or-requires-3 c κs = search needs
-
-bits-fit-or-requires-4 : tie.Need-bits-fit-or-requires-4
-bits-fit-or-requires-4 c κs = search needs
-
 returns : tie.Need-returns
 unfolding modelFits
 returns c = cc
@@ -26,9 +11,9 @@ pub model-fits-spec : {M : Type 1} → statement M
 model-fits-spec =
     tie.close
     (tie.spec
-    flag-fits-or-requires
-    bits-fit-or-requires
-    bits-fit-or-requires-2
-    bits-fit-or-requires-3
-    bits-fit-or-requires-4
+    (λ c κs. search needs)
+    (λ c κs. search needs)
+    (λ c κs. search needs)
+    (λ c κs. search needs)
+    (λ c κs. search needs)
     returns)

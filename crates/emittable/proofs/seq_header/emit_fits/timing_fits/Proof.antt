@@ -3,21 +3,6 @@ use Rattle.emittable.proofs.seq_header.emit_fits.timing_fits.Statement.
 use Rattle.emittable.proofs.seq_header.emit_fits.timing_fits.Tie as tie
 use Rattle.emittable.specs.Emittable.{timingFits}
 
-flag-fits-or-requires : tie.Need-flag-fits-or-requires
-flag-fits-or-requires c κs = search needs
-
-bits-fit-or-requires : tie.Need-bits-fit-or-requires
-bits-fit-or-requires c κs = search needs
-
-bits-fit-or-requires-2 : tie.Need-bits-fit-or-requires-2
-bits-fit-or-requires-2 c κs = search needs
-
-flag-fits-or-requires-2 : tie.Need-flag-fits-or-requires-2
-flag-fits-or-requires-2 c κs = search needs
-
-uvlc-fits-or-requires : tie.Need-uvlc-fits-or-requires
-uvlc-fits-or-requires c κs = search needs
-
 returns : tie.Need-returns
 unfolding timingFits
 returns c = cc
@@ -26,9 +11,9 @@ pub timing-fits-spec : {M : Type 1} → statement M
 timing-fits-spec =
     tie.close
     (tie.spec
-    flag-fits-or-requires
-    bits-fit-or-requires
-    bits-fit-or-requires-2
-    flag-fits-or-requires-2
-    uvlc-fits-or-requires
+    (λ c κs. search needs)
+    (λ c κs. search needs)
+    (λ c κs. search needs)
+    (λ c κs. search needs)
+    (λ c κs. search needs)
     returns)

@@ -10,18 +10,6 @@ returns c = size-wide _ (omega arith)
 returns-2 : tie.Need-returns-2
 returns-2 c = size-high _ (omega arith)
 
-add-bits-fit : tie.Need-add-bits-fit
-add-bits-fit c = search needs
-
-bits-fit-requires : tie.Need-bits-fit-requires
-bits-fit-requires c κs = search needs
-
-add-bits-fit-2 : tie.Need-add-bits-fit-2
-add-bits-fit-2 c = search needs
-
-bits-fit-requires-2 : tie.Need-bits-fit-requires-2
-bits-fit-requires-2 c κs = search needs
-
 returns-3 : tie.Need-returns-3
 returns-3 c = size-rest _ (omega arith) (omega arith) (c .before .bits-fit .ensures) (c .bits-fit2 .ensures)
 
@@ -31,8 +19,8 @@ size-fits-spec =
     (tie.spec
     returns
     returns-2
-    add-bits-fit
-    bits-fit-requires
-    add-bits-fit-2
-    bits-fit-requires-2
+    (λ c. search needs)
+    (λ c κs. search needs)
+    (λ c. search needs)
+    (λ c κs. search needs)
     returns-3)

@@ -17,33 +17,15 @@ s-again c =
     let a = c .before .before .before .before .args in
     (answerOf (frameBits modelled (now (a .s)) (a .b .pos) (sequenceOf (a .header) (a .points))), _, on-in answerOf flagSays _ refl (c .before .before .read-flag .ensures) (c .again .given .1))
 
-read-flag-requires : tie.Need-read-flag-requires
-read-flag-requires c κs = search needs
-
-enum-known-again : tie.Need-enum-known-again
-enum-known-again c = search needs
-
-enum-told : tie.Need-enum-told
-enum-told c = search needs
-
 returns : tie.Need-returns
 unfolding frameBits
 returns c = sym (on-in answerOf flagSays _ refl (c .before .before .read-flag .ensures) (c .enum-told .given .1))
-
-has-point-info-requires : tie.Need-has-point-info-requires
-has-point-info-requires c κs = search needs
-
-show-existing-requires : tie.Need-show-existing-requires
-show-existing-requires c κs = search needs
 
 returns-2 : tie.Need-returns-2
 unfolding frameBits
 returns-2 c =
     (rw (c .before .has-point-info .ensures) at (c .show-existing .ensures))
     ∙ sym (at-test-in answerOf _ _ (s-again (c .before .before .before .before) .2) (c .before .before .if1 .taken))
-
-frame-info-requires : tie.Need-frame-info-requires
-frame-info-requires c κs = search needs
 
 returns-3 : tie.Need-returns-3
 unfolding frameBits
@@ -53,12 +35,12 @@ pub frame-bits-spec : {M : Type 1} → statement M
 frame-bits-spec =
     tie.close
     (tie.spec
-    read-flag-requires
-    enum-known-again
-    enum-told
+    (λ c κs. search needs)
+    (λ c. search needs)
+    (λ c. search needs)
     returns
-    has-point-info-requires
-    show-existing-requires
+    (λ c κs. search needs)
+    (λ c κs. search needs)
     returns-2
-    frame-info-requires
+    (λ c κs. search needs)
     returns-3)

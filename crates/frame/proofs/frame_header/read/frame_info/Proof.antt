@@ -34,55 +34,13 @@ unfolding frameInfo
 s-flags c =
     (_, _, on-in framed bitsSays _ (s-b (c .before .before .before .before .before) .2) (rw (c .before .before .before .all-slots .ensures) at (c .before .before .bits-or .ensures)) (c .flags .given .1))
 
-has-point-info-requires : tie.Need-has-point-info-requires
-has-point-info-requires c κs = search needs
-
-frame-start-requires : tie.Need-frame-start-requires
-frame-start-requires c κs = search needs
-
-enum-known-k : tie.Need-enum-known-k
-enum-known-k c = search needs
-
-enum-known-f : tie.Need-enum-known-f
-enum-known-f c = search needs
-
-order-hint-requires : tie.Need-order-hint-requires
-order-hint-requires c κs = search needs
-
-enum-known-hint : tie.Need-enum-known-hint
-enum-known-hint c = search needs
-
-enum-told : tie.Need-enum-told
-enum-told c = search needs
-
 returns : tie.Need-returns
 unfolding frameInfo
 returns c = sym (on-in framed bitsSays _ (s-f (c .before .before .before .before) .2) (c .before .before .order-hint .ensures) (c .enum-told .given .1))
 
-buffer-removal-requires : tie.Need-buffer-removal-requires
-buffer-removal-requires c κs = search needs
-
-enum-known-b : tie.Need-enum-known-b
-enum-known-b c = search needs
-
-enum-told-2 : tie.Need-enum-told-2
-enum-told-2 c = search needs
-
 returns-2 : tie.Need-returns-2
 unfolding frameInfo
 returns-2 c = sym (on-in framed removalSays _ (s-hint (c .before .before .before .before) .2) (c .before .before .buffer-removal .ensures) (c .enum-told2 .given .1))
-
-all-slots-requires : tie.Need-all-slots-requires
-all-slots-requires c κs = search needs
-
-bits-or-requires : tie.Need-bits-or-requires
-bits-or-requires c κs = search needs
-
-enum-known-flags : tie.Need-enum-known-flags
-enum-known-flags c = search needs
-
-enum-told-3 : tie.Need-enum-told-3
-enum-told-3 c = search needs
 
 returns-3 : tie.Need-returns-3
 unfolding frameInfo
@@ -102,22 +60,22 @@ pub frame-info-spec : {M : Type 1} → statement M
 frame-info-spec =
     tie.close
     (tie.spec
-    has-point-info-requires
-    frame-start-requires
-    enum-known-k
-    enum-known-f
-    order-hint-requires
-    enum-known-hint
-    enum-told
+    (λ c κs. search needs)
+    (λ c κs. search needs)
+    (λ c. search needs)
+    (λ c. search needs)
+    (λ c κs. search needs)
+    (λ c. search needs)
+    (λ c. search needs)
     returns
-    buffer-removal-requires
-    enum-known-b
-    enum-told-2
+    (λ c κs. search needs)
+    (λ c. search needs)
+    (λ c. search needs)
     returns-2
-    all-slots-requires
-    bits-or-requires
-    enum-known-flags
-    enum-told-3
+    (λ c κs. search needs)
+    (λ c κs. search needs)
+    (λ c. search needs)
+    (λ c. search needs)
     returns-3
     returns-4
     returns-5)

@@ -6,18 +6,6 @@ use Rattle.frame.proofs.FrameFromLaws.{beside-read, beside-refused}
 use Rattle.frame.proofs.frame_header.read.parse_frame_header_info.Statement.{statement}
 use Rattle.frame.proofs.frame_header.read.parse_frame_header_info.Tie as tie
 
-parse-sequence-header-requires : tie.Need-parse-sequence-header-requires
-parse-sequence-header-requires c κs = search needs
-
-enum-known-answer : tie.Need-enum-known-answer
-enum-known-answer c = search needs
-
-frame-header-info-requires : tie.Need-frame-header-info-requires
-frame-header-info-requires c κs = search needs
-
-enum-known-answer-2 : tie.Need-enum-known-answer-2
-enum-known-answer-2 c = search needs
-
 returns : tie.Need-returns
 returns c = sym (over-limit _ _ (c .if1 .taken))
 
@@ -37,9 +25,9 @@ parse-frame-header-info-spec =
     tie.close
     (tie.spec
     returns
-    parse-sequence-header-requires
-    enum-known-answer
-    frame-header-info-requires
-    enum-known-answer-2
+    (λ c κs. search needs)
+    (λ c. search needs)
+    (λ c κs. search needs)
+    (λ c. search needs)
     returns-2
     returns-3)

@@ -17,24 +17,9 @@ s-present c =
     let a = c .before .before .before .before .args in
     (bufferRemoval modelled (now (a .s)) (a .b .pos) (a .m) (take (a .more + 1) (a .points)), _, on flagSays _ refl (c .before .before .flag-or .ensures) (c .present .given .1))
 
-flag-or-requires : tie.Need-flag-or-requires
-flag-or-requires c κs = search needs
-
-enum-known-present : tie.Need-enum-known-present
-enum-known-present c = search needs
-
-enum-told : tie.Need-enum-told
-enum-told c = search needs
-
 returns : tie.Need-returns
 unfolding bufferRemoval
 returns c = sym (on flagSays _ refl (c .before .before .flag-or .ensures) (c .enum-told .given .1))
-
-points-in-requires : tie.Need-points-in-requires
-points-in-requires c κs = search needs
-
-removal-times-requires : tie.Need-removal-times-requires
-removal-times-requires c κs = search needs
 
 returns-2 : tie.Need-returns-2
 unfolding bufferRemoval
@@ -52,11 +37,11 @@ pub buffer-removal-spec : {M : Type 1} → statement M
 buffer-removal-spec =
     tie.close
     (tie.spec
-    flag-or-requires
-    enum-known-present
-    enum-told
+    (λ c κs. search needs)
+    (λ c. search needs)
+    (λ c. search needs)
     returns
-    points-in-requires
-    removal-times-requires
+    (λ c κs. search needs)
+    (λ c κs. search needs)
     returns-2
     returns-3)

@@ -32,27 +32,9 @@ unfolding frameStart
 s-resilient c =
     (_, _, on flagSays _ (s-showable (c .before .before .before .before .before) .2) (rw (c .before .before .before .all-slots .ensures) at (c .before .before .flag-or2 .ensures)) (c .resilient .given .1))
 
-f-requires : tie.Need-f-requires
-f-requires c κs = search needs
-
-enum-known-frame-type : tie.Need-enum-known-frame-type
-enum-known-frame-type c = search needs
-
-enum-told : tie.Need-enum-told
-enum-told c = search needs
-
 returns : tie.Need-returns
 unfolding frameStart
 returns c = sym (on bitsSays _ refl (c .before .before .f .ensures) (c .enum-told .given .1))
-
-read-flag-requires : tie.Need-read-flag-requires
-read-flag-requires c κs = search needs
-
-enum-known-shown : tie.Need-enum-known-shown
-enum-known-shown c = search needs
-
-enum-told-2 : tie.Need-enum-told-2
-enum-told-2 c = search needs
 
 returns-2 : tie.Need-returns-2
 unfolding frameStart
@@ -62,30 +44,9 @@ returns-3 : tie.Need-returns-3
 unfolding frameStart
 returns-3 c = sym (at-test _ _ (s-shown (c .before .before) .2) (c .if1 .taken))
 
-flag-or-requires : tie.Need-flag-or-requires
-flag-or-requires c κs = search needs
-
-enum-known-showable : tie.Need-enum-known-showable
-enum-known-showable c = search needs
-
-enum-told-3 : tie.Need-enum-told-3
-enum-told-3 c = search needs
-
 returns-4 : tie.Need-returns-4
 unfolding frameStart
 returns-4 c = sym (on flagSays _ (s-none (c .before .before .before) .2) (c .before .before .flag-or .ensures) (c .enum-told3 .given .1))
-
-all-slots-requires : tie.Need-all-slots-requires
-all-slots-requires c κs = search needs
-
-flag-or-requires-2 : tie.Need-flag-or-requires-2
-flag-or-requires-2 c κs = search needs
-
-enum-known-resilient : tie.Need-enum-known-resilient
-enum-known-resilient c = search needs
-
-enum-told-4 : tie.Need-enum-told-4
-enum-told-4 c = search needs
 
 returns-5 : tie.Need-returns-5
 unfolding frameStart
@@ -100,22 +61,22 @@ pub frame-start-spec : {M : Type 1} → statement M
 frame-start-spec =
     tie.close
     (tie.spec
-    f-requires
-    enum-known-frame-type
-    enum-told
+    (λ c κs. search needs)
+    (λ c. search needs)
+    (λ c. search needs)
     returns
-    read-flag-requires
-    enum-known-shown
-    enum-told-2
+    (λ c κs. search needs)
+    (λ c. search needs)
+    (λ c. search needs)
     returns-2
     returns-3
-    flag-or-requires
-    enum-known-showable
-    enum-told-3
+    (λ c κs. search needs)
+    (λ c. search needs)
+    (λ c. search needs)
     returns-4
-    all-slots-requires
-    flag-or-requires-2
-    enum-known-resilient
-    enum-told-4
+    (λ c κs. search needs)
+    (λ c κs. search needs)
+    (λ c. search needs)
+    (λ c. search needs)
     returns-5
     returns-6)

@@ -37,31 +37,10 @@ turn c =
 loop-holds : tie.Need-loop-holds Inv-loop μ-loop
 loop-holds c = (omega arith, refl)
 
-mul-point : tie.Need-mul-point Inv-loop μ-loop
-mul-point c = search needs
-
-array-copy-out-point : tie.Need-array-copy-out-point Inv-loop μ-loop
-array-copy-out-point c = omega arith
-
-width-or-requires : tie.Need-width-or-requires Inv-loop μ-loop
-width-or-requires c κs = search needs
-
-enum-known--time : tie.Need-enum-known--time Inv-loop μ-loop
-enum-known--time c = search needs
-
-enum-told : tie.Need-enum-told Inv-loop μ-loop
-enum-told c = search needs
-
 returns : tie.Need-returns Inv-loop μ-loop
 returns c =
     let l = c .before .before .before .before .before .loop in
     sym (on bitsSays _ (turn (c .before .before .before .before)) (c .before .before .width-or .ensures) (c .enum-told .given .1)) ∙ l .inv .1
-
-add-i : tie.Need-add-i Inv-loop μ-loop
-add-i c = search needs
-
-loop-less : tie.Need-loop-less Inv-loop μ-loop
-loop-less c = search needs
 
 loop-again : tie.Need-loop-again Inv-loop μ-loop
 loop-again c =
@@ -81,13 +60,13 @@ removal-times-spec =
     Inv-loop
     μ-loop
     loop-holds
-    mul-point
-    array-copy-out-point
-    width-or-requires
-    enum-known--time
-    enum-told
+    (λ c. search needs)
+    (λ c. omega arith)
+    (λ c κs. search needs)
+    (λ c. search needs)
+    (λ c. search needs)
     returns
-    add-i
-    loop-less
+    (λ c. search needs)
+    (λ c. search needs)
     loop-again
     returns-2)

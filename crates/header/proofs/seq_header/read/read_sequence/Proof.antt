@@ -19,21 +19,6 @@ use Rattle.header.proofs.seq_header.read.read_sequence.Tie as tie
 opened : (c : tie.After-o) → opening ours (now (c .before .before .before .before .args .payload)) 0 ≡ reads (c .o .given .0 .0) (c .o .given .0 .1 .0 .pos)
 opened c = sym (c .before .before .read-opening .ensures) ∙ ap openingSays (c .o .given .1)
 
-read-opening-requires : tie.Need-read-opening-requires
-read-opening-requires c κs = search needs
-
-enum-known-o : tie.Need-enum-known-o
-enum-known-o c = search needs
-
-enum-told : tie.Need-enum-told
-enum-told c = search needs
-
-opening-refusal-requires : tie.Need-opening-refusal-requires
-opening-refusal-requires c κs = search needs
-
-no-sequence-requires : tie.Need-no-sequence-requires
-no-sequence-requires c κs = search needs
-
 returns : tie.Need-returns
 returns c =
     let g = c .before .before .enum-told .given .1 in
@@ -47,18 +32,6 @@ read-points-requires c κs =
     let w = rw (opened (c .before)) at (opening-within ours (now (c .before .before .before .before .before .args .payload)) 0) in
     (omega (arith, w .model .delay), omega (arith, w .count))
 
-enum-known-answer : tie.Need-enum-known-answer
-enum-known-answer c = search needs
-
-enum-told-2 : tie.Need-enum-told-2
-enum-told-2 c = search needs
-
-points-refusal-requires : tie.Need-points-refusal-requires
-points-refusal-requires c κs = search needs
-
-no-sequence-requires-2 : tie.Need-no-sequence-requires-2
-no-sequence-requires-2 c κs = search needs
-
 returns-2 : tie.Need-returns-2
 returns-2 c =
     let g = c .before .before .enum-told2 .given .1 in
@@ -66,18 +39,6 @@ returns-2 c =
     c .no-sequence2 .ensures
     ∙ ap (λ (k : ℕ). sequenceRead (refused k)) (c .before .points-refusal .ensures ∙ ap pointsRefusal g)
     ∙ sym (no-points _ _ _ (opened (c .before .before .before .before .before .before)) _ f)
-
-read-coding-requires : tie.Need-read-coding-requires
-read-coding-requires c κs = search needs
-
-enum-known-coding : tie.Need-enum-known-coding
-enum-known-coding c = search needs
-
-enum-told-3 : tie.Need-enum-told-3
-enum-told-3 c = search needs
-
-no-sequence-requires-3 : tie.Need-no-sequence-requires-3
-no-sequence-requires-3 c κs = search needs
 
 returns-3 : tie.Need-returns-3
 returns-3 c =
@@ -95,21 +56,21 @@ pub read-sequence-spec : {M : Type 1} → statement M
 read-sequence-spec =
     tie.close
     (tie.spec
-    read-opening-requires
-    enum-known-o
-    enum-told
-    opening-refusal-requires
-    no-sequence-requires
+    (λ c κs. search needs)
+    (λ c. search needs)
+    (λ c. search needs)
+    (λ c κs. search needs)
+    (λ c κs. search needs)
     returns
     read-points-requires
-    enum-known-answer
-    enum-told-2
-    points-refusal-requires
-    no-sequence-requires-2
+    (λ c. search needs)
+    (λ c. search needs)
+    (λ c κs. search needs)
+    (λ c κs. search needs)
     returns-2
-    read-coding-requires
-    enum-known-coding
-    enum-told-3
-    no-sequence-requires-3
+    (λ c κs. search needs)
+    (λ c. search needs)
+    (λ c. search needs)
+    (λ c κs. search needs)
     returns-3
     returns-4)

@@ -23,40 +23,13 @@ abbrev s-grain : tie.After-grain → Chain (Reading Coding)
 unfolding codingFrom
 s-grain c = (_, _, on flagSays _ (s-sampling (c .before .before .before .before) .2) (c .before .before .read-flag .ensures) (c .grain .given .1))
 
-read-color-requires : tie.Need-read-color-requires
-read-color-requires c κs = search needs
-
-enum-known-color : tie.Need-enum-known-color
-enum-known-color c = search needs
-
-enum-told : tie.Need-enum-told
-enum-told c = search needs
-
 returns : tie.Need-returns
 unfolding codingFrom
 returns c = sym (on colorSays _ refl (c .before .before .read-color .ensures) (c .enum-told .given .1))
 
-read-sampling-requires : tie.Need-read-sampling-requires
-read-sampling-requires c κs = search needs
-
-enum-known-sampling : tie.Need-enum-known-sampling
-enum-known-sampling c = search needs
-
-enum-told-2 : tie.Need-enum-told-2
-enum-told-2 c = search needs
-
 returns-2 : tie.Need-returns-2
 unfolding codingFrom
 returns-2 c = sym (on samplingSays _ (s-color (c .before .before .before .before) .2) (c .before .before .read-sampling .ensures) (c .enum-told2 .given .1))
-
-read-flag-requires : tie.Need-read-flag-requires
-read-flag-requires c κs = search needs
-
-enum-known-grain : tie.Need-enum-known-grain
-enum-known-grain c = search needs
-
-enum-told-3 : tie.Need-enum-told-3
-enum-told-3 c = search needs
 
 returns-3 : tie.Need-returns-3
 unfolding codingFrom
@@ -70,16 +43,16 @@ pub read-coding-from-spec : {M : Type 1} → statement M
 read-coding-from-spec =
     tie.close
     (tie.spec
-    read-color-requires
-    enum-known-color
-    enum-told
+    (λ c κs. search needs)
+    (λ c. search needs)
+    (λ c. search needs)
     returns
-    read-sampling-requires
-    enum-known-sampling
-    enum-told-2
+    (λ c κs. search needs)
+    (λ c. search needs)
+    (λ c. search needs)
     returns-2
-    read-flag-requires
-    enum-known-grain
-    enum-told-3
+    (λ c κs. search needs)
+    (λ c. search needs)
+    (λ c. search needs)
     returns-3
     returns-4)

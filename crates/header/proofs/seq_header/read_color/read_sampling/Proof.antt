@@ -32,66 +32,21 @@ abbrev s-separate : tie.After-separate → Chain (Reading ColorSampling)
 unfolding colorSampling
 s-separate c = (_, _, on flagSays _ (s-position (c .before .before .before .before) .2) (c .before .before .read-flag .ensures ∙ flag-always _ _) (c .separate .given .1))
 
-flag-or-requires : tie.Need-flag-or-requires
-flag-or-requires c κs = search needs
-
-enum-known-range : tie.Need-enum-known-range
-enum-known-range c = search needs
-
-enum-told : tie.Need-enum-told
-enum-told c = search needs
-
 returns : tie.Need-returns
 unfolding colorSampling
 returns c = sym (on flagSays _ refl (c .before .before .flag-or .ensures) (c .enum-told .given .1))
-
-flag-or-requires-2 : tie.Need-flag-or-requires-2
-flag-or-requires-2 c κs = search needs
-
-enum-known-x : tie.Need-enum-known-x
-enum-known-x c = search needs
-
-enum-told-2 : tie.Need-enum-told-2
-enum-told-2 c = search needs
 
 returns-2 : tie.Need-returns-2
 unfolding colorSampling
 returns-2 c = sym (on flagSays _ (s-range (c .before .before .before .before) .2) (c .before .before .flag-or2 .ensures) (c .enum-told2 .given .1))
 
-flag-or-requires-3 : tie.Need-flag-or-requires-3
-flag-or-requires-3 c κs = search needs
-
-enum-known-y : tie.Need-enum-known-y
-enum-known-y c = search needs
-
-enum-told-3 : tie.Need-enum-told-3
-enum-told-3 c = search needs
-
 returns-3 : tie.Need-returns-3
 unfolding colorSampling
 returns-3 c = sym (on flagSays _ (s-x (c .before .before .before .before) .2) (c .before .before .flag-or3 .ensures) (c .enum-told3 .given .1))
 
-bits-or-requires : tie.Need-bits-or-requires
-bits-or-requires c κs = search needs
-
-enum-known-position : tie.Need-enum-known-position
-enum-known-position c = search needs
-
-enum-told-4 : tie.Need-enum-told-4
-enum-told-4 c = search needs
-
 returns-4 : tie.Need-returns-4
 unfolding colorSampling
 returns-4 c = sym (on bitsSays _ (s-y (c .before .before .before .before) .2) (c .before .before .bits-or .ensures) (c .enum-told4 .given .1))
-
-read-flag-requires : tie.Need-read-flag-requires
-read-flag-requires c κs = search needs
-
-enum-known-separate : tie.Need-enum-known-separate
-enum-known-separate c = search needs
-
-enum-told-5 : tie.Need-enum-told-5
-enum-told-5 c = search needs
 
 returns-5 : tie.Need-returns-5
 unfolding colorSampling
@@ -105,24 +60,24 @@ pub read-sampling-spec : {M : Type 1} → statement M
 read-sampling-spec =
     tie.close
     (tie.spec
-    flag-or-requires
-    enum-known-range
-    enum-told
+    (λ c κs. search needs)
+    (λ c. search needs)
+    (λ c. search needs)
     returns
-    flag-or-requires-2
-    enum-known-x
-    enum-told-2
+    (λ c κs. search needs)
+    (λ c. search needs)
+    (λ c. search needs)
     returns-2
-    flag-or-requires-3
-    enum-known-y
-    enum-told-3
+    (λ c κs. search needs)
+    (λ c. search needs)
+    (λ c. search needs)
     returns-3
-    bits-or-requires
-    enum-known-position
-    enum-told-4
+    (λ c κs. search needs)
+    (λ c. search needs)
+    (λ c. search needs)
     returns-4
-    read-flag-requires
-    enum-known-separate
-    enum-told-5
+    (λ c κs. search needs)
+    (λ c. search needs)
+    (λ c. search needs)
     returns-5
     returns-6)

@@ -31,66 +31,21 @@ abbrev s-presentation : tie.After-presentation → Chain (Reading DecoderModelIn
 unfolding decoderModelInfo
 s-presentation c = (_, _, on bitsSays _ (s-removal (c .before .before .before .before) .2) (c .before .before .bits-or4 .ensures) (c .presentation .given .1))
 
-flag-or-requires : tie.Need-flag-or-requires
-flag-or-requires c κs = search needs
-
-enum-known-present : tie.Need-enum-known-present
-enum-known-present c = search needs
-
-enum-told : tie.Need-enum-told
-enum-told c = search needs
-
 returns : tie.Need-returns
 unfolding decoderModelInfo
 returns c = sym (on flagSays _ refl (c .before .before .flag-or .ensures) (c .enum-told .given .1))
-
-bits-or-requires : tie.Need-bits-or-requires
-bits-or-requires c κs = search needs
-
-enum-known-delay : tie.Need-enum-known-delay
-enum-known-delay c = search needs
-
-enum-told-2 : tie.Need-enum-told-2
-enum-told-2 c = search needs
 
 returns-2 : tie.Need-returns-2
 unfolding decoderModelInfo
 returns-2 c = sym (on bitsSays _ (s-present (c .before .before .before .before) .2) (c .before .before .bits-or .ensures) (c .enum-told2 .given .1))
 
-bits-or-requires-2 : tie.Need-bits-or-requires-2
-bits-or-requires-2 c κs = search needs
-
-enum-known-tick : tie.Need-enum-known-tick
-enum-known-tick c = search needs
-
-enum-told-3 : tie.Need-enum-told-3
-enum-told-3 c = search needs
-
 returns-3 : tie.Need-returns-3
 unfolding decoderModelInfo
 returns-3 c = sym (on bitsSays _ (s-delay (c .before .before .before .before) .2) (c .before .before .bits-or2 .ensures) (c .enum-told3 .given .1))
 
-bits-or-requires-3 : tie.Need-bits-or-requires-3
-bits-or-requires-3 c κs = search needs
-
-enum-known-removal : tie.Need-enum-known-removal
-enum-known-removal c = search needs
-
-enum-told-4 : tie.Need-enum-told-4
-enum-told-4 c = search needs
-
 returns-4 : tie.Need-returns-4
 unfolding decoderModelInfo
 returns-4 c = sym (on bitsSays _ (s-tick (c .before .before .before .before) .2) (c .before .before .bits-or3 .ensures) (c .enum-told4 .given .1))
-
-bits-or-requires-4 : tie.Need-bits-or-requires-4
-bits-or-requires-4 c κs = search needs
-
-enum-known-presentation : tie.Need-enum-known-presentation
-enum-known-presentation c = search needs
-
-enum-told-5 : tie.Need-enum-told-5
-enum-told-5 c = search needs
 
 returns-5 : tie.Need-returns-5
 unfolding decoderModelInfo
@@ -104,24 +59,24 @@ pub read-model-spec : {M : Type 1} → statement M
 read-model-spec =
     tie.close
     (tie.spec
-    flag-or-requires
-    enum-known-present
-    enum-told
+    (λ c κs. search needs)
+    (λ c. search needs)
+    (λ c. search needs)
     returns
-    bits-or-requires
-    enum-known-delay
-    enum-told-2
+    (λ c κs. search needs)
+    (λ c. search needs)
+    (λ c. search needs)
     returns-2
-    bits-or-requires-2
-    enum-known-tick
-    enum-told-3
+    (λ c κs. search needs)
+    (λ c. search needs)
+    (λ c. search needs)
     returns-3
-    bits-or-requires-3
-    enum-known-removal
-    enum-told-4
+    (λ c κs. search needs)
+    (λ c. search needs)
+    (λ c. search needs)
     returns-4
-    bits-or-requires-4
-    enum-known-presentation
-    enum-told-5
+    (λ c κs. search needs)
+    (λ c. search needs)
+    (λ c. search needs)
     returns-5
     returns-6)

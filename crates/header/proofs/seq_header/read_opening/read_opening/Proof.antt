@@ -34,40 +34,13 @@ abbrev s-else1 : tie.Else1 → Chain (Reading Opening)
 unfolding opening openingFrom
 s-else1 c = (_, _, at-test _ _ (s-reduced (c .before .before) .2) (le-ltb _ _ (c .if1 .left)))
 
-f-requires : tie.Need-f-requires
-f-requires c κs = search needs
-
-enum-known-profile : tie.Need-enum-known-profile
-enum-known-profile c = search needs
-
-enum-told : tie.Need-enum-told
-enum-told c = search needs
-
 returns : tie.Need-returns
 unfolding opening openingFrom
 returns c = sym (on bitsSays _ refl (c .before .before .f .ensures) (c .enum-told .given .1))
 
-read-flag-requires : tie.Need-read-flag-requires
-read-flag-requires c κs = search needs
-
-enum-known-still : tie.Need-enum-known-still
-enum-known-still c = search needs
-
-enum-told-2 : tie.Need-enum-told-2
-enum-told-2 c = search needs
-
 returns-2 : tie.Need-returns-2
 unfolding opening openingFrom
 returns-2 c = sym (on flagSays _ (s-profile (c .before .before .before .before) .2) (c .before .before .read-flag .ensures) (c .enum-told2 .given .1))
-
-read-flag-requires-2 : tie.Need-read-flag-requires-2
-read-flag-requires-2 c κs = search needs
-
-enum-known-reduced : tie.Need-enum-known-reduced
-enum-known-reduced c = search needs
-
-enum-told-3 : tie.Need-enum-told-3
-enum-told-3 c = search needs
 
 returns-3 : tie.Need-returns-3
 unfolding opening openingFrom
@@ -77,9 +50,6 @@ returns-4 : tie.Need-returns-4
 unfolding opening openingFrom
 returns-4 c = sym (s-then1 c .2)
 
-read-opening-from-requires : tie.Need-read-opening-from-requires
-read-opening-from-requires c κs = search needs
-
 returns-5 : tie.Need-returns-5
 unfolding opening openingFrom
 returns-5 c = c .read-opening-from .ensures ∙ sym (s-else1 (c .before) .2)
@@ -88,18 +58,18 @@ pub read-opening-spec : {M : Type 1} → statement M
 read-opening-spec =
     tie.close
     (tie.spec
-    f-requires
-    enum-known-profile
-    enum-told
+    (λ c κs. search needs)
+    (λ c. search needs)
+    (λ c. search needs)
     returns
-    read-flag-requires
-    enum-known-still
-    enum-told-2
+    (λ c κs. search needs)
+    (λ c. search needs)
+    (λ c. search needs)
     returns-2
-    read-flag-requires-2
-    enum-known-reduced
-    enum-told-3
+    (λ c κs. search needs)
+    (λ c. search needs)
+    (λ c. search needs)
     returns-3
     returns-4
-    read-opening-from-requires
+    (λ c κs. search needs)
     returns-5)

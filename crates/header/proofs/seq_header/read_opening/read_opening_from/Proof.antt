@@ -27,18 +27,6 @@ abbrev s-more : tie.After-more → Chain (Reading Opening)
 unfolding openingFrom
 s-more c = (_, _, on bitsSays _ (s-delay (c .before .before .before .before) .2) (c .before .before .bits-or .ensures) (c .more .given .1))
 
-read-timing-requires : tie.Need-read-timing-requires
-read-timing-requires c κs = search needs
-
-enum-known-t : tie.Need-enum-known-t
-enum-known-t c = search needs
-
-enum-told : tie.Need-enum-told
-enum-told c = search needs
-
-timing-refusal-requires : tie.Need-timing-refusal-requires
-timing-refusal-requires c κs = search needs
-
 returns : tie.Need-returns
 unfolding openingFrom
 returns c =
@@ -46,40 +34,13 @@ returns c =
     let t = c .before .before .before .read-timing .ensures in
     ap fails (c .timing-refusal .ensures ∙ ap (λ x. refusalOf (timingSays x)) g) ∙ sym (on timingSays _ refl t g)
 
-read-model-requires : tie.Need-read-model-requires
-read-model-requires c κs = search needs
-
-enum-known-model : tie.Need-enum-known-model
-enum-known-model c = search needs
-
-enum-told-2 : tie.Need-enum-told-2
-enum-told-2 c = search needs
-
 returns-2 : tie.Need-returns-2
 unfolding openingFrom
 returns-2 c = sym (on modelSays _ (s-t (c .before .before .before .before) .2) (c .before .before .read-model .ensures) (c .enum-told2 .given .1))
 
-flag-or-requires : tie.Need-flag-or-requires
-flag-or-requires c κs = search needs
-
-enum-known-delay : tie.Need-enum-known-delay
-enum-known-delay c = search needs
-
-enum-told-3 : tie.Need-enum-told-3
-enum-told-3 c = search needs
-
 returns-3 : tie.Need-returns-3
 unfolding openingFrom
 returns-3 c = sym (on flagSays _ (s-model (c .before .before .before .before) .2) (c .before .before .flag-or .ensures) (c .enum-told3 .given .1))
-
-bits-or-requires : tie.Need-bits-or-requires
-bits-or-requires c κs = search needs
-
-enum-known-more : tie.Need-enum-known-more
-enum-known-more c = search needs
-
-enum-told-4 : tie.Need-enum-told-4
-enum-told-4 c = search needs
 
 returns-4 : tie.Need-returns-4
 unfolding openingFrom
@@ -93,21 +54,21 @@ pub read-opening-from-spec : {M : Type 1} → statement M
 read-opening-from-spec =
     tie.close
     (tie.spec
-    read-timing-requires
-    enum-known-t
-    enum-told
-    timing-refusal-requires
+    (λ c κs. search needs)
+    (λ c. search needs)
+    (λ c. search needs)
+    (λ c κs. search needs)
     returns
-    read-model-requires
-    enum-known-model
-    enum-told-2
+    (λ c κs. search needs)
+    (λ c. search needs)
+    (λ c. search needs)
     returns-2
-    flag-or-requires
-    enum-known-delay
-    enum-told-3
+    (λ c κs. search needs)
+    (λ c. search needs)
+    (λ c. search needs)
     returns-3
-    bits-or-requires
-    enum-known-more
-    enum-told-4
+    (λ c κs. search needs)
+    (λ c. search needs)
+    (λ c. search needs)
     returns-4
     returns-5)

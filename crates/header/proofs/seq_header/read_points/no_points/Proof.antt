@@ -1,4 +1,3 @@
--- `header::seq_header::read_points::no_points` meets its contract. Assumes nothing.
 use borrow.Author.Needs.{needs}
 use mathlib.Core.Path.{ap}
 use lib.ListN.{replicate}

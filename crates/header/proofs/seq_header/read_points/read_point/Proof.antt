@@ -28,60 +28,21 @@ abbrev s-model : tie.After-model → Chain (Reading OperatingPoint)
 unfolding operatingPoint pointFrom
 s-model c = (_, _, on flagSays _ (s-tier (c .before .before .before .before) .2) (c .before .before .flag-or2 .ensures) (c .model .given .1))
 
-bits-or-requires : tie.Need-bits-or-requires
-bits-or-requires c κs = search needs
-
-enum-known-idc : tie.Need-enum-known-idc
-enum-known-idc c = search needs
-
-enum-told : tie.Need-enum-told
-enum-told c = search needs
-
 returns : tie.Need-returns
 unfolding operatingPoint pointFrom
 returns c = sym (on bitsSays _ refl (c .before .before .bits-or .ensures) (c .enum-told .given .1))
-
-f-requires : tie.Need-f-requires
-f-requires c κs = search needs
-
-enum-known-level : tie.Need-enum-known-level
-enum-known-level c = search needs
-
-enum-told-2 : tie.Need-enum-told-2
-enum-told-2 c = search needs
 
 returns-2 : tie.Need-returns-2
 unfolding operatingPoint pointFrom
 returns-2 c = sym (on bitsSays _ (s-idc (c .before .before .before .before) .2) (c .before .before .f .ensures) (c .enum-told2 .given .1))
 
-flag-or-requires : tie.Need-flag-or-requires
-flag-or-requires c κs = search needs
-
-enum-known-tier : tie.Need-enum-known-tier
-enum-known-tier c = search needs
-
-enum-told-3 : tie.Need-enum-told-3
-enum-told-3 c = search needs
-
 returns-3 : tie.Need-returns-3
 unfolding operatingPoint pointFrom
 returns-3 c = sym (on flagSays _ (s-level (c .before .before .before .before) .2) (c .before .before .flag-or .ensures) (c .enum-told3 .given .1))
 
-flag-or-requires-2 : tie.Need-flag-or-requires-2
-flag-or-requires-2 c κs = search needs
-
-enum-known-model : tie.Need-enum-known-model
-enum-known-model c = search needs
-
-enum-told-4 : tie.Need-enum-told-4
-enum-told-4 c = search needs
-
 returns-4 : tie.Need-returns-4
 unfolding operatingPoint pointFrom
 returns-4 c = sym (on flagSays _ (s-tier (c .before .before .before .before) .2) (c .before .before .flag-or2 .ensures) (c .enum-told4 .given .1))
-
-read-point-from-requires : tie.Need-read-point-from-requires
-read-point-from-requires c κs = search needs
 
 returns-5 : tie.Need-returns-5
 unfolding operatingPoint pointFrom
@@ -91,21 +52,21 @@ pub read-point-spec : {M : Type 1} → statement M
 read-point-spec =
     tie.close
     (tie.spec
-    bits-or-requires
-    enum-known-idc
-    enum-told
+    (λ c κs. search needs)
+    (λ c. search needs)
+    (λ c. search needs)
     returns
-    f-requires
-    enum-known-level
-    enum-told-2
+    (λ c κs. search needs)
+    (λ c. search needs)
+    (λ c. search needs)
     returns-2
-    flag-or-requires
-    enum-known-tier
-    enum-told-3
+    (λ c κs. search needs)
+    (λ c. search needs)
+    (λ c. search needs)
     returns-3
-    flag-or-requires-2
-    enum-known-model
-    enum-told-4
+    (λ c κs. search needs)
+    (λ c. search needs)
+    (λ c. search needs)
     returns-4
-    read-point-from-requires
+    (λ c κs. search needs)
     returns-5)

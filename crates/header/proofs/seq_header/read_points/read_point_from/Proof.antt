@@ -31,69 +31,21 @@ abbrev s-delay : tie.After-delay → Chain (Reading OperatingPoint)
 unfolding pointFrom
 s-delay c = (_, _, on bitsSays _ (s-present (c .before .before .before .before) .2) (c .before .before .bits-or3 .ensures) (c .delay .given .1))
 
-add-n : tie.Need-add-n
-add-n c = search needs
-
-bits-or-requires : tie.Need-bits-or-requires
-bits-or-requires c κs = search needs
-
-enum-known-decoder : tie.Need-enum-known-decoder
-enum-known-decoder c = search needs
-
-enum-told : tie.Need-enum-told
-enum-told c = search needs
-
 returns : tie.Need-returns
 unfolding pointFrom
 returns c = sym (on bitsSays _ refl (c .before .before .bits-or .ensures) (c .enum-told .given .1))
-
-bits-or-requires-2 : tie.Need-bits-or-requires-2
-bits-or-requires-2 c κs = search needs
-
-enum-known-encoder : tie.Need-enum-known-encoder
-enum-known-encoder c = search needs
-
-enum-told-2 : tie.Need-enum-told-2
-enum-told-2 c = search needs
 
 returns-2 : tie.Need-returns-2
 unfolding pointFrom
 returns-2 c = sym (on bitsSays _ (s-decoder (c .before .before .before .before) .2) (c .before .before .bits-or2 .ensures) (c .enum-told2 .given .1))
 
-flag-or-requires : tie.Need-flag-or-requires
-flag-or-requires c κs = search needs
-
-enum-known-low : tie.Need-enum-known-low
-enum-known-low c = search needs
-
-enum-told-3 : tie.Need-enum-told-3
-enum-told-3 c = search needs
-
 returns-3 : tie.Need-returns-3
 unfolding pointFrom
 returns-3 c = sym (on flagSays _ (s-encoder (c .before .before .before .before) .2) (c .before .before .flag-or .ensures) (c .enum-told3 .given .1))
 
-flag-or-requires-2 : tie.Need-flag-or-requires-2
-flag-or-requires-2 c κs = search needs
-
-enum-known-present : tie.Need-enum-known-present
-enum-known-present c = search needs
-
-enum-told-4 : tie.Need-enum-told-4
-enum-told-4 c = search needs
-
 returns-4 : tie.Need-returns-4
 unfolding pointFrom
 returns-4 c = sym (on flagSays _ (s-low (c .before .before .before .before) .2) (c .before .before .flag-or2 .ensures) (c .enum-told4 .given .1))
-
-bits-or-requires-3 : tie.Need-bits-or-requires-3
-bits-or-requires-3 c κs = search needs
-
-enum-known-delay : tie.Need-enum-known-delay
-enum-known-delay c = search needs
-
-enum-told-5 : tie.Need-enum-told-5
-enum-told-5 c = search needs
 
 returns-5 : tie.Need-returns-5
 unfolding pointFrom
@@ -107,25 +59,25 @@ pub read-point-from-spec : {M : Type 1} → statement M
 read-point-from-spec =
     tie.close
     (tie.spec
-    add-n
-    bits-or-requires
-    enum-known-decoder
-    enum-told
+    (λ c. search needs)
+    (λ c κs. search needs)
+    (λ c. search needs)
+    (λ c. search needs)
     returns
-    bits-or-requires-2
-    enum-known-encoder
-    enum-told-2
+    (λ c κs. search needs)
+    (λ c. search needs)
+    (λ c. search needs)
     returns-2
-    flag-or-requires
-    enum-known-low
-    enum-told-3
+    (λ c κs. search needs)
+    (λ c. search needs)
+    (λ c. search needs)
     returns-3
-    flag-or-requires-2
-    enum-known-present
-    enum-told-4
+    (λ c κs. search needs)
+    (λ c. search needs)
+    (λ c. search needs)
     returns-4
-    bits-or-requires-3
-    enum-known-delay
-    enum-told-5
+    (λ c κs. search needs)
+    (λ c. search needs)
+    (λ c. search needs)
     returns-5
     returns-6)

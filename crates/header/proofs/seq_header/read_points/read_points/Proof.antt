@@ -27,26 +27,8 @@ start : (c : tie.After-no-points Inv-loop μ-loop) →
     ≡ pointsRead (operatingPoints (pointCount (a .o)) (now (a .s)) (a .b .pos) (a .o))
 start c = fill-start _ _ _ _ (c .no-points .ensures) (omega arith)
 
-add-count : tie.Need-add-count Inv-loop μ-loop
-add-count c = search needs
-
-no-points-requires : tie.Need-no-points-requires Inv-loop μ-loop
-no-points-requires c κs = search needs
-
 loop-holds : tie.Need-loop-holds Inv-loop μ-loop
 loop-holds c = (omega arith, rw sub-zero)
-
-read-point-requires : tie.Need-read-point-requires Inv-loop μ-loop
-read-point-requires c κs = search needs
-
-enum-known-x : tie.Need-enum-known-x Inv-loop μ-loop
-enum-known-x c = search needs
-
-enum-told : tie.Need-enum-told Inv-loop μ-loop
-enum-told c = search needs
-
-no-points-requires-2 : tie.Need-no-points-requires-2 Inv-loop μ-loop
-no-points-requires-2 c κs = search needs
 
 returns : tie.Need-returns Inv-loop μ-loop
 unfolding padded
@@ -57,18 +39,6 @@ returns c =
     ∙ sym (fill-short _ _ (l .list) _ (l .i) (l .b .pos) (omega arith) e)
     ∙ l .inv .1
     ∙ start (c .before .before .before .before .before .before)
-
-mul-list : tie.Need-mul-list Inv-loop μ-loop
-mul-list c = search needs
-
-array-set-from-list : tie.Need-array-set-from-list Inv-loop μ-loop
-array-set-from-list c = search needs
-
-add-i : tie.Need-add-i Inv-loop μ-loop
-add-i c = search needs
-
-loop-less : tie.Need-loop-less Inv-loop μ-loop
-loop-less c = search needs
 
 loop-again : tie.Need-loop-again Inv-loop μ-loop
 loop-again c =
@@ -87,17 +57,17 @@ read-points-spec =
     (tie.spec
     Inv-loop
     μ-loop
-    add-count
-    no-points-requires
+    (λ c. search needs)
+    (λ c κs. search needs)
     loop-holds
-    read-point-requires
-    enum-known-x
-    enum-told
-    no-points-requires-2
+    (λ c κs. search needs)
+    (λ c. search needs)
+    (λ c. search needs)
+    (λ c κs. search needs)
     returns
-    mul-list
-    array-set-from-list
-    add-i
-    loop-less
+    (λ c. search needs)
+    (λ c. search needs)
+    (λ c. search needs)
+    (λ c. search needs)
     loop-again
     returns-2)

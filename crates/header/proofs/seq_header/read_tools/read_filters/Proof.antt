@@ -23,40 +23,13 @@ abbrev s-restoration : tie.After-restoration → Chain (Reading Filters)
 unfolding filters
 s-restoration c = (_, _, on flagSays _ (s-cdef (c .before .before .before .before) .2) (c .before .before .read-flag3 .ensures) (c .restoration .given .1))
 
-read-flag-requires : tie.Need-read-flag-requires
-read-flag-requires c κs = search needs
-
-enum-known-superres : tie.Need-enum-known-superres
-enum-known-superres c = search needs
-
-enum-told : tie.Need-enum-told
-enum-told c = search needs
-
 returns : tie.Need-returns
 unfolding filters
 returns c = sym (on flagSays _ refl (c .before .before .read-flag .ensures) (c .enum-told .given .1))
 
-read-flag-requires-2 : tie.Need-read-flag-requires-2
-read-flag-requires-2 c κs = search needs
-
-enum-known-cdef : tie.Need-enum-known-cdef
-enum-known-cdef c = search needs
-
-enum-told-2 : tie.Need-enum-told-2
-enum-told-2 c = search needs
-
 returns-2 : tie.Need-returns-2
 unfolding filters
 returns-2 c = sym (on flagSays _ (s-superres (c .before .before .before .before) .2) (c .before .before .read-flag2 .ensures) (c .enum-told2 .given .1))
-
-read-flag-requires-3 : tie.Need-read-flag-requires-3
-read-flag-requires-3 c κs = search needs
-
-enum-known-restoration : tie.Need-enum-known-restoration
-enum-known-restoration c = search needs
-
-enum-told-3 : tie.Need-enum-told-3
-enum-told-3 c = search needs
 
 returns-3 : tie.Need-returns-3
 unfolding filters
@@ -70,16 +43,16 @@ pub read-filters-spec : {M : Type 1} → statement M
 read-filters-spec =
     tie.close
     (tie.spec
-    read-flag-requires
-    enum-known-superres
-    enum-told
+    (λ c κs. search needs)
+    (λ c. search needs)
+    (λ c. search needs)
     returns
-    read-flag-requires-2
-    enum-known-cdef
-    enum-told-2
+    (λ c κs. search needs)
+    (λ c. search needs)
+    (λ c. search needs)
     returns-2
-    read-flag-requires-3
-    enum-known-restoration
-    enum-told-3
+    (λ c κs. search needs)
+    (λ c. search needs)
+    (λ c. search needs)
     returns-3
     returns-4)

@@ -23,40 +23,13 @@ abbrev s-additional : tie.After-additional → Chain (Reading FrameIds)
 unfolding frameIds
 s-additional c = (_, _, on bitsSays _ (s-delta (c .before .before .before .before) .2) (c .before .before .bits-or2 .ensures) (c .additional .given .1))
 
-flag-or-requires : tie.Need-flag-or-requires
-flag-or-requires c κs = search needs
-
-enum-known-present : tie.Need-enum-known-present
-enum-known-present c = search needs
-
-enum-told : tie.Need-enum-told
-enum-told c = search needs
-
 returns : tie.Need-returns
 unfolding frameIds
 returns c = sym (on flagSays _ refl (c .before .before .flag-or .ensures) (c .enum-told .given .1))
 
-bits-or-requires : tie.Need-bits-or-requires
-bits-or-requires c κs = search needs
-
-enum-known-delta : tie.Need-enum-known-delta
-enum-known-delta c = search needs
-
-enum-told-2 : tie.Need-enum-told-2
-enum-told-2 c = search needs
-
 returns-2 : tie.Need-returns-2
 unfolding frameIds
 returns-2 c = sym (on bitsSays _ (s-present (c .before .before .before .before) .2) (c .before .before .bits-or .ensures) (c .enum-told2 .given .1))
-
-bits-or-requires-2 : tie.Need-bits-or-requires-2
-bits-or-requires-2 c κs = search needs
-
-enum-known-additional : tie.Need-enum-known-additional
-enum-known-additional c = search needs
-
-enum-told-3 : tie.Need-enum-told-3
-enum-told-3 c = search needs
 
 returns-3 : tie.Need-returns-3
 unfolding frameIds
@@ -70,16 +43,16 @@ pub read-ids-spec : {M : Type 1} → statement M
 read-ids-spec =
     tie.close
     (tie.spec
-    flag-or-requires
-    enum-known-present
-    enum-told
+    (λ c κs. search needs)
+    (λ c. search needs)
+    (λ c. search needs)
     returns
-    bits-or-requires
-    enum-known-delta
-    enum-told-2
+    (λ c κs. search needs)
+    (λ c. search needs)
+    (λ c. search needs)
     returns-2
-    bits-or-requires-2
-    enum-known-additional
-    enum-told-3
+    (λ c κs. search needs)
+    (λ c. search needs)
+    (λ c. search needs)
     returns-3
     returns-4)

@@ -28,27 +28,9 @@ abbrev s-height : tie.After-height → Chain (Reading FrameSize)
 unfolding frameSize
 s-height c = (_, _, on bitsSays _ (s-width (c .before .before .before .before) .2) (c .before .before .f4 .ensures) (c .height .given .1))
 
-f-requires : tie.Need-f-requires
-f-requires c κs = search needs
-
-enum-known-width-bits : tie.Need-enum-known-width-bits
-enum-known-width-bits c = search needs
-
-enum-told : tie.Need-enum-told
-enum-told c = search needs
-
 returns : tie.Need-returns
 unfolding frameSize
 returns c = sym (on bitsSays _ refl (c .before .before .f .ensures) (c .enum-told .given .1))
-
-f-requires-2 : tie.Need-f-requires-2
-f-requires-2 c κs = search needs
-
-enum-known-height-bits : tie.Need-enum-known-height-bits
-enum-known-height-bits c = search needs
-
-enum-told-2 : tie.Need-enum-told-2
-enum-told-2 c = search needs
 
 returns-2 : tie.Need-returns-2
 unfolding frameSize
@@ -57,30 +39,12 @@ returns-2 c = sym (on bitsSays _ (s-width-bits (c .before .before .before .befor
 add-f : tie.Need-add-f
 add-f c = omega (arith, read-lt _ _ 4 (sym (c .before .before .before .before .before .before .before .f .ensures) ∙ ap bitsSays (c .before .before .before .before .before .width-bits .given .1)))
 
-f-requires-3 : tie.Need-f-requires-3
-f-requires-3 c κs = search needs
-
-enum-known-width : tie.Need-enum-known-width
-enum-known-width c = search needs
-
-enum-told-3 : tie.Need-enum-told-3
-enum-told-3 c = search needs
-
 returns-3 : tie.Need-returns-3
 unfolding frameSize
 returns-3 c = sym (on bitsSays _ (s-height-bits (c .before .before .before .before) .2) (c .before .before .f3 .ensures) (c .enum-told3 .given .1))
 
 add-f-2 : tie.Need-add-f-2
 add-f-2 c = omega (arith, read-lt _ _ 4 (sym (c .before .before .before .before .before .before .before .f2 .ensures) ∙ ap bitsSays (c .before .before .before .before .before .height-bits .given .1)))
-
-f-requires-4 : tie.Need-f-requires-4
-f-requires-4 c κs = search needs
-
-enum-known-height : tie.Need-enum-known-height
-enum-known-height c = search needs
-
-enum-told-4 : tie.Need-enum-told-4
-enum-told-4 c = search needs
 
 returns-4 : tie.Need-returns-4
 unfolding frameSize
@@ -94,22 +58,22 @@ pub read-size-spec : {M : Type 1} → statement M
 read-size-spec =
     tie.close
     (tie.spec
-    f-requires
-    enum-known-width-bits
-    enum-told
+    (λ c κs. search needs)
+    (λ c. search needs)
+    (λ c. search needs)
     returns
-    f-requires-2
-    enum-known-height-bits
-    enum-told-2
+    (λ c κs. search needs)
+    (λ c. search needs)
+    (λ c. search needs)
     returns-2
     add-f
-    f-requires-3
-    enum-known-width
-    enum-told-3
+    (λ c κs. search needs)
+    (λ c. search needs)
+    (λ c. search needs)
     returns-3
     add-f-2
-    f-requires-4
-    enum-known-height
-    enum-told-4
+    (λ c κs. search needs)
+    (λ c. search needs)
+    (λ c. search needs)
     returns-4
     returns-5)

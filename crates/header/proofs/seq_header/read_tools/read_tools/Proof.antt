@@ -32,73 +32,25 @@ abbrev s-masked : tie.After-masked → Chain (Reading Tools)
 unfolding codingTools toolsFrom
 s-masked c = (_, _, on flagSays _ (s-interintra (c .before .before .before .before) .2) (c .before .before .flag-or2 .ensures) (c .masked .given .1))
 
-read-flag-requires : tie.Need-read-flag-requires
-read-flag-requires c κs = search needs
-
-enum-known-superblock : tie.Need-enum-known-superblock
-enum-known-superblock c = search needs
-
-enum-told : tie.Need-enum-told
-enum-told c = search needs
-
 returns : tie.Need-returns
 unfolding codingTools toolsFrom
 returns c = sym (on flagSays _ refl (c .before .before .read-flag .ensures) (c .enum-told .given .1))
-
-read-flag-requires-2 : tie.Need-read-flag-requires-2
-read-flag-requires-2 c κs = search needs
-
-enum-known-filter : tie.Need-enum-known-filter
-enum-known-filter c = search needs
-
-enum-told-2 : tie.Need-enum-told-2
-enum-told-2 c = search needs
 
 returns-2 : tie.Need-returns-2
 unfolding codingTools toolsFrom
 returns-2 c = sym (on flagSays _ (s-superblock (c .before .before .before .before) .2) (c .before .before .read-flag2 .ensures) (c .enum-told2 .given .1))
 
-read-flag-requires-3 : tie.Need-read-flag-requires-3
-read-flag-requires-3 c κs = search needs
-
-enum-known-edge : tie.Need-enum-known-edge
-enum-known-edge c = search needs
-
-enum-told-3 : tie.Need-enum-told-3
-enum-told-3 c = search needs
-
 returns-3 : tie.Need-returns-3
 unfolding codingTools toolsFrom
 returns-3 c = sym (on flagSays _ (s-filter (c .before .before .before .before) .2) (c .before .before .read-flag3 .ensures) (c .enum-told3 .given .1))
-
-flag-or-requires : tie.Need-flag-or-requires
-flag-or-requires c κs = search needs
-
-enum-known-interintra : tie.Need-enum-known-interintra
-enum-known-interintra c = search needs
-
-enum-told-4 : tie.Need-enum-told-4
-enum-told-4 c = search needs
 
 returns-4 : tie.Need-returns-4
 unfolding codingTools toolsFrom
 returns-4 c = sym (on flagSays _ (s-edge (c .before .before .before .before) .2) (c .before .before .flag-or .ensures) (c .enum-told4 .given .1))
 
-flag-or-requires-2 : tie.Need-flag-or-requires-2
-flag-or-requires-2 c κs = search needs
-
-enum-known-masked : tie.Need-enum-known-masked
-enum-known-masked c = search needs
-
-enum-told-5 : tie.Need-enum-told-5
-enum-told-5 c = search needs
-
 returns-5 : tie.Need-returns-5
 unfolding codingTools toolsFrom
 returns-5 c = sym (on flagSays _ (s-interintra (c .before .before .before .before) .2) (c .before .before .flag-or2 .ensures) (c .enum-told5 .given .1))
-
-read-tools-from-requires : tie.Need-read-tools-from-requires
-read-tools-from-requires c κs = search needs
 
 returns-6 : tie.Need-returns-6
 unfolding codingTools toolsFrom
@@ -108,25 +60,25 @@ pub read-tools-spec : {M : Type 1} → statement M
 read-tools-spec =
     tie.close
     (tie.spec
-    read-flag-requires
-    enum-known-superblock
-    enum-told
+    (λ c κs. search needs)
+    (λ c. search needs)
+    (λ c. search needs)
     returns
-    read-flag-requires-2
-    enum-known-filter
-    enum-told-2
+    (λ c κs. search needs)
+    (λ c. search needs)
+    (λ c. search needs)
     returns-2
-    read-flag-requires-3
-    enum-known-edge
-    enum-told-3
+    (λ c κs. search needs)
+    (λ c. search needs)
+    (λ c. search needs)
     returns-3
-    flag-or-requires
-    enum-known-interintra
-    enum-told-4
+    (λ c κs. search needs)
+    (λ c. search needs)
+    (λ c. search needs)
     returns-4
-    flag-or-requires-2
-    enum-known-masked
-    enum-told-5
+    (λ c κs. search needs)
+    (λ c. search needs)
+    (λ c. search needs)
     returns-5
-    read-tools-from-requires
+    (λ c κs. search needs)
     returns-6)

@@ -31,66 +31,21 @@ abbrev s-mvs : tie.After-mvs → Chain (Reading Tools)
 unfolding toolsFrom
 s-mvs c = (_, _, on flagSays _ (s-jnt (c .before .before .before .before) .2) (c .before .before .flag-or5 .ensures) (c .mvs .given .1))
 
-flag-or-requires : tie.Need-flag-or-requires
-flag-or-requires c κs = search needs
-
-enum-known-warped : tie.Need-enum-known-warped
-enum-known-warped c = search needs
-
-enum-told : tie.Need-enum-told
-enum-told c = search needs
-
 returns : tie.Need-returns
 unfolding toolsFrom
 returns c = sym (on flagSays _ refl (c .before .before .flag-or .ensures) (c .enum-told .given .1))
-
-flag-or-requires-2 : tie.Need-flag-or-requires-2
-flag-or-requires-2 c κs = search needs
-
-enum-known-dual : tie.Need-enum-known-dual
-enum-known-dual c = search needs
-
-enum-told-2 : tie.Need-enum-told-2
-enum-told-2 c = search needs
 
 returns-2 : tie.Need-returns-2
 unfolding toolsFrom
 returns-2 c = sym (on flagSays _ (s-warped (c .before .before .before .before) .2) (c .before .before .flag-or2 .ensures) (c .enum-told2 .given .1))
 
-flag-or-requires-3 : tie.Need-flag-or-requires-3
-flag-or-requires-3 c κs = search needs
-
-enum-known-hint : tie.Need-enum-known-hint
-enum-known-hint c = search needs
-
-enum-told-3 : tie.Need-enum-told-3
-enum-told-3 c = search needs
-
 returns-3 : tie.Need-returns-3
 unfolding toolsFrom
 returns-3 c = sym (on flagSays _ (s-dual (c .before .before .before .before) .2) (c .before .before .flag-or3 .ensures) (c .enum-told3 .given .1))
 
-flag-or-requires-4 : tie.Need-flag-or-requires-4
-flag-or-requires-4 c κs = search needs
-
-enum-known-jnt : tie.Need-enum-known-jnt
-enum-known-jnt c = search needs
-
-enum-told-4 : tie.Need-enum-told-4
-enum-told-4 c = search needs
-
 returns-4 : tie.Need-returns-4
 unfolding toolsFrom
 returns-4 c = sym (on flagSays _ (s-hint (c .before .before .before .before) .2) (c .before .before .flag-or4 .ensures) (c .enum-told4 .given .1))
-
-flag-or-requires-5 : tie.Need-flag-or-requires-5
-flag-or-requires-5 c κs = search needs
-
-enum-known-mvs : tie.Need-enum-known-mvs
-enum-known-mvs c = search needs
-
-enum-told-5 : tie.Need-enum-told-5
-enum-told-5 c = search needs
 
 returns-5 : tie.Need-returns-5
 unfolding toolsFrom
@@ -104,24 +59,24 @@ pub read-tools-from-spec : {M : Type 1} → statement M
 read-tools-from-spec =
     tie.close
     (tie.spec
-    flag-or-requires
-    enum-known-warped
-    enum-told
+    (λ c κs. search needs)
+    (λ c. search needs)
+    (λ c. search needs)
     returns
-    flag-or-requires-2
-    enum-known-dual
-    enum-told-2
+    (λ c κs. search needs)
+    (λ c. search needs)
+    (λ c. search needs)
     returns-2
-    flag-or-requires-3
-    enum-known-hint
-    enum-told-3
+    (λ c κs. search needs)
+    (λ c. search needs)
+    (λ c. search needs)
     returns-3
-    flag-or-requires-4
-    enum-known-jnt
-    enum-told-4
+    (λ c κs. search needs)
+    (λ c. search needs)
+    (λ c. search needs)
     returns-4
-    flag-or-requires-5
-    enum-known-mvs
-    enum-told-5
+    (λ c κs. search needs)
+    (λ c. search needs)
+    (λ c. search needs)
     returns-5
     returns-6)

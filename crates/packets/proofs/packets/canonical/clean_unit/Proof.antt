@@ -44,17 +44,11 @@ sized c =
     let n = length-append (keptBytes true (p .it .o ∷ [])) (keptBytes false (p .it .os)) in
     record { parts = p; size = omega (arith, c .plus .ensures) }
 
-first-end-requires : tie.Need-first-end-requires
-first-end-requires c κs = search needs
-
 written-len-requires : tie.Need-written-len-requires
 written-len-requires c κs = let p = parted c in record { short = c .before .before .before .pre .0; os = p .it .o ∷ []; range = p .front }
 
 written-len-requires-2 : tie.Need-written-len-requires-2
 written-len-requires-2 c κs = let p = parted (c .before) in record { short = c .before .before .before .before .pre .0; os = p .it .os; range = p .back }
-
-plus-requires : tie.Need-plus-requires
-plus-requires c κs = search needs
 
 returns : tie.Need-returns
 returns c =
@@ -83,9 +77,6 @@ put-written-requires-2 c κs =
     let w = k .put-written .ensures (p .it .o ∷ []) (p .front) in
     record { os = p .it .os; range = p .back; room = omega (arith, z .size, w .next, ap length (w .lent), pasted-length (now (k .before .before .before .before .before .before .before .before .before .before .args .out)) 0 xs (omega (arith, z .size))) }
 
-same-length : tie.Need-same-length
-same-length c = search needs
-
 returns-3 : tie.Need-returns-3
 returns-3 c =
     let m = c .before .before in
@@ -105,13 +96,13 @@ pub clean-unit-spec : {M : Type 1} → statement M
 clean-unit-spec =
     tie.close
     (tie.spec
-    first-end-requires
+    (λ c κs. search needs)
     written-len-requires
     written-len-requires-2
-    plus-requires
+    (λ c κs. search needs)
     returns
     returns-2
     put-written-requires
     put-written-requires-2
-    same-length
+    (λ c. search needs)
     returns-3)

@@ -20,9 +20,6 @@ abbrev μ-loop : tie.MeasureT-loop
 loop-holds : tie.Need-loop-holds Inv-loop μ-loop
 loop-holds c = (omega arith, omega (arith, c .before .before .pre), none-yet Empty (listed (now (c .before .before .args .packets)) (now (c .before .before .args .ends))) (c .before .before .args .a))
 
-packet-requires : tie.Need-packet-requires Inv-loop μ-loop
-packet-requires c κs = search needs
-
 returns : tie.Need-returns Inv-loop μ-loop
 returns c =
     let l = c .before .before .before .loop in
@@ -32,12 +29,6 @@ returns c =
       empty = l .inv .2;
       full = λ _. omega (arith, ap length (c .before .packet .ensures));
     }
-
-add-i : tie.Need-add-i Inv-loop μ-loop
-add-i c = search needs
-
-loop-less : tie.Need-loop-less Inv-loop μ-loop
-loop-less c = search needs
 
 loop-again : tie.Need-loop-again Inv-loop μ-loop
 loop-again c =
@@ -63,9 +54,9 @@ first-full-spec =
     Inv-loop
     μ-loop
     loop-holds
-    packet-requires
+    (λ c κs. search needs)
     returns
-    add-i
-    loop-less
+    (λ c. search needs)
+    (λ c. search needs)
     loop-again
     returns-2)

@@ -20,12 +20,6 @@ abbrev μ-loop : tie.MeasureT-loop
 loop-holds : tie.Need-loop-holds Inv-loop μ-loop
 loop-holds c = (omega arith, omega (arith, c .before .before .pre), none-yet Waits (listed (now (c .before .before .args .packets)) (now (c .before .before .args .ends))) (c .before .before .args .a))
 
-packet-requires : tie.Need-packet-requires Inv-loop μ-loop
-packet-requires c κs = search needs
-
-closes-requires : tie.Need-closes-requires Inv-loop μ-loop
-closes-requires c κs = search needs
-
 returns : tie.Need-returns Inv-loop μ-loop
 returns c =
     let l = c .before .before .before .before .loop in
@@ -36,12 +30,6 @@ returns c =
       wait = l .inv .2;
       close = λ _. ap closes (sym (c .before .before .packet .ensures)) ∙ sym (c .before .closes .ensures) ∙ c .if1 .taken;
     }
-
-add-i : tie.Need-add-i Inv-loop μ-loop
-add-i c = search needs
-
-loop-less : tie.Need-loop-less Inv-loop μ-loop
-loop-less c = search needs
 
 loop-again : tie.Need-loop-again Inv-loop μ-loop
 loop-again c =
@@ -69,10 +57,10 @@ next-close-spec =
     Inv-loop
     μ-loop
     loop-holds
-    packet-requires
-    closes-requires
+    (λ c κs. search needs)
+    (λ c κs. search needs)
     returns
-    add-i
-    loop-less
+    (λ c. search needs)
+    (λ c. search needs)
     loop-again
     returns-2)

@@ -35,9 +35,6 @@ piece-len-requires c κs =
     let k = c .before in
     done-piece (k .before .before .loop .inv .1 .state) (left (k .before)) (k .next-close .ensures) (c .stop-at .ensures)
 
-plus-requires : tie.Need-plus-requires Inv-loop μ-loop
-plus-requires c κs = search needs
-
 add-count : tie.Need-add-count Inv-loop μ-loop
 add-count c = let m = c .before .before .before .before .before .loop .inv .1 in omega (arith, m .count, m .state .few, m .state .within)
 
@@ -67,7 +64,7 @@ measure-spec =
     next-close-requires
     stop-at-requires
     piece-len-requires
-    plus-requires
+    (λ c κs. search needs)
     add-count
     loop-less
     loop-again

@@ -44,9 +44,6 @@ returns c =
 run-len-requires : tie.Need-run-len-requires
 run-len-requires c κs = let s = c .before .before .before .before .before .before .before .before in let a = s .args in none-run (now (a .packets)) (now (a .ends)) (now (a .times)) (s .pre)
 
-has-packet-room-requires : tie.Need-has-packet-room-requires
-has-packet-room-requires c κs = search needs
-
 returns-2 : tie.Need-returns-2
 returns-2 c =
     let s = c .before .before .before .before .before .before .before .before .before .before .before in
@@ -74,27 +71,12 @@ slice-write-out-ends c =
     let a = s .args in
     omega (arith, one-slots (now (a .packets)) (now (a .ends)) (now (a .times)) (s .pre) _ (k .before .before .before .before .first-full .ensures) (some (k .before .before .before)) (room k))
 
-mul-out-times : tie.Need-mul-out-times
-mul-out-times c = search needs
-
-shared-slice-read-out-times : tie.Need-shared-slice-read-out-times
-shared-slice-read-out-times c = search needs
-
 slice-write-out-times : tie.Need-slice-write-out-times
 slice-write-out-times c =
     let k = c .before .before .before .before .before in
     let s = k .before .before .before .before .before .before .before .before .before .before .before in
     let a = s .args in
     omega (arith, one-slots (now (a .packets)) (now (a .ends)) (now (a .times)) (s .pre) _ (k .before .before .before .before .first-full .ensures) (some (k .before .before .before)) (room k))
-
-same-length : tie.Need-same-length
-same-length c = search needs
-
-same-length-2 : tie.Need-same-length-2
-same-length-2 c = search needs
-
-same-length-3 : tie.Need-same-length-3
-same-length-3 c = search needs
 
 returns-3 : tie.Need-returns-3
 returns-3 c =
@@ -112,15 +94,15 @@ merge-none-spec =
     first-full-requires
     returns
     run-len-requires
-    has-packet-room-requires
+    (λ c κs. search needs)
     returns-2
     put-run-requires
     cast-out-ends
     slice-write-out-ends
-    mul-out-times
-    shared-slice-read-out-times
+    (λ c. search needs)
+    (λ c. search needs)
     slice-write-out-times
-    same-length
-    same-length-2
-    same-length-3
+    (λ c. search needs)
+    (λ c. search needs)
+    (λ c. search needs)
     returns-3)

@@ -9,9 +9,6 @@ use Rattle.packets.proofs.packets.merge.merge_some.Tie as tie
 measure-requires : tie.Need-measure-requires
 measure-requires c κs = closing (c .before .before .before .before .before .before .pre)
 
-has-packet-room-requires : tie.Need-has-packet-room-requires
-has-packet-room-requires c κs = search needs
-
 returns : tie.Need-returns
 returns c =
     let s = c .before .before .before .before .before .before .before .before .before in
@@ -28,15 +25,6 @@ write-requires c κs =
       room = out-room (now (a .packets)) (now (a .ends)) (now (a .times)) (now (a .out)) (now (a .out-ends)) (now (a .out-times)) (s .pre .given) _ _ (k .before .before .measure .ensures) (sym (k .before .has-packet-room .ensures) ∙ not-false _ (k .if1 .left));
     }
 
-same-length : tie.Need-same-length
-same-length c = search needs
-
-same-length-2 : tie.Need-same-length-2
-same-length-2 c = search needs
-
-same-length-3 : tie.Need-same-length-3
-same-length-3 c = search needs
-
 returns-2 : tie.Need-returns-2
 returns-2 c =
     let w = c .before .before .before .before .before .before in
@@ -50,10 +38,10 @@ merge-some-spec =
     tie.close
     (tie.spec
     measure-requires
-    has-packet-room-requires
+    (λ c κs. search needs)
     returns
     write-requires
-    same-length
-    same-length-2
-    same-length-3
+    (λ c. search needs)
+    (λ c. search needs)
+    (λ c. search needs)
     returns-2)

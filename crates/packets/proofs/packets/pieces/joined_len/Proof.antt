@@ -4,15 +4,6 @@ use Rattle.packets.proofs.PacketPieceLaws.{whole-run, head-ranged, head
 use Rattle.packets.proofs.packets.pieces.joined_len.Statement.{statement}
 use Rattle.packets.proofs.packets.pieces.joined_len.Tie as tie
 
-lead-of-requires : tie.Need-lead-of-requires
-lead-of-requires c κs = search needs
-
-packet-requires : tie.Need-packet-requires
-packet-requires c κs = search needs
-
-lead-end-requires : tie.Need-lead-end-requires
-lead-end-requires c κs = search needs
-
 written-len-requires : tie.Need-written-len-requires
 written-len-requires c κs =
     let s = c .before .before .before .before .before in
@@ -21,9 +12,6 @@ written-len-requires c κs =
 
 run-len-requires : tie.Need-run-len-requires
 run-len-requires c κs = let s = c .before .before .before .before .before .before in whole-run (s .pre .all) (s .pre .mid)
-
-plus-requires : tie.Need-plus-requires
-plus-requires c κs = search needs
 
 returns : tie.Need-returns
 returns c =
@@ -38,10 +26,10 @@ pub joined-len-spec : {M : Type 1} → statement M
 joined-len-spec =
     tie.close
     (tie.spec
-    lead-of-requires
-    packet-requires
-    lead-end-requires
+    (λ c κs. search needs)
+    (λ c κs. search needs)
+    (λ c κs. search needs)
     written-len-requires
     run-len-requires
-    plus-requires
+    (λ c κs. search needs)
     returns)

@@ -8,20 +8,8 @@ use Rattle.packets.proofs.packets.pieces.lead_of.Tie as tie
 head-of-requires : tie.Need-head-of-requires
 head-of-requires c κs = front-run (c .before .before .pre .all)
 
-packet-requires : tie.Need-packet-requires
-packet-requires c κs = search needs
-
-lead-end-requires : tie.Need-lead-end-requires
-lead-end-requires c κs = search needs
-
 returns : tie.Need-returns
 returns c = waiting (c .before .before .before .head-of .ensures) (lead-yes (c .before .before .packet .ensures) (c .before .lead-end .ensures) (omega arith))
-
-packet-requires-2 : tie.Need-packet-requires-2
-packet-requires-2 c κs = search needs
-
-lead-end-requires-2 : tie.Need-lead-end-requires-2
-lead-end-requires-2 c κs = search needs
 
 returns-2 : tie.Need-returns-2
 returns-2 c =
@@ -46,11 +34,11 @@ lead-of-spec =
     tie.close
     (tie.spec
     head-of-requires
-    packet-requires
-    lead-end-requires
+    (λ c κs. search needs)
+    (λ c κs. search needs)
     returns
-    packet-requires-2
-    lead-end-requires-2
+    (λ c κs. search needs)
+    (λ c κs. search needs)
     returns-2
     add-head-of
     head-of-requires-2

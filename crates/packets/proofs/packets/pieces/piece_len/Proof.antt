@@ -8,32 +8,17 @@ use Rattle.packets.proofs.PacketPieceLaws.{parses-is, parses-not, front
 use Rattle.packets.proofs.packets.pieces.piece_len.Statement.{statement}
 use Rattle.packets.proofs.packets.pieces.piece_len.Tie as tie
 
-packet-requires : tie.Need-packet-requires
-packet-requires c κs = search needs
-
-parses-requires : tie.Need-parses-requires
-parses-requires c κs = search needs
-
 joined-len-requires : tie.Need-joined-len-requires
 joined-len-requires c κs = record { all = c .before .before .before .before .before .pre; mid = parses-is _ (ap parsesUnit (sym (c .before .before .packet .ensures)) ∙ sym (c .before .parses .ensures) ∙ c .if1 .taken) }
 
-returns : tie.Need-returns
-returns c = search needs
-
 run-len-requires : tie.Need-run-len-requires
 run-len-requires c κs = front-run (c .before .before .before .before .before .pre)
-
-plus-requires : tie.Need-plus-requires
-plus-requires c κs = search needs
 
 add-run-len : tie.Need-add-run-len
 add-run-len c = let p = c .before .before .before .before .before .before .before .pre in omega (arith, p .after, p .within)
 
 run-len-requires-2 : tie.Need-run-len-requires-2
 run-len-requires-2 c κs = back-run (c .before .before .before .before .before .before .before .pre)
-
-plus-requires-2 : tie.Need-plus-requires-2
-plus-requires-2 c κs = search needs
 
 returns-2 : tie.Need-returns-2
 returns-2 c =
@@ -47,13 +32,13 @@ pub piece-len-spec : {M : Type 1} → statement M
 piece-len-spec =
     tie.close
     (tie.spec
-    packet-requires
-    parses-requires
+    (λ c κs. search needs)
+    (λ c κs. search needs)
     joined-len-requires
-    returns
+    (λ c. search needs)
     run-len-requires
-    plus-requires
+    (λ c κs. search needs)
     add-run-len
     run-len-requires-2
-    plus-requires-2
+    (λ c κs. search needs)
     returns-2)

@@ -7,12 +7,6 @@ use Rattle.packets.proofs.packets.pieces.put_joined.Tie as tie
 lead-of-requires : tie.Need-lead-of-requires
 lead-of-requires c κs = c .before .before .before .pre .joins
 
-packet-requires : tie.Need-packet-requires
-packet-requires c κs = search needs
-
-lead-end-requires : tie.Need-lead-end-requires
-lead-end-requires c κs = search needs
-
 put-written-requires : tie.Need-put-written-requires
 put-written-requires c κs =
     let s = c .before .before .before .before .before .before .before in
@@ -28,9 +22,6 @@ put-run-requires c κs =
     joined-room (now (a .packets)) (now (a .ends)) (a .a) (a .c) (a .b) (s .pre .joins) _ (m .before .before .before .before .lead-of .ensures) (s .pre .room)
     (head-wrote (now (a .packets)) (now (a .ends)) _ (s .pre .joins .all .short) (m .before .before .before .packet .ensures) (m .before .before .lead-end .ensures) (m .put-written .ensures))
 
-same-length : tie.Need-same-length
-same-length c = search needs
-
 returns : tie.Need-returns
 returns c =
     let m = c .before .before .before .before .before .before in
@@ -44,9 +35,9 @@ put-joined-spec =
     tie.close
     (tie.spec
     lead-of-requires
-    packet-requires
-    lead-end-requires
+    (λ c κs. search needs)
+    (λ c κs. search needs)
     put-written-requires
     put-run-requires
-    same-length
+    (λ c. search needs)
     returns)

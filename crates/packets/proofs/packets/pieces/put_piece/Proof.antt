@@ -15,20 +15,8 @@ use Rattle.packets.proofs.packets.pieces.put_piece.Tie as tie
 bad : (c : tie.Else1) → (let a = c .before .before .before .before .before .before .args in (k : ℕ) × (obus (unitOf (now (a .packets)) (now (a .ends)) (a .c)) ≡ refused k))
 bad c = parses-not _ (ap parsesUnit (sym (c .before .before .packet .ensures)) ∙ sym (c .before .parses .ensures) ∙ c .if1 .left)
 
-packet-requires : tie.Need-packet-requires
-packet-requires c κs = search needs
-
-parses-requires : tie.Need-parses-requires
-parses-requires c κs = search needs
-
 put-joined-requires : tie.Need-put-joined-requires
 put-joined-requires c κs = let t = c .before in record { joins = record { all = t .before .before .before .before .before .before .pre .all; mid = parses-is _ (ap parsesUnit (sym (t .before .before .packet .ensures)) ∙ sym (t .before .parses .ensures) ∙ t .if1 .taken) }; room = t .before .before .before .before .before .before .pre .room }
-
-same-length : tie.Need-same-length
-same-length c = search needs
-
-returns : tie.Need-returns
-returns c = search needs
 
 put-run-requires : tie.Need-put-run-requires
 put-run-requires c κs =
@@ -58,9 +46,6 @@ put-run-requires-2 c κs =
     apart-back (now (a .packets)) (now (a .ends)) (a .a) (a .c) (a .b) (s .pre .all) (bad e .0) (bad e .1) (s .pre .room) (r .put-run .ensures)
     (copied (e .before .before .packet .ensures) (y .put-bytes .ensures .0) (y .put-bytes .ensures .1))
 
-same-length-2 : tie.Need-same-length-2
-same-length-2 c = search needs
-
 returns-2 : tie.Need-returns-2
 returns-2 c =
     let y = c .before .before .before .before .before .before in
@@ -75,14 +60,14 @@ pub put-piece-spec : {M : Type 1} → statement M
 put-piece-spec =
     tie.close
     (tie.spec
-    packet-requires
-    parses-requires
+    (λ c κs. search needs)
+    (λ c κs. search needs)
     put-joined-requires
-    same-length
-    returns
+    (λ c. search needs)
+    (λ c. search needs)
     put-run-requires
     put-bytes-requires
     add-put-run
     put-run-requires-2
-    same-length-2
+    (λ c. search needs)
     returns-2)

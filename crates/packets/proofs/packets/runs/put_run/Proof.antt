@@ -22,9 +22,6 @@ loop-holds c =
     let a = s .args in
     (omega arith, s .pre .run .order, refl, wrote-none (a .keep) (listed (now (a .packets)) (now (a .ends))) (a .a) _ _)
 
-packet-requires : tie.Need-packet-requires Inv-loop μ-loop
-packet-requires c κs = search needs
-
 put-written-requires : tie.Need-put-written-requires Inv-loop μ-loop
 put-written-requires c κs =
     let k = c .before in
@@ -32,12 +29,6 @@ put-written-requires c κs =
     let p = k .before .before .before .before .before .before .pre in
     let a = k .before .before .before .before .before .before .args .keep in
     run-roomy (p .run) (l .i) (l .inv .0) (k .before .loop-test .taken) (k .packet .ensures) a (p .room) (l .inv .3)
-
-add-i : tie.Need-add-i Inv-loop μ-loop
-add-i c = search needs
-
-loop-less : tie.Need-loop-less Inv-loop μ-loop
-loop-less c = search needs
 
 loop-again : tie.Need-loop-again Inv-loop μ-loop
 loop-again c =
@@ -64,10 +55,10 @@ put-run-spec =
     Inv-loop
     μ-loop
     loop-holds
-    packet-requires
+    (λ c κs. search needs)
     put-written-requires
-    add-i
-    loop-less
+    (λ c. search needs)
+    (λ c. search needs)
     loop-again
     same-length
     returns)

@@ -21,22 +21,10 @@ loop-holds c =
     let a = s .args in
     (omega arith, s .pre .order, omega (arith, ap length (run-none (a .keep) (listed (now (a .packets)) (now (a .ends))) (a .a))))
 
-packet-requires : tie.Need-packet-requires Inv-loop μ-loop
-packet-requires c κs = search needs
-
 written-len-requires : tie.Need-written-len-requires Inv-loop μ-loop
 written-len-requires c κs =
     let l = c .before .before .loop in
     run-ranged (c .before .before .before .before .before .pre) (l .i) (l .inv .0) (c .before .loop-test .taken) (c .packet .ensures)
-
-plus-requires : tie.Need-plus-requires Inv-loop μ-loop
-plus-requires c κs = search needs
-
-add-i : tie.Need-add-i Inv-loop μ-loop
-add-i c = search needs
-
-loop-less : tie.Need-loop-less Inv-loop μ-loop
-loop-less c = search needs
 
 loop-again : tie.Need-loop-again Inv-loop μ-loop
 loop-again c =
@@ -57,10 +45,10 @@ run-len-spec =
     Inv-loop
     μ-loop
     loop-holds
-    packet-requires
+    (λ c κs. search needs)
     written-len-requires
-    plus-requires
-    add-i
-    loop-less
+    (λ c κs. search needs)
+    (λ c. search needs)
+    (λ c. search needs)
     loop-again
     returns)

@@ -1,4 +1,4 @@
--- `protocol::answer::list` is safe and ends. The loop keeps the length of the numbers; what is left of the list shrinks. Assumes nothing.
+-- `protocol::answer::list` is safe and ends. The loop keeps the length of the numbers; what is left of the list shrinks.
 use borrow.Author.Needs.{needs}
 use mathlib.Core.Path.{_≡_}
 use Prim.Native.Nat.{_-_}
