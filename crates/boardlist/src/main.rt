@@ -3,11 +3,12 @@ mod answer;
 
 use answer::answer;
 use bitio::leb128::Put;
+use blocks::numbers::WIDTH;
 
 fn main() {
     // one byte more than a file may have, so that a longer one is seen
     let mut file = [0u8; 65537];
-    let mut numbers = [0u64; 20480];
+    let mut numbers = [0u64; WIDTH * 4096];
     let mut list = [0u32; 4096];
     let mut cues = [0u32; 4096];
     let mut pictures = [0u8; 65536];

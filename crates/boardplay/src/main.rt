@@ -14,7 +14,7 @@ use text::flush;
 fn main() {
     // one byte more than a file may have, so that a longer one is seen
     let mut file = [0u8; 65537];
-    let mut numbers = [0u64; 20480];
+    let mut numbers = [0u64; WIDTH * 4096];
     let mut text = [0u8; 65536];
     let n = io::read_full(0, &mut file);
     match read_file(&file[..n], &mut numbers) {

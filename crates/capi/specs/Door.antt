@@ -1,13 +1,16 @@
 -- An answer as numbers for C.
 use Prim.Native.Nat.{ℕ, _+_, _*_, _%_}
 use mathlib.Core.Path.{_≡_}
+use mathlib.Core.List.{List}
 use mathlib.Core.Option.{none, some}
+use lib.ListN.{length}
 use denote.Ref.{RefT, now}
 use denote.Triple.Both.{Both}
 use Rattle.bitio.specs.Parse.{Answer, refused, accepted}
-use Rattle.container.specs.Units.{Sizes}
+use Rattle.container.specs.Limits.{Room}
+use Rattle.container.specs.Units.{Sizes, sizesOf, bytesAfter, endsAfter}
 use Rattle.pictures.specs.Assemble.{Outcome, stopped, made, Output}
-use Rattle.assemble.specs.Whole.{Lent, lentAfter, countsOf}
+use Rattle.assemble.specs.Whole.{Slice, Lent, lentAfter, countsOf}
 use Rattle.assemble.specs.declared.multi.Counts.{Counts}
 
 -- 0, or 01's number
@@ -23,6 +26,32 @@ bytesOf (accepted x) d = x .bytes
 abbrev pub unitsOf : Answer Sizes → ℕ → ℕ
 unitsOf (refused k) d = d
 unitsOf (accepted x) d = x .units
+
+-- the memory lent to stream reading, at one moment
+pub record Units : Type 0 where
+  pub out : List ℕ
+  pub ends : List ℕ
+  pub bytes : ℕ
+  pub units : ℕ
+
+abbrev pub unitsAfter : Answer (List (List ℕ)) → Units → Units
+unitsAfter x d =
+    record { out = bytesAfter x (d .out); ends = endsAfter x (d .ends); bytes = bytesOf (sizesOf x) (d .bytes); units = unitsOf (sizesOf x) (d .units) }
+
+abbrev pub unitsIn : (out ends : RefT (List ℕ)) (bytes units : RefT ℕ) → Units
+unitsIn out ends bytes units = record { out = now out; ends = now ends; bytes = now bytes; units = now units }
+
+abbrev pub unitsLent : (out ends : Slice) (bytes units : Both (RefT ℕ) (RefT ℕ)) → Both Units Units
+unitsLent out ends bytes units =
+    record {
+      entry = unitsIn (out .entry) (ends .entry) (bytes .entry) (units .entry);
+      exit = unitsIn (out .exit) (ends .exit) (bytes .exit) (units .exit);
+    }
+
+-- the code, and what is lent at exit; x: the units, by the room for them
+pub record UnitsRead (x : Room → Answer (List (List ℕ))) (r : ℕ) (d : Both Units Units) : Type 0 where
+  pub code : r ≡ codeOf (sizesOf (x (record { bytes = length (d .entry .out); ends = length (d .entry .ends) })))
+  pub lent : d .exit ≡ unitsAfter (x (record { bytes = length (d .entry .out); ends = length (d .entry .ends) })) (d .entry)
 
 -- ---- assembly
 

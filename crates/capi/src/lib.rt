@@ -1,10 +1,7 @@
 // What a packaging host calls from C: numbers and byte slices only. Declared in include/magbelo.h.
-ghost use mathlib.Core.Path.{_≡_};
-ghost use lib.ListN.{length};
-ghost use Rattle.container.specs.Units.{sizesOf, bytesAfter, endsAfter};
 ghost use Rattle.container.specs.Container.{stream, read};
 ghost use Rattle.assemble.specs.Whole.{outcome, slices};
-ghost use Rattle.capi.specs.Door.{codeOf, bytesOf, unitsOf, numbers, Called};
+ghost use Rattle.capi.specs.Door.{UnitsRead, unitsLent, numbers, Called};
 use assemble::multi::Assembled;
 use assemble::multi::assemble_multi;
 use container::units::Split;
@@ -20,11 +17,7 @@ pub extern "C" fn magbelo_split_obu_stream(
     bytes: &mut usize,
     units: &mut usize,
 ) -> u32
-    ensures { λ r. ⌜ r ≡ codeOf (sizesOf (read stream (record { bytes = length (now (out .entry)); ends = length (now (ends .entry)) }) (now («data» .entry)))) ⌝ }
-    ensures { λ _. ⌜ now (out .exit) ≡ bytesAfter (read stream (record { bytes = length (now (out .entry)); ends = length (now (ends .entry)) }) (now («data» .entry))) (now (out .entry)) ⌝ }
-    ensures { λ _. ⌜ now (ends .exit) ≡ endsAfter (read stream (record { bytes = length (now (out .entry)); ends = length (now (ends .entry)) }) (now («data» .entry))) (now (ends .entry)) ⌝ }
-    ensures { λ _. ⌜ now (bytes .exit) ≡ bytesOf (sizesOf (read stream (record { bytes = length (now (out .entry)); ends = length (now (ends .entry)) }) (now («data» .entry)))) (now (bytes .entry)) ⌝ }
-    ensures { λ _. ⌜ now (units .exit) ≡ unitsOf (sizesOf (read stream (record { bytes = length (now (out .entry)); ends = length (now (ends .entry)) }) (now («data» .entry)))) (now (units .entry)) ⌝ }
+    ensures { λ r. ⌜ UnitsRead (λ room. read stream room (now («data» .entry))) r (unitsLent out ends bytes units) ⌝ }
 {
     match container::stream::split_obu_stream(data, out, ends) {
         Split::Refused(k) => k,

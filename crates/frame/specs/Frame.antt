@@ -23,9 +23,6 @@ use Rattle.frame.specs.declared.frame_header.FrameAnswer.the-variants.{H
 abbrev pub keyFrame : ℕ
 keyFrame = 0
 
-abbrev pub interFrame : ℕ
-interFrame = 1
-
 abbrev pub intraOnlyFrame : ℕ
 intraOnlyFrame = 2
 

@@ -4,8 +4,6 @@ pub mod sections;
 
 pub const KEY_FRAME: u64 = 0;
 
-pub const INTER_FRAME: u64 = 1;
-
 pub const INTRA_ONLY_FRAME: u64 = 2;
 
 pub const SWITCH_FRAME: u64 = 3;

@@ -2,7 +2,7 @@
 
 pub struct Answer {
     // document 01's number, 0 for no refusal
-    pub refusal: u64,
+    pub refusal: u32,
     pub bytes: usize,
     // parts of the bytes; one more, with no end here, may lie behind them
     pub ends: usize,
@@ -28,7 +28,7 @@ pub fn done() -> Answer {
 
 pub fn refused(number: u32) -> Answer {
     let mut answer = done();
-    answer.refusal = number as u64;
+    answer.refusal = number;
     answer
 }
 

@@ -175,7 +175,7 @@ fn format_of(answer: Answer, format: Format) -> Format {
 
 fn put_head(answer: Answer, out: &mut Buffer, at: usize) -> usize {
     if answer.refusal > 0 {
-        return put_value(REFUSED, answer.refusal, out, at);
+        return put_value(REFUSED, answer.refusal as u64, out, at);
     }
     put_text(out, at, b"ok")
 }
