@@ -32,11 +32,8 @@ use Rattle.pictures.specs.declared.settings.Settings.{Settings}
 use Rattle.pictures.specs.Assemble.{Outcome, stopped, made, andAlso, inSegment, sameHeaders, headerObu, prepareAll, pictureOf}
 use Rattle.pictures.specs.Sizes.{sized, ranged}
 use Rattle.pictures.specs.Code.{allSegments, laterSegments, firstSequence, renewing, orElse, allPrepared, capped, measured}
-use Rattle.pictures.specs.Says.{headerFound}
 use Rattle.assemble.specs.Stages.{Going, going, WasRead, fromPictures, fromTiming, fromHeader, fromKey, checked, planned, headerIn, planSays, noPlan}
 use Rattle.pictures.specs.Rewrite.{obuIn}
-use Rattle.pictures.specs.declared.headers.FoundObu.{FoundObu}
-use Rattle.pictures.specs.declared.headers.FoundObu.the-variants.{Found}
 use Rattle.assemble.specs.declared.plan.Basis.{Basis}
 use Rattle.assemble.specs.declared.plan.Planned.{Planned}
 use Rattle.assemble.specs.declared.plan.Planned.the-variants.{Refused, RefusedIn}
@@ -191,9 +188,9 @@ found-type u o e = go (obus u) (sym e)
     go (refused k) e = let z : _≡_ {A = ℕ} 0 1 = cc in absurd (omega arith)
     go (accepted os) e = first-sequence os o e
 
--- where it was found, in a unit that is another's
-pub found-at : (u v : List ℕ) (r : FoundObu) (o : CodeObu) → r ≡ Found o → headerFound u r ≡ firstSequence u → u ≡ v → accepted (obuIn v o) ≡ firstSequence v
-found-at u v r o e f i = ap (λ (l : List ℕ). accepted (obuIn l o)) (sym i) ∙ sym (ap (headerFound u) e) ∙ f ∙ ap firstSequence i
+-- found in a unit that is another's
+pub found-at : (u v : List ℕ) (o : CodeObu) → accepted (obuIn u o) ≡ firstSequence u → u ≡ v → accepted (obuIn v o) ≡ firstSequence v
+found-at u v o f i = ap (λ (l : List ℕ). accepted (obuIn l o)) (sym i) ∙ f ∙ ap firstSequence i
 
 -- ---- the header that goes out
 

@@ -25,9 +25,10 @@ use header::seq_header::read_points::no_point;
 use header::seq_header::timing::with_timing_info_rate;
 use obu::reader::Extension;
 use obu::reader::Obu;
+use obu::reader::ObuAt;
 use obu::reader::payload;
-use pictures::headers::FoundObu;
-use pictures::headers::first_sequence;
+use obu::unit::Kind;
+use obu::unit::find_obu;
 use pictures::headers::same_headers;
 use pictures::pictures::Measured;
 use pictures::pictures::measure_pictures;
@@ -210,9 +211,10 @@ pub(crate) fn plan_multi(picture: &[u8], segments: &[u64], settings: Settings) -
     match check_input(picture, segments, settings.gop) {
         Checked::Refused(k) => no_plan(Planned::Refused(k)),
         Checked::RefusedIn(k, i) => no_plan(Planned::RefusedIn(k, i)),
-        Checked::Fit => match first_sequence(key_of(picture, segments, 0)) {
-            FoundObu::Refused(k) => no_plan(Planned::RefusedIn(k, 0)),
-            FoundObu::Found(obu) => plan_header(picture, segments, obu, settings),
+        Checked::Fit => match find_obu(key_of(picture, segments, 0), Kind::SequenceHeader, false) {
+            ObuAt::Found(obu) => plan_header(picture, segments, obu, settings),
+            ObuAt::End => no_plan(Planned::RefusedIn(26, 0)),
+            ObuAt::Refused(k) => no_plan(Planned::RefusedIn(k, 0)),
         },
     }
 }

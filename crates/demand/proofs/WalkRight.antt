@@ -4,7 +4,7 @@ use native.Mathlib.Omega.{arith}
 use mathlib.Core.Path.{_≡_, sym, ap, subst, _∙_}
 use mathlib.Core.List.{List, List·Memᴰ}
 use mathlib.Core.Bool.{Bool, true, false, cond as pick, _&&_}
-use lib.ListN.{length, getD, take}
+use lib.ListN.{length, getD, take, drop}
 use lib.Dec.{leb}
 use denote.Triple.Both.{Both}
 use Rattle.bitio.specs.Parse.{Answer, refused, accepted}
@@ -19,7 +19,7 @@ use Rattle.pictures.specs.declared.settings.Settings.{Settings}
 use Rattle.pictures.specs.Assemble.{Outcome, made, overall, Output, Room as OutputRoom, assemble, unitsOf}
 use Rattle.assemble.specs.Whole.{Lent, outcome}
 use Rattle.player.proofs.StepLaws.{link}
-use Rattle.player.specs.Player.{State}
+use Rattle.player.specs.Player.{start}
 use Rattle.demand.specs.Premises.{Formed, InFields}
 use Rattle.demand.specs.Demand.{PlaysRight, ReadBack, Demand3}
 use Rattle.playback.specs.Lent.{roomOf}
@@ -31,7 +31,7 @@ use Rattle.playback.specs.declared.walk.Walked.{Walked}
 use Rattle.playback.specs.declared.walk.Walked.the-variants.{Positions}
 use Rattle.demand.proofs.AssembleLaws.{link-made}
 use Rattle.demand.proofs.Demand3.{demand3-formed}
-use Rattle.demand.proofs.Calls.{shown-count, shown-right}
+use Rattle.demand.proofs.Calls.{stateAt, shown-count, shown-right}
 
 picked : {A : Type 0} (t : Bool) (x y : A) (n : ℕ) → pick t (accepted x) (refused n) ≡ accepted y → x ≡ y
 picked true x y n e = cc
@@ -76,9 +76,9 @@ pub record WalksRight (set : Settings) (xs : List Segment) (x : Outcome Output) 
   pub is : x ≡ made output
   pub demanded : Demand3 set xs output
   pub count : List·Memᴰ cue (output .cues) → length ls ≡ total (framesOf xs) + 1 - cue
-  -- each position from a cue on shows what it has to, and that is its number
+  -- each position from a cue on shows what it has to, in the state that the plays before it leave, and that is its number
   pub right : List·Memᴰ cue (output .cues) → (p : ℕ) → cue ≤ p → p ≤ total (framesOf xs)
-      → (st : State) × (w : PlaysRight set (demanded .header) xs (unitsOf output) cue p st) × (getD ls (p - cue) 0 ≡ w .shown)
+      → (w : PlaysRight set (demanded .header) xs (unitsOf output) cue p (stateAt start cue (drop (cue - 1) (unitsOf output)) (p - cue))) × (getD ls (p - cue) 0 ≡ w .shown)
 
 module _ (c : Container) (room : OutputRoom) (set : Settings) (picture numbers : List ℕ) (xs : List Segment) (fields : InFields set) (segments : segmentsOf picture numbers ≡ accepted xs)
     (formed : Formed xs) (cue : ℕ) (d : PlayLent) (ls : List ℕ) where
@@ -95,8 +95,8 @@ module _ (c : Container) (room : OutputRoom) (set : Settings) (picture numbers :
         count = λ m. ap length (sym n) ∙ shown-count dem us w cue m;
         right = λ m p from to.
             let r = shown-right dem us w cue m p from to in
-            subst (λ (vs : List (List ℕ)). (st : State) × (w : PlaysRight set (dem .header) xs vs cue p st) × (getD ls (p - cue) 0 ≡ w .shown)) (dem .back us w)
-            (_, r .right, ap (λ (l : List ℕ). getD l (p - cue) 0) (sym n) ∙ r .number);
+            subst (λ (vs : List (List ℕ)). (w : PlaysRight set (dem .header) xs vs cue p (stateAt start cue (drop (cue - 1) vs) (p - cue))) × (getD ls (p - cue) 0 ≡ w .shown)) (dem .back us w)
+            (r .right, ap (λ (l : List ℕ). getD l (p - cue) 0) (sym n) ∙ r .number);
       })
 
 -- ---- by the contract of the code

@@ -20,6 +20,6 @@ unfoldable pub framePayload : Bool → List Obu → Answer (List ℕ)
 framePayload sole os =
     pick (eqb (count isFrame os) 0) (refused 28) (pick (sole && ltb 1 (count isFrame os)) (refused 39) (accepted (firstPayload isFrame os)))
 
--- its header under the sequence header q: 1 to 5; 28; 39; 14
+-- its header under the sequence header q: 1 to 5; 28; 39; 14, 17 to 19
 unfoldable pub unitFrame : Bool → Sequence → List ℕ → Answer FrameHeaderInfo
 unitFrame sole q u = andNext (obus u) (λ os. andNext (framePayload sole os) (λ f. parseFrame q f))

@@ -3,24 +3,15 @@ use Prim.Native.Nat.{ℕ}
 use mathlib.Core.List.{List}
 use mathlib.Core.Option.{some}
 use Rattle.bitio.specs.Parse.{Answer, refused, accepted}
-use Rattle.obu.specs.Obu.{Obu}
-use Rattle.obu.specs.Place.{part, extensionSays}
 use Rattle.pictures.specs.Assemble.{Outcome, stopped, made}
 use Rattle.pictures.specs.declared.frames.GoldenSlot.{GoldenSlot}
 use Rattle.pictures.specs.declared.frames.GoldenSlot.the-variants.{Lowest, Refused}
-use Rattle.pictures.specs.declared.headers.FoundObu.{FoundObu}
-use Rattle.pictures.specs.declared.headers.FoundObu.the-variants.{Found, Refused as NotFound}
 use Rattle.pictures.specs.declared.pictures.Measured.{Measured}
 use Rattle.pictures.specs.declared.pictures.Measured.the-variants.{Bytes, RefusedIn}
 
 abbrev pub slotSays : GoldenSlot → Answer ℕ
 slotSays (Lowest slot) = accepted slot
 slotSays (Refused k) = refused k
-
--- an OBU of the unit s
-abbrev pub headerFound : List ℕ → FoundObu → Answer Obu
-headerFound s (Found o) = accepted (record { type = o .«obu_type»; ext = extensionSays (o .extension); payload = part s (o .start) (o .end) })
-headerFound s (NotFound k) = refused k
 
 abbrev pub measuredSays : Measured → Outcome ℕ
 measuredSays (Bytes n) = made n

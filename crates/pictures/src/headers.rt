@@ -1,38 +1,17 @@
-// The list's sequence header: the first sequence payload of the first key, and the last one of every later key.
+// The sequence headers of later keys: the last of each is the list's.
 ghost use mathlib.Core.Path.{_≡_};
 ghost use Rattle.bitio.specs.Parse.{answer};
 ghost use Rattle.obu.specs.Unit.{countedSays};
 ghost use Rattle.pictures.specs.Assemble.{sameBytes, sameHeaders};
 ghost use Rattle.pictures.specs.Sizes.{checkedSays};
-ghost use Rattle.pictures.specs.Code.{firstSequence, laterSegments, countSame};
-ghost use Rattle.pictures.specs.Says.{headerFound};
+ghost use Rattle.pictures.specs.Code.{laterSegments, countSame};
 use crate::sizes::Checked;
 use blocks::numbers::key_of;
 use blocks::numbers::segment_count;
-use obu::reader::Obu;
-use obu::reader::ObuAt;
 use obu::unit::Counted;
 use obu::unit::Kind;
 use obu::unit::count_obus;
-use obu::unit::find_obu;
 use obu::unit::last_payload;
-
-pub enum FoundObu {
-    Found(Obu),
-    // document 01's number
-    Refused(u32),
-}
-
-// Where the first sequence header OBU of a key stands: 1 to 5, 26.
-pub fn first_sequence(unit: &[u8]) -> FoundObu
-    ensures { λ r. ⌜ headerFound (now (unit .entry)) r ≡ firstSequence (now (unit .entry)) ⌝ }
-{
-    match find_obu(unit, Kind::SequenceHeader, false) {
-        ObuAt::Found(o) => FoundObu::Found(o),
-        ObuAt::End => FoundObu::Refused(26),
-        ObuAt::Refused(k) => FoundObu::Refused(k),
-    }
-}
 
 // Whether two strings of bytes are the same.
 fn same_bytes(a: &[u8], b: &[u8]) -> bool
