@@ -1,4 +1,4 @@
-# The gate and the programs. All need the Rattle kit (the command rt); the C program needs gcc.
+# The gate and the programs. All need the Rattle kit (the command rt); the tests from C need gcc and g++.
 .PHONY: test run check
 
 # The gate: from nothing, every proof, every must-fail edit, every program against its recorded output, then the C program

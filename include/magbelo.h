@@ -1,21 +1,38 @@
-/* Stream reading and assembly for a packaging host. Link with the archive that `rt staticlib capi` writes. */
+/*
+ * Stream reading and assembly for a packaging host. Link with the archive that `rt staticlib capi` writes.
+ *
+ * For both functions:
+ * - A length counts elements, not bytes: of `uint32_t *ends` it is how many ends there is room for. Pointers are
+ *   aligned as their type asks.
+ * - What is written may overlap no other argument. A pointer may be null where its length is 0; those to single numbers
+ *   never.
+ * - A refusal changes nothing. docs/REFUSALS.md has every number in plain words.
+ * - There is no state: calls from several threads are fine, each with memory of its own.
+ * - A call takes no memory but what is lent to it and its stack: some 40 KB for assembly, under 1 KB for reading a stream.
+ */
 #ifndef MAGBELO_H
 #define MAGBELO_H
 
 #include <stddef.h>
 #include <stdint.h>
 
+#ifdef __cplusplus
+extern "C" {
+#endif
+
 /*
  * Reads the units of an AV1 stream (low-overhead format).
  *
  * Returns 0 and writes the units' bytes, one unit behind the other, to `out`, the end of each unit to
  * `ends`, how many bytes that is to `*bytes` and how many units to `*units`; nothing behind them changes.
- * Or returns the number of a refusal, and changes nothing: 34 more than 4,000,000,000 bytes of input,
- * 1 forbidden bit, 2 type, 3 no extension byte, 4 size, 5 size past the end, 35 no room in `out` or `ends`, or more than
- * 4,000,000,000 bytes of units.
- *
- * Nothing that is written may overlap another argument. A pointer may be null where its length is 0, `bytes` and
- * `units` never.
+ * Or returns the number of a refusal:
+ *   34  more than 4,000,000,000 bytes of input
+ *    1  an OBU's forbidden bit is set
+ *    2  an OBU type from 9 to 14
+ *    3  an extension byte is missing
+ *    4  an OBU's size is no leb128 number
+ *    5  an OBU's size reaches past the end
+ *   35  no room in `out` or in `ends`, which of them cannot be told; or more than 4,000,000,000 bytes of units
  */
 uint32_t magbelo_split_obu_stream(const uint8_t *data, size_t data_len, uint8_t *out, size_t out_len,
                                   uint32_t *ends, size_t ends_len, size_t *bytes, size_t *units);
@@ -24,20 +41,43 @@ uint32_t magbelo_split_obu_stream(const uint8_t *data, size_t data_len, uint8_t 
  * Assembles segments into a unit list and a cue list.
  *
  * `segments` has five numbers for each segment: where its key unit starts and ends in `picture`, where its golden
- * unit does, and how many frames it has. Returns 0 and writes: to `list` an entry for each unit, segment * 4 + kind
- * (key 0, golden 1, show 2); to `cues` the units, counted from 1, at which playing can start; to `pictures` the key
- * and golden units by segment and to `ends` the end of each; to `shows` the show units, five bytes a segment; to
- * `header` the sequence header OBU. `*units`, `*cue_count`, `*picture_len` and `*header_len` say how many of each there
- * are (two ends and five show bytes a segment), `*golden_slot` the slot of the first segment. Nothing behind them changes.
+ * unit does, and how many frames it has; `segment_numbers` counts the numbers, five times the segments. Returns 0 and
+ * writes: to `list` an entry for each unit, four times its segment (from 0) plus its kind, 0 for a key, 1 for a golden, 2
+ * for a show unit; to `cues` the units, counted from 1, at which playing can start; to `pictures` the key and golden
+ * units by segment and to `ends` the end of each; to `shows` the show units, five bytes a segment; to `header` the
+ * sequence header OBU. `*units`, `*cue_count`, `*picture_len` and `*header_len` say how many of each there are,
+ * `*golden_slot` the slot of the first segment's golden. Nothing behind them changes.
  *
- * Or returns a refusal and changes nothing. Its low 32 bits are the number, the high ones the segment counted from 1,
- * or 0 where no segment is to blame: 34 more than 4,000,000,000 bytes of input; 36 a range that is not within
- * `picture`, or numbers that are no five a segment; 21 no segments; 22 gop_size under 2; 23 under 2 frames in all; 24 a segment without frames; 25 over
- * 5,000,000 frames; 1 to 5 a unit that does not read; 26 no sequence header; 14 to 20 one that does not read or is not
- * supported; 27 another one; 28 no frame; 29 not a shown key; 30 to 33 no golden; 35 no room, or more than 4,000,000,000 bytes.
+ * Room that is always enough, for n segments with f frames in all:
+ *   list      f entries
+ *   cues      f / gop_size + n
+ *   ends      2 * n
+ *   shows     5 * n bytes
+ *   header    400 bytes where the first key's sequence header has no timing (it is replaced); else its own OBU's bytes + 8
+ *   pictures  picture_bytes + 410 for each sequence header OBU in a key or golden, and 8 for each other OBU there
+ *             (units are copied byte for byte where the sequence header has timing: then picture_bytes)
  *
- * Nothing that is written may overlap another argument. A pointer may be null where its length is 0; those of single
- * numbers never.
+ * Or returns a refusal. Its low 32 bits are the number, the high ones the segment counted from 1, or 0 where no segment
+ * is to blame:
+ *   34  more than 4,000,000,000 bytes of input
+ *   36  a range that is not within `picture`, or numbers that are no five a segment
+ *   21  no segments
+ *   22  gop_size under 2
+ *   23  under 2 frames in all
+ *   24  a segment without frames
+ *   25  over 5,000,000 frames in all
+ *    1 to 5  a unit that does not read, as above
+ *   26  the first key has no sequence header
+ *   14, 15, 16  it does not read: bits run out, the profile, a uvlc number
+ *   17, 18, 19, 20  it is not supported: reduced still picture, frame ids, a model with unequal intervals, film grain
+ *   27  a later key has another one, or none
+ *   28  a unit without a frame
+ *   29  a key that is no shown key frame
+ *   30  a golden that only shows a frame again
+ *   31  a golden that is not shown
+ *   32  a golden that is a key frame
+ *   33  a golden that is stored in no slot
+ *   35  no room, in which slice cannot be told; or more than 4,000,000,000 bytes handed out
  */
 uint64_t magbelo_assemble(const uint8_t *picture, size_t picture_bytes, const uint64_t *segments, size_t segment_numbers,
                           uint64_t gop_size, uint32_t fps, uint32_t fps_den, uint32_t *list, size_t list_len,
@@ -45,5 +85,9 @@ uint64_t magbelo_assemble(const uint8_t *picture, size_t picture_bytes, const ui
                           size_t ends_len, uint8_t *shows, size_t shows_len, uint8_t *header, size_t header_room,
                           size_t *units, size_t *cue_count, size_t *picture_len, size_t *header_len,
                           uint64_t *golden_slot);
+
+#ifdef __cplusplus
+}
+#endif
 
 #endif

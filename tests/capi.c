@@ -121,6 +121,19 @@ static void run_assemble(const struct assemble_case *c) {
     failures += !good;
 }
 
+// Nothing given and nothing lent: the pointers are null. An empty stream has no units; no segments are 21.
+static void run_nulls(void) {
+    size_t bytes = 77, units = 88, cues = 77, pictures = 77, header = 77;
+    uint64_t slot = 77;
+    int good = !magbelo_split_obu_stream(NULL, 0, NULL, 0, NULL, 0, &bytes, &units) && !bytes && !units;
+    units = 77;
+    good = good && magbelo_assemble(NULL, 0, NULL, 0, 3, 25, 1, NULL, 0, NULL, 0, NULL, 0, NULL, 0, NULL, 0, NULL, 0, &units,
+                                    &cues, &pictures, &header, &slot) == 21;
+    good = good && units == 77 && cues == 77 && pictures == 77 && header == 77 && slot == 77;
+    printf("null pointers: %s\n", good ? "ok" : "FAILED");
+    failures += !good;
+}
+
 int main(void) {
     static const struct assemble_case orders[] = {
         {"the listing, room to spare", &listing, 3, {4, 1}, 44, 16, 16, 128, 16, 32, 64, 0},
@@ -159,7 +172,8 @@ int main(void) {
     };
     for (size_t i = 0; i < sizeof cases / sizeof *cases; i++) run(&cases[i]);
     for (size_t i = 0; i < sizeof orders / sizeof *orders; i++) run_assemble(&orders[i]);
-    size_t all = sizeof cases / sizeof *cases + sizeof orders / sizeof *orders;
+    run_nulls();
+    size_t all = sizeof cases / sizeof *cases + sizeof orders / sizeof *orders + 1;
     printf("%zu passed, %d failed\n", all - (size_t)failures, failures);
     return failures != 0;
 }
