@@ -1,5 +1,5 @@
 # The gate and the programs. All need the Rattle kit (the command rt); the tests from C need gcc and g++.
-.PHONY: test run check
+.PHONY: test run check channel
 
 # The gate: from nothing, every proof, every must-fail edit, every program against its recorded output, then the C program
 # against the exported functions and boardplay's text.
@@ -14,3 +14,8 @@ check:
 run:
 	rt check boardlist
 	@target/bin/boardlist <crates/boardlist/stdin
+
+# A channel from files, in C over the exported functions: target/channel (examples/channel.c says how to call it).
+channel:
+	rt staticlib capi
+	gcc -std=c11 -Wall -Wextra -Werror -O2 -o target/channel examples/channel.c target/staticlib/libcapi.a
