@@ -54,8 +54,9 @@ uint32_t magbelo_split_obu_stream(const uint8_t *data, size_t data_len, uint8_t 
  *   ends      2 * n
  *   shows     5 * n bytes
  *   header    400 bytes where the first key's sequence header has no timing (it is replaced); else its own OBU's bytes + 8
- *   pictures  picture_bytes + 410 for each sequence header OBU in a key or golden, and 8 for each other OBU there
- *             (units are copied byte for byte where the sequence header has timing: then picture_bytes)
+ *   pictures  the lengths of all keys and goldens added up, which ranges that overlap make more than picture_bytes. Where
+ *             the sequence header has timing that is all; else 410 more for each of their sequence header OBUs and 8 for
+ *             each other OBU
  *
  * Or returns a refusal. Its low 32 bits are the number, the high ones the segment counted from 1, or 0 where no segment
  * is to blame:
