@@ -8,7 +8,7 @@ use mathlib.Core.Bool.{Bool, true, false, cond as pick, _&&_}
 use lib.ListN.{length, getD, take, drop, length-drop, drop-of-length-le}
 use lib.Seq.{drop-cons, drop-drop}
 use lib.Dec.{leb, eqb}
-use borrow.Author.Tests.{le-leb, lt-leb, leb-true, leb-false, ne-eqb, eqb-true, eqb-false}
+use borrow.Author.Tests.{le-leb, lt-leb, leb-true, leb-false}
 use Rattle.bitio.specs.Parse.{Answer, refused, accepted, onto}
 use Rattle.container.specs.Units.{unitsFrom, unitsAt}
 use Rattle.annexb.specs.Spans.{span}
@@ -88,26 +88,6 @@ module _ (s es : List ℕ) {at i : ℕ} {front : List (List ℕ)} (c : Cut s es 
     unfolding unitsFrom
     last = rw (drop-of-length-le es l, length-drop)
 
-    pub cut-end : at ≡ length s → unitsAt s es ≡ accepted front
-    cut-end e =
-        let k : length s - at ≡ 0 = omega arith in
-        let e : tail ≡ accepted [] = last ∙ rw k in
-        c .whole ∙ ap (ahead front) e ∙ ap accepted (append-nil front)
-
-    pub cut-short : (at ≡ length s → ⊥) → unitsAt s es ≡ refused 36
-    cut-short n =
-        let k : length s - at ≡ 0 → ⊥ = λ z. n (omega (arith, c .low)) in
-        let e : tail ≡ refused 36 = last ∙ rw (ne-eqb (length s - at) 0 k) in
-        c .whole ∙ ap (ahead front) e
-
-    -- the last end decides
-    pub cut-last : eqb at (length s) ≡ accepts (unitsAt s es)
-    cut-last = go (eqb at (length s)) refl
-      where
-        go : (b : Bool) → eqb at (length s) ≡ b → b ≡ accepts (unitsAt s es)
-        go true e = rw (cut-end (eqb-true at (length s) e))
-        go false e = rw (cut-short (eqb-false at (length s) e))
-
     -- where the ends cut the bytes, nothing is left
     pub cut-done : accepts (unitsAt s es) ≡ true → unitsAt s es ≡ accepted front
     cut-done q = go (eqb (length s - at) 0) refl
@@ -120,26 +100,3 @@ module _ (s es : List ℕ) {at i : ℕ} {front : List (List ℕ)} (c : Cut s es 
 pub accepted-is : {A : Type 0} (x : Answer A) → accepts x ≡ true → (a : A) × (x ≡ accepted a)
 accepted-is {A} (refused k) q = absurd (not-accepted {A = A} {x = refused k} {k = k} refl q)
 accepted-is (accepted a) q = (a, refl)
-
--- what is not is refused with 36
-from-36 : (at : ℕ) (s es : List ℕ) (k : ℕ) → unitsFrom at s es ≡ refused k → k ≡ 36
-unfolding unitsFrom
-from-36 at s [] k e = go (eqb (length s) 0) e
-  where
-    go : (b : Bool) → _≡_ {A = Answer (List (List ℕ))} (pick b (accepted []) (refused 36)) (refused k) → k ≡ 36
-    go true e = let z : _≡_ {A = ℕ} 0 1 = cc in absurd (omega arith)
-    go false e = cc
-from-36 at s (x ∷ es) k e = go (leb at x && leb (x - at) (length s)) (unitsFrom x (drop (x - at) s) es) refl e (λ j q. from-36 x (drop (x - at) s) es j q)
-  where
-    go : (b : Bool) (y : Answer (List (List ℕ))) → unitsFrom x (drop (x - at) s) es ≡ y → pick b (onto (take (x - at) s) y) (refused 36) ≡ refused k
-        → ((j : ℕ) → unitsFrom x (drop (x - at) s) es ≡ refused j → j ≡ 36) → k ≡ 36
-    go false y p e ih = cc
-    go true (refused j) p e ih = let q : k ≡ j = cc in q ∙ ih j p
-    go true (accepted l) p e ih = let z : _≡_ {A = ℕ} 0 1 = cc in absurd (omega arith)
-
-pub refused-36 : (s es : List ℕ) → accepts (unitsAt s es) ≡ false → unitsAt s es ≡ refused 36
-refused-36 s es q = go (unitsAt s es) refl q
-  where
-    go : (x : Answer (List (List ℕ))) → unitsAt s es ≡ x → accepts x ≡ false → x ≡ refused 36
-    go (refused k) p q = ap refused (from-36 0 s es k p)
-    go (accepted l) p q = let z : _≡_ {A = ℕ} 0 1 = cc in absurd (omega arith)

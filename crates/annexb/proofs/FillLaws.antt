@@ -1,14 +1,14 @@
 -- Laws of the writing pass of Annex B: what each of its loops has written.
-use Prim.Native.Nat.{ℕ, suc, _+_, _≤_, _<_}
+use Prim.Native.Nat.{ℕ, _+_, _≤_, _<_}
 use native.Mathlib.Omega.{arith}
-use mathlib.Core.Path.{_≡_, refl, sym, ap, ap₂, _∙_}
+use mathlib.Core.Path.{_≡_, refl, sym, ap, _∙_}
 use mathlib.Core.List.{List, [], _∷_, _++_, map, flatMap, append-assoc, append-nil, map-append}
 use mathlib.Core.Option.{Option}
 use lib.ListN.{length, set, length-append, length-map, length-set}
 use Rattle.bitio.specs.Parse.{Answer, refused, accepted, answer, Head, stop, item, before, many}
 use Rattle.bitio.specs.Lent.{pasted}
 use Rattle.bitio.specs.Leb.{sized}
-use Rattle.bitio.proofs.LentLaws.{pasted-nil, pasted-one, pasted-more, pasted-length}
+use Rattle.bitio.proofs.LentLaws.{pasted-one, wrote-none, wrote-length, wrote-more}
 use Rattle.bitio.proofs.ParseLaws.{Shrinks}
 use Rattle.obu.specs.Obu.{Obu, obuBytes, unitBytes}
 use Rattle.obu.specs.Write.{obu}
@@ -17,27 +17,13 @@ use Rattle.container.specs.AnnexB.{lengthObu, frameUnit, temporalUnit}
 use Rattle.bitio.specs.Limits.{limit}
 use Rattle.container.specs.Units.{endsOf}
 use Rattle.annexb.specs.Spans.{span}
-use Rattle.annexb.specs.Fill.{Laid, held, Filling, Measured, Wrote}
+use Rattle.annexb.specs.Fill.{readOf, Filling, UnitsRoom, Filled}
+use Rattle.bitio.specs.Lent.{Wrote}
 use Rattle.container.proofs.StreamLaws.{bytes-flat}
 use Rattle.container.proofs.AnnexBLaws.{temporal-shrinks}
+use Rattle.container.proofs.ListLaws.{ends-length, ends-more}
 use Rattle.annexb.proofs.SpanLaws.{span-all, Passed, passed-start, passed-next, passed-end, passed-no-stop, passed-part}
 use Rattle.annexb.proofs.PartLaws.{IsPart, IsObuAt}
-
--- ---- bytes put into lent memory, one behind the other
-
-pub laid-start : (d : List ℕ) (w : ℕ) → Laid d w [] d w
-laid-start d w = record { next = omega arith; out = sym (pasted-nil d w) }
-
-module _ {d : List ℕ} {w₀ : ℕ} {bs d′ : List ℕ} {w : ℕ} (l : Laid d w₀ bs d′ w) where
-  pub laid-next : w₀ ≤ length d → {xs d″ : List ℕ} {w″ : ℕ} → Laid d′ w xs d″ w″ → Laid d w₀ (bs ++ xs) d″ w″
-  laid-next h {xs} m =
-      record {
-        next = omega (arith, m .next, l .next, length-append bs xs);
-        out = m .out ∙ ap₂ (λ (y : List ℕ) (n : ℕ). pasted y n xs) (l .out) (l .next) ∙ pasted-more d w₀ bs h xs;
-      }
-
-  pub laid-length : w₀ + length bs ≤ length d → length d′ ≡ length d
-  laid-length h = ap length (l .out) ∙ pasted-length d w₀ bs h
 
 -- ---- one thing after another
 
@@ -54,7 +40,7 @@ flatMap-more f a x = flatMap-append f a (x ∷ []) ∙ ap (λ l. flatMap f a ++ 
 pub record Walk {A : Type 0} (h : List ℕ → Head A) (put : A → List ℕ) (s : List ℕ) (a e : ℕ) (d : List ℕ) (w₀ at : ℕ) (d′ : List ℕ) (w : ℕ) : Type 0 where
   pub done : List A
   pub passed : Passed h s a e at done
-  pub laid : Laid d w₀ (flatMap put done) d′ w
+  pub laid : Wrote d w₀ (flatMap put done) w d′
   pub kept : length d′ ≡ length d
 
 -- all things from a to e are read, and have room
@@ -66,7 +52,7 @@ pub record Whole {A : Type 0} (h : List ℕ → Head A) (put : A → List ℕ) (
 module _ {A : Type 0} (h : List ℕ → Head A) (put : A → List ℕ) (shrinks : Shrinks h) (s : List ℕ) (a e : ℕ) (d : List ℕ) (w₀ : ℕ) where
   pub walk-start : a ≤ e → Walk h put s a e d w₀ a d w₀
   unfolding flatMap
-  walk-start l = record { done = []; passed = passed-start h shrinks s a e l; laid = laid-start d w₀; kept = refl }
+  walk-start l = record { done = []; passed = passed-start h shrinks s a e l; laid = wrote-none d w₀; kept = refl }
 
   module _ (x : Whole h put s a e d w₀) {at : ℕ} {d′ : List ℕ} {w : ℕ} (k : Walk h put s a e d w₀ at d′ w) where
     -- what is read next is within all, and has room
@@ -80,13 +66,13 @@ module _ {A : Type 0} (h : List ℕ → Head A) (put : A → List ℕ) (shrinks 
     pub walk-room : {y : A} {r : List ℕ} → h (span s at e) ≡ item y r → w + length (put y) ≤ length d′
     walk-room i = omega (arith, walk-within i .0, k .kept, x .room)
 
-    pub walk-next : {y : A} {b : ℕ} → h (span s at e) ≡ item y (span s b e) → b ≤ e → {d″ : List ℕ} {w″ : ℕ} → Laid d′ w (put y) d″ w″ → Walk h put s a e d w₀ b d″ w″
+    pub walk-next : {y : A} {b : ℕ} → h (span s at e) ≡ item y (span s b e) → b ≤ e → {d″ : List ℕ} {w″ : ℕ} → Wrote d′ w (put y) w″ d″ → Walk h put s a e d w₀ b d″ w″
     walk-next {y} {b} i l {d″} {w″} m =
         record {
           done = k .done ++ (y ∷ []);
           passed = passed-next h shrinks s a e (k .passed) i l;
-          laid = rw (flatMap-more put (k .done) y) (laid-next (k .laid) (omega (arith, x .room)) m);
-          kept = laid-length m (walk-room i) ∙ k .kept;
+          laid = rw (flatMap-more put (k .done) y) (wrote-more (k .laid) (omega (arith, x .room)) m);
+          kept = wrote-length m (walk-room i) ∙ k .kept;
         }
 
     -- what stands next is read further, and is not refused
@@ -97,7 +83,7 @@ module _ {A : Type 0} (h : List ℕ → Head A) (put : A → List ℕ) (shrinks 
     pub walk-stop : at < e → e ≤ length s → (j : ℕ) → h (span s at e) ≡ stop j → ⊥
     walk-stop l m j q = passed-no-stop h shrinks s a e (k .passed) l m (x .all) (x .reads) j q
 
-    pub walk-end : e ≤ at → Laid d w₀ (flatMap put (x .all)) d′ w
+    pub walk-end : e ≤ at → Wrote d w₀ (flatMap put (x .all)) w d′
     walk-end l =
         let z = passed-end h shrinks s a e (k .passed) l in
         let r = x .reads in
@@ -136,10 +122,10 @@ flat-units [] = refl
 flat-units (u ∷ us) = ap (λ l. unitBytes u ++ l) (flat-units us)
 
 -- OBUs that are held are those that are read
-pub held-is : {d : List ℕ} {w : ℕ} {x : Answer (List Obu)} {os : List Obu} {d′ : List ℕ} {w′ : ℕ} → x ≡ accepted os → Laid d w (unitBytes (held x)) d′ w′ → Laid d w (unitBytes os) d′ w′
+pub held-is : {d : List ℕ} {w : ℕ} {x : Answer (List Obu)} {os : List Obu} {d′ : List ℕ} {w′ : ℕ} → x ≡ accepted os → Wrote d w (unitBytes (readOf x)) w′ d′ → Wrote d w (unitBytes os) w′ d′
 held-is q l = rw q at l
 
-is-held : {d : List ℕ} {w : ℕ} {x : Answer (List Obu)} {os : List Obu} {d′ : List ℕ} {w′ : ℕ} → x ≡ accepted os → Laid d w (unitBytes os) d′ w′ → Laid d w (unitBytes (held x)) d′ w′
+is-held : {d : List ℕ} {w : ℕ} {x : Answer (List Obu)} {os : List Obu} {d′ : List ℕ} {w′ : ℕ} → x ≡ accepted os → Wrote d w (unitBytes os) w′ d′ → Wrote d w (unitBytes (readOf x)) w′ d′
 is-held q l = rw q l
 
 module _ (s : List ℕ) (a e : ℕ) (d : List ℕ) (w : ℕ) where
@@ -158,34 +144,22 @@ module _ (s : List ℕ) (a e : ℕ) (d : List ℕ) (w : ℕ) where
           record { all = fs; reads = q; room = rw n (f .room) }
 
   -- the whole frame unit, the whole unit
-  pub frame-held : (x : Whole lengthObu obuBytes s a e d w) {d′ : List ℕ} {w′ : ℕ} → Laid d w (flatMap obuBytes (x .all)) d′ w′ → Laid d w (unitBytes (held (many lengthObu (span s a e)))) d′ w′
+  pub frame-held : (x : Whole lengthObu obuBytes s a e d w) {d′ : List ℕ} {w′ : ℕ} → Wrote d w (flatMap obuBytes (x .all)) w′ d′ → Wrote d w (unitBytes (readOf (many lengthObu (span s a e)))) w′ d′
   unfolding unitBytes
   frame-held x l = is-held (x .reads) l
 
-  pub unit-held : (x : Whole frameUnit unitBytes s a e d w) {d′ : List ℕ} {w′ : ℕ} → Laid d w (flatMap unitBytes (x .all)) d′ w′ → Laid d w (unitBytes (held (answer flat (many frameUnit (span s a e))))) d′ w′
+  pub unit-held : (x : Whole frameUnit unitBytes s a e d w) {d′ : List ℕ} {w′ : ℕ} → Wrote d w (flatMap unitBytes (x .all)) w′ d′ → Wrote d w (unitBytes (readOf (answer flat (many frameUnit (span s a e))))) w′ d′
   unit-held x l = is-held (ap (answer flat) (x .reads)) (rw (flat-units (x .all) ∙ bytes-flat (x .all)) at l)
 
 -- ---- the ends of units
 
-ends-length : (a : ℕ) (us : List (List ℕ)) → length (endsOf a us) ≡ length us
-unfolding endsOf
-ends-length a [] = refl
-ends-length a (u ∷ us) = ap suc (ends-length (a + length u) us)
-
-ends-more : (a : ℕ) (us : List (List ℕ)) (u : List ℕ) → endsOf a (us ++ (u ∷ [])) ≡ endsOf a us ++ ((a + length (streamBytes us) + length u) ∷ [])
-unfolding endsOf streamBytes flat
-ends-more a [] u = let k : a + 0 + length u ≡ a + length u = omega arith in rw k
-ends-more a (v ∷ us) u =
-    let k : a + length (v ++ flat us) + length u ≡ a + length v + length (flat us) + length u = omega (arith, length-append v (flat us)) in
-    rw k (ap (λ l. (a + length v) ∷ l) (ends-more (a + length v) us u))
-
 -- the units up to `at`, and their ends, are written
 pub record All (s d e : List ℕ) (at : ℕ) (d′ e′ : List ℕ) (w u : ℕ) : Type 0 where
   pub walk : Walk temporalUnit unitBytes s 0 (length s) d 0 at d′ w
-  pub marks : Laid e 0 (endsOf 0 (map unitBytes (walk .done))) e′ u
+  pub marks : Wrote e 0 (endsOf 0 (map unitBytes (walk .done))) u e′
   pub kept : length e′ ≡ length e
 
-pub whole-all : {s d e : List ℕ} → Measured s d e → Whole temporalUnit unitBytes s 0 (length s) d 0
+pub whole-all : {s d e : List ℕ} → UnitsRoom s d e → Whole temporalUnit unitBytes s 0 (length s) d 0
 whole-all {s} m =
     record {
       all = m .units;
@@ -195,9 +169,9 @@ whole-all {s} m =
 
 pub all-start : (s d e : List ℕ) → All s d e 0 d e 0 0
 unfolding endsOf walk-start
-all-start s d e = record { walk = walk-start temporalUnit unitBytes temporal-shrinks s 0 (length s) d 0 (omega arith); marks = laid-start e 0; kept = refl }
+all-start s d e = record { walk = walk-start temporalUnit unitBytes temporal-shrinks s 0 (length s) d 0 (omega arith); marks = wrote-none e 0; kept = refl }
 
-module _ {s d e : List ℕ} (m : Measured s d e) {at : ℕ} {d′ e′ : List ℕ} {w u : ℕ} (k : All s d e at d′ e′ w u) where
+module _ {s d e : List ℕ} (m : UnitsRoom s d e) {at : ℕ} {d′ e′ : List ℕ} {w u : ℕ} (k : All s d e at d′ e′ w u) where
   abbrev x : Whole temporalUnit unitBytes s 0 (length s) d 0
   x = whole-all m
 
@@ -217,7 +191,7 @@ module _ {s d e : List ℕ} (m : Measured s d e) {at : ℕ} {d′ e′ : List �
         let n = walk-within temporalUnit unitBytes temporal-shrinks s 0 (length s) d 0 x (k .walk) i .1 in
         omega (arith, count, m .slots, k .kept)
 
-    pub all-next : b ≤ length s → {d″ : List ℕ} {w″ : ℕ} → Laid d′ w (unitBytes os) d″ w″ → All s d e b d″ (set e′ u w″) w″ (u + 1)
+    pub all-next : b ≤ length s → {d″ : List ℕ} {w″ : ℕ} → Wrote d′ w (unitBytes os) w″ d″ → All s d e b d″ (set e′ u w″) w″ (u + 1)
     unfolding walk-next
     all-next l {d″} {w″} n =
         let done = k .walk .done in
@@ -227,11 +201,11 @@ module _ {s d e : List ℕ} (m : Measured s d e) {at : ℕ} {d′ e′ : List �
         ap (endsOf 0) (map-append unitBytes done (os ∷ [])) ∙ ends-more 0 us (unitBytes os) ∙ ap (λ j. endsOf 0 us ++ (j ∷ [])) (sym q) in
         record {
           walk = walk-next temporalUnit unitBytes temporal-shrinks s 0 (length s) d 0 x (k .walk) i l n;
-          marks = rw t (laid-next (k .marks) (omega arith) (record { next = refl; out = pasted-one e′ u w″ all-slot }));
+          marks = rw t (wrote-more (k .marks) (omega arith) (record { next = refl; out = pasted-one e′ u w″ all-slot }));
           kept = length-set e′ u w″ ∙ k .kept;
         }
 
-  pub all-end : length s ≤ at → Wrote s d e d′ e′
+  pub all-end : length s ≤ at → Filled s d e d′ e′
   unfolding whole-all
   all-end l =
       let z = passed-end temporalUnit temporal-shrinks s 0 (length s) (k .walk .passed) l in

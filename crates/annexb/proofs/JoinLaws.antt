@@ -3,7 +3,7 @@ use Prim.Native.Nat.{ℕ, _+_, _-_, _*_, _≤_, _<_}
 use native.Mathlib.Omega.{arith}
 use mathlib.Core.Path.{_≡_, refl, sym, ap, _∙_}
 use mathlib.Core.List.{List, [], _∷_, _++_, flatMap, append-assoc, append-nil}
-use mathlib.Core.Option.{Option, none, some}
+use mathlib.Core.Option.{Option}
 use mathlib.Core.Bool.{true}
 use lib.ListN.{length, getD, drop, length-append, length-drop}
 use lib.Seq.{take-all}
@@ -12,6 +12,7 @@ use borrow.Author.Tests.{lt-ltb}
 use Rattle.bitio.specs.Parse.{Answer, refused, accepted, answer, Head, stop, item, many}
 use Rattle.bitio.specs.Leb.{lebBytes, framed}
 use Rattle.bitio.proofs.LebLaws.{bytes-most}
+use Rattle.bitio.proofs.LentLaws.{wrote-none, wrote-more, wrote-length}
 use Rattle.obu.specs.Obu.{Obu, passes, extBytes, header, headObu, obusOf, obus}
 use Rattle.obu.specs.Place.{wrong, placeOf, obuPlace}
 use Rattle.obu.specs.Write.{obu}
@@ -21,12 +22,13 @@ use Rattle.container.specs.AnnexB.{innerBytes, annexbUnit, wrote, annexbBytes}
 use Rattle.bitio.specs.Limits.{limit}
 use Rattle.container.specs.Units.{unitsAt, countOf, outAfter}
 use Rattle.annexb.specs.Spans.{span}
-use Rattle.annexb.specs.Fill.{Laid, held}
+use Rattle.annexb.specs.Fill.{readOf}
+use Rattle.bitio.specs.Lent.{Wrote}
 use Rattle.container.specs.Lists.{accepts}
 use Rattle.annexb.specs.Join.{innerLength, framedLength, Putting, Writing}
 use Rattle.annexb.proofs.SpanLaws.{span-all, ahead, Passed, passed-start, passed-next, passed-stop, passed-end}
 use Rattle.annexb.proofs.MeasureLaws.{ext-few}
-use Rattle.annexb.proofs.FillLaws.{laid-start, laid-next, laid-length, flatMap-append, Whole}
+use Rattle.annexb.proofs.FillLaws.{flatMap-append, Whole}
 use Rattle.annexb.proofs.CutLaws.{Cut, cut-start, cut-next, cut-good, cut-part, cut-done, accepted-is}
 
 -- ---- lengths
@@ -212,7 +214,7 @@ counts-refused u {k} q = go (obus u) q
 
 module _ (s es : List ℕ) (a : accepts (unitsAt s es) ≡ true) {at i n : ℕ} (t : Totalling s es at i n) where
   abbrev all : Answer ℕ
-  all = countOf (annexbBytes (held (unitsAt s es)))
+  all = countOf (annexbBytes (readOf (unitsAt s es)))
 
   module _ (l : i < length es) where
     abbrev end : ℕ
@@ -251,27 +253,27 @@ module _ (s es : List ℕ) (a : accepts (unitsAt s es) ≡ true) {at i n : ℕ} 
 
 module _ {d : List ℕ} {w : ℕ} (l : w ≤ length d) {d₁ d₂ d₃ : List ℕ} {w₁ w₂ w₃ : ℕ} where
   -- the length, the header and the extension, the payload
-  pub inner-laid : (t : ℕ) (x : Option ℕ) (p : List ℕ) → Laid d w (lebBytes (innerLength x (length p))) d₁ w₁ → Laid d₁ w₁ (header 0 t x) d₂ w₂ → Laid d₂ w₂ p d₃ w₃
-      → Laid d w (innerBytes (obu t x p)) d₃ w₃
+  pub inner-laid : (t : ℕ) (x : Option ℕ) (p : List ℕ) → Wrote d w (lebBytes (innerLength x (length p))) w₁ d₁ → Wrote d₁ w₁ (header 0 t x) w₂ d₂ → Wrote d₂ w₂ p w₃ d₃
+      → Wrote d w (innerBytes (obu t x p)) w₃ d₃
   unfolding framed
   inner-laid t x p a b c =
       let n : innerLength x (length p) ≡ length (header 0 t x ++ p) = omega (arith, length-append (extBytes x) p) in
-      rw append-assoc at (laid-next (laid-next (rw n at a) l b) l c)
+      rw append-assoc at (wrote-more (wrote-more (rw n at a) l b) l c)
 
   -- the unit's size, the frame unit's size, the OBUs
-  pub unit-laid : (os : List Obu) → (let n = length (flatMap innerBytes os) in Laid d w (lebBytes (framedLength n)) d₁ w₁ → Laid d₁ w₁ (lebBytes n) d₂ w₂ → Laid d₂ w₂ (flatMap innerBytes os) d₃ w₃
-      → Laid d w (annexbUnit os) d₃ w₃)
+  pub unit-laid : (os : List Obu) → (let n = length (flatMap innerBytes os) in Wrote d w (lebBytes (framedLength n)) w₁ d₁ → Wrote d₁ w₁ (lebBytes n) w₂ d₂ → Wrote d₂ w₂ (flatMap innerBytes os) w₃ d₃
+      → Wrote d w (annexbUnit os) w₃ d₃)
   unfolding annexbUnit framed
   unit-laid os a b c =
       let x = flatMap innerBytes os in
       let n : framedLength (length x) ≡ length (lebBytes (length x) ++ x) = sym (length-append (lebBytes (length x)) x) in
-      rw append-assoc at (laid-next (laid-next (rw n at a) l b) l c)
+      rw append-assoc at (wrote-more (wrote-more (rw n at a) l b) l c)
 
 -- the OBUs of a unit, to be written one after another
 pub whole-obus : {u d : List ℕ} {w : ℕ} → Putting u (flatMap innerBytes) d w → Whole headObu innerBytes u 0 (length u) d w
 whole-obus {u} p = record { all = p .held; reads = sym (obus-are u) ∙ p .reads; room = p .room }
 
-pub obus-laid : {u d : List ℕ} {w : ℕ} (x : Whole headObu innerBytes u 0 (length u) d w) {d′ : List ℕ} {w′ : ℕ} → Laid d w (flatMap innerBytes (x .all)) d′ w′ → Laid d w (flatMap innerBytes (held (obus u))) d′ w′
+pub obus-laid : {u d : List ℕ} {w : ℕ} (x : Whole headObu innerBytes u 0 (length u) d w) {d′ : List ℕ} {w′ : ℕ} → Wrote d w (flatMap innerBytes (x .all)) w′ d′ → Wrote d w (flatMap innerBytes (readOf (obus u))) w′ d′
 obus-laid {u} x l = rw (obus-are u ∙ x .reads) l
 
 -- ---- writing units
@@ -281,12 +283,12 @@ pub record Putted (s es d : List ℕ) (at i : ℕ) (d′ : List ℕ) (w : ℕ) :
   pub cut : Cut s es at i done
   pub bytes : List ℕ
   pub made : annexbBytes done ≡ accepted bytes
-  pub laid : Laid d 0 bytes d′ w
+  pub laid : Wrote d 0 bytes w d′
   pub kept : length d′ ≡ length d
 
 pub putted-start : (s es d : List ℕ) → Putted s es d 0 0 d 0
 unfolding annexbBytes
-putted-start s es d = record { done = []; cut = cut-start s es; bytes = []; made = refl; laid = laid-start d 0; kept = refl }
+putted-start s es d = record { done = []; cut = cut-start s es; bytes = []; made = refl; laid = wrote-none d 0; kept = refl }
 
 module _ {s es d : List ℕ} (x : Writing s es d) {at i : ℕ} {d′ : List ℕ} {w : ℕ} (t : Putted s es d at i d′ w) where
   good : accepts (unitsAt s es) ≡ true
@@ -312,7 +314,7 @@ module _ {s es d : List ℕ} (x : Writing s es d) {at i : ℕ} {d′ : List ℕ}
         let n = ap length y ∙ length-append (t .bytes) (annexbUnit os ++ r) in
         record { held = os; reads = p; room = omega (arith, length-append (annexbUnit os) r, t .laid .next, t .kept, x .room) }
 
-    pub putted-next : {d″ : List ℕ} {w″ : ℕ} → Laid d′ w (annexbUnit (held (obus (span s at upto)))) d″ w″ → Putted s es d upto (i + 1) d″ w″
+    pub putted-next : {d″ : List ℕ} {w″ : ℕ} → Wrote d′ w (annexbUnit (readOf (obus (span s at upto)))) w″ d″ → Putted s es d upto (i + 1) d″ w″
     putted-next m =
         let g = putted-good in
         let u = putted-unit in
@@ -322,9 +324,9 @@ module _ {s es d : List ℕ} (x : Writing s es d) {at i : ℕ} {d′ : List ℕ}
           cut = cut-next s es (t .cut) l (g .0) (g .1);
           bytes = t .bytes ++ annexbUnit (u .held);
           made = bytes-more (t .done) (t .made) (span s at upto) (u .reads);
-          laid = laid-next (t .laid) (omega arith) k;
-          kept = laid-length k (u .room) ∙ t .kept;
+          laid = wrote-more (t .laid) (omega arith) k;
+          kept = wrote-length k (u .room) ∙ t .kept;
         }
 
-  pub putted-end : length es ≤ i → d′ ≡ outAfter (annexbBytes (held (unitsAt s es))) d
+  pub putted-end : length es ≤ i → d′ ≡ outAfter (annexbBytes (readOf (unitsAt s es))) d
   putted-end l = rw (cut-done s es (t .cut) l good, t .made) (t .laid .out)

@@ -6,4 +6,3 @@ pub mod SplitLaws
 pub mod CutLaws
 pub mod JoinLaws
 pub mod WriteLaws
-pub mod AnnexBShape

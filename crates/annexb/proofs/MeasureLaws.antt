@@ -2,7 +2,7 @@
 use Prim.Native.Nat.{ℕ, _+_, _-_, _*_, _^_, _≤_, _<_, min}
 use native.Mathlib.Omega.{arith}
 use mathlib.Core.Path.{_≡_, refl, sym, ap, _∙_}
-use mathlib.Core.List.{List, [], _∷_, _++_, map, flatMap, append-assoc, append-nil}
+use mathlib.Core.List.{List, [], _∷_, _++_, map, flatMap, append-nil}
 use mathlib.Core.Option.{Option, none, some}
 use mathlib.Core.Bool.{cond as pick}
 use lib.ListN.{length, length-append, length-map}
@@ -19,33 +19,23 @@ use Rattle.container.specs.AnnexB.{lengthObu, frameUnit, temporalUnit}
 use Rattle.bitio.specs.Limits.{limit}
 use Rattle.annexb.specs.Spans.{span}
 use Rattle.container.specs.Units.{sizesOf}
-use Rattle.container.proofs.StreamLaws.{bytes-flat}
+use Rattle.container.proofs.StreamLaws.{bytes-append, bytes-flat, flat-append}
 use Rattle.container.proofs.AnnexBLaws.{length-shrinks, frame-shrinks, temporal-shrinks}
 use Rattle.annexb.proofs.SpanLaws.{span-all, Passed, passed-start, passed-next, passed-end, passed-stop}
 use Rattle.annexb.proofs.PartLaws.{IsPart, IsObuAt}
 
 -- ---- bytes of what is behind, and one more
 
-pub unit-append : (a b : List Obu) → unitBytes (a ++ b) ≡ unitBytes a ++ unitBytes b
-unfolding unitBytes flatMap
-unit-append [] b = refl
-unit-append (o ∷ a) b = ap (λ l. obuBytes o ++ l) (unit-append a b) ∙ sym (append-assoc (obuBytes o) (unitBytes a) (unitBytes b))
-
 pub unit-more : (a : List Obu) (o : Obu) → unitBytes (a ++ (o ∷ [])) ≡ unitBytes a ++ obuBytes o
 unfolding unitBytes flatMap
-unit-more a o = unit-append a (o ∷ []) ∙ ap (λ l. unitBytes a ++ l) (append-nil (obuBytes o))
-
-pub flat-append : {A : Type 0} (a b : List (List A)) → flat (a ++ b) ≡ flat a ++ flat b
-unfolding flat
-flat-append [] b = refl
-flat-append (u ∷ a) b = ap (λ l. u ++ l) (flat-append a b) ∙ sym (append-assoc u (flat a) (flat b))
+unit-more a o = bytes-append a (o ∷ []) ∙ ap (λ l. unitBytes a ++ l) (append-nil (obuBytes o))
 
 pub flat-more : {A : Type 0} (a : List (List A)) (u : List A) → flat (a ++ (u ∷ [])) ≡ flat a ++ u
 unfolding flat
 flat-more a u = flat-append a (u ∷ []) ∙ ap (λ l. flat a ++ l) (append-nil u)
 
 pub flat-bytes : (a : List (List Obu)) (u : List Obu) → unitBytes (flat (a ++ (u ∷ []))) ≡ unitBytes (flat a) ++ unitBytes u
-flat-bytes a u = ap unitBytes (flat-more a u) ∙ unit-append (flat a) u
+flat-bytes a u = ap unitBytes (flat-more a u) ∙ bytes-append (flat a) u
 
 -- ---- how long an OBU gets
 
@@ -74,7 +64,7 @@ module _ {s : List ℕ} {at e t : ℕ} {x : Option ℕ} {a b : ℕ} (i : IsObuAt
 -- ---- what the loops have behind them
 
 -- the units up to `at` are read, with so many bytes
-pub record Units (s : List ℕ) (at bytes units : ℕ) : Type 0 where
+pub record UnitsDone (s : List ℕ) (at bytes units : ℕ) : Type 0 where
   pub done : List (List Obu)
   pub passed : Passed temporalUnit s 0 (length s) at done
   pub bytes-are : bytes ≡ length (unitBytes (flat done))
@@ -83,9 +73,9 @@ pub record Units (s : List ℕ) (at bytes units : ℕ) : Type 0 where
   pub fewer : units ≤ at
 
 -- of the unit at `at`, from start to end, the frame units up to p are read
-pub record Frames (s : List ℕ) (at start end p bytes units : ℕ) : Type 0 where
+pub record FramesDone (s : List ℕ) (at start end p bytes units : ℕ) : Type 0 where
   pub base : ℕ
-  pub behind : Units s at base units
+  pub behind : UnitsDone s at base units
   pub part : IsPart 6 7 s at (length s) start end
   pub done : List (List Obu)
   pub passed : Passed frameUnit s start end p done
@@ -95,7 +85,7 @@ pub record Frames (s : List ℕ) (at start end p bytes units : ℕ) : Type 0 whe
 -- of the frame unit at p, from first to last, the OBUs up to q are read
 pub record Obus (s : List ℕ) (at start end p first last q bytes units : ℕ) : Type 0 where
   pub base : ℕ
-  pub behind : Frames s at start end p base units
+  pub behind : FramesDone s at start end p base units
   pub part : IsPart 8 9 s p end first last
   pub done : List Obu
   pub passed : Passed lengthObu s first last q done
@@ -110,7 +100,7 @@ none-flat : {A : Type 0} → _≡_ {A = List A} (flat []) []
 unfolding flat
 none-flat = refl
 
-pub units-start : (s : List ℕ) → Units s 0 0 0
+pub units-start : (s : List ℕ) → UnitsDone s 0 0 0
 units-start s =
     record {
       done = [];
@@ -121,8 +111,8 @@ units-start s =
       fewer = omega arith;
     }
 
-module _ {s : List ℕ} {at bytes units : ℕ} (u : Units s at bytes units) where
-  pub frames-start : {start end : ℕ} → IsPart 6 7 s at (length s) start end → Frames s at start end start bytes units
+module _ {s : List ℕ} {at bytes units : ℕ} (u : UnitsDone s at bytes units) where
+  pub frames-start : {start end : ℕ} → IsPart 6 7 s at (length s) start end → FramesDone s at start end start bytes units
   frames-start {start} {end} i =
       record {
         base = bytes;
@@ -151,7 +141,7 @@ module _ {s : List ℕ} {at bytes units : ℕ} (u : Units s at bytes units) wher
       let b : length (map unitBytes (u .done)) ≡ units = length-map (u .done) unitBytes ∙ sym (u .units-are) in
       rw (units-end l, a, b)
 
-module _ {s : List ℕ} {at start end p bytes units : ℕ} (f : Frames s at start end p bytes units) where
+module _ {s : List ℕ} {at start end p bytes units : ℕ} (f : FramesDone s at start end p bytes units) where
   in-unit : at < length s
   in-unit = let i = f .part in omega (arith, i .after, i .ends, i .within)
 
@@ -182,7 +172,7 @@ module _ {s : List ℕ} {at start end p bytes units : ℕ} (f : Frames s at star
       }
 
   -- the whole unit is read
-  pub frames-end : end ≤ p → Units s end bytes (units + 1)
+  pub frames-end : end ≤ p → UnitsDone s end bytes (units + 1)
   frames-end l =
       let i = f .part in
       let u = f .behind in
@@ -229,7 +219,7 @@ module _ {s : List ℕ} {at start end p first last q bytes units : ℕ} (b : Obu
       }
 
   -- the whole frame unit is read
-  pub obus-end : last ≤ q → Frames s at start end last bytes units
+  pub obus-end : last ≤ q → FramesDone s at start end last bytes units
   obus-end l =
       let f = b .behind in
       let i = b .part in
@@ -247,7 +237,7 @@ module _ {s : List ℕ} {at start end p first last q bytes units : ℕ} (b : Obu
 
 -- how the loops are left: all units are read, or there is a fault
 pub data Left (s : List ℕ) (at bytes units fault : ℕ) : Type 0 where
-  ended : length s ≤ at → Units s at bytes units → Left s at bytes units fault
+  ended : length s ≤ at → UnitsDone s at bytes units → Left s at bytes units fault
   faulted : at < length s → many temporalUnit s ≡ refused fault → Left s at bytes units fault
 
 pub left-answer : {s : List ℕ} {at bytes units fault : ℕ} → Left s at bytes units fault

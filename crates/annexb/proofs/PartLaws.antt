@@ -15,7 +15,7 @@ use Rattle.bitio.proofs.LebLaws.{Sized, sized-parts}
 use Rattle.obu.specs.Obu.{Obu, flag, obuType, passes, made}
 use types.Run.{OneOf}
 use denote.Enum.Declared.{tagOf}
-use Rattle.obu.specs.Place.{Place, placed, refusalOf}
+use Rattle.obu.specs.Place.{Place, lies, refusalOf}
 use Rattle.obu.specs.Place.Place.{wrong as wrongObu}
 use Rattle.container.specs.AnnexB.{typed, extendedB, innerObu, lengthObu}
 use Rattle.annexb.specs.Spans.{span, wrong, spot, spotOf, placeTo, spotRefusal, partSays, innerSays}
@@ -90,15 +90,15 @@ filling e x = placeTo e (before [] x)
 module _ (s : List ℕ) (e : ℕ) (m : e ≤ length s) where
   -- all from p on is payload, if the type passes
   pub inner-typed : (h : ℕ) (x : Option ℕ) (p : ℕ) → p ≤ e
-      → pick (passes (obuType h)) (placed (obuType h) x p e) (wrongObu 2) ≡ filling e (typed h x (span s p e))
+      → pick (passes (obuType h)) (lies (obuType h) x p e) (wrongObu 2) ≡ filling e (typed h x (span s p e))
   inner-typed h x p l =
       let n = span-length s p e m in
       let k : e - 0 - (e - p) ≡ p = omega arith in
       let z : e - 0 ≡ e = omega arith in
       go (passes (obuType h)) (rw (n, k, z))
     where
-      go : (b : Bool) → placed (obuType h) x p e ≡ placeTo e (item (made h x (span s p e)) [])
-          → pick b (placed (obuType h) x p e) (wrongObu 2) ≡ filling e (pick b (accepted (made h x (span s p e))) (refused 2))
+      go : (b : Bool) → lies (obuType h) x p e ≡ placeTo e (item (made h x (span s p e)) [])
+          → pick b (lies (obuType h) x p e) (wrongObu 2) ≡ filling e (pick b (accepted (made h x (span s p e))) (refused 2))
       go true q = q
       go false q = refl
 
@@ -197,10 +197,10 @@ pub record IsObuAt (s : List ℕ) (at e t : ℕ) (x : Option ℕ) (a b : ℕ) : 
   pub passing : passes (obu .type) ≡ true
 
 module _ (s : List ℕ) (at e : ℕ) where
-  pub is-obu-at : at ≤ e → e ≤ length s → {t : ℕ} {x : Option ℕ} {a b : ℕ} → placeTo e (lengthObu (span s at e)) ≡ placed t x a b → IsObuAt s at e t x a b
+  pub is-obu-at : at ≤ e → e ≤ length s → {t : ℕ} {x : Option ℕ} {a b : ℕ} → placeTo e (lengthObu (span s at e)) ≡ lies t x a b → IsObuAt s at e t x a b
   is-obu-at l m {t} {x} {a} {b} q = go (lengthObu (span s at e)) refl (length-is (span s at e)) q
     where
-      go : (h : Head Obu) → lengthObu (span s at e) ≡ h → Lengthy (span s at e) h → placeTo e h ≡ placed t x a b → IsObuAt s at e t x a b
+      go : (h : Head Obu) → lengthObu (span s at e) ≡ h → Lengthy (span s at e) h → placeTo e h ≡ lies t x a b → IsObuAt s at e t x a b
       go (stop k) p z q = let z : _≡_ {A = ℕ} 0 1 = cc in absurd (omega arith)
       go (item o r) p z q =
           let et : o .type ≡ t = cc in

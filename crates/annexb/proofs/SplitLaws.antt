@@ -3,13 +3,14 @@ use Prim.Native.Nat.{ℕ, _≤_, _<_}
 use native.Mathlib.Omega.{arith}
 use mathlib.Core.Path.{_≡_, refl, sym, ap, _∙_}
 use mathlib.Core.List.{List, [], _∷_, map}
-use mathlib.Core.Bool.{Bool, true, false, cond as pick, _&&_}
+use mathlib.Core.Bool.{true, false, cond as pick, _&&_}
 use lib.ListN.{length, length-map}
 use lib.Dec.{leb}
 use borrow.Author.Tests.{le-leb, lt-leb, leb-true}
 use types.Run.{OneOf}
 use denote.Enum.Declared.{tagOf}
 use Rattle.bitio.specs.Parse.{Answer, refused, accepted, answer, many}
+use Rattle.bitio.proofs.ParseLaws.{and-both}
 use Rattle.obu.specs.Obu.{Obu, unitBytes}
 use Rattle.container.specs.Stream.{streamBytes}
 use Rattle.container.specs.AnnexB.{temporalUnit, annexbUnits}
@@ -17,7 +18,7 @@ use Rattle.bitio.specs.Limits.{limit}
 use Rattle.container.specs.Limits.{Room, fits, fitUnits}
 use Rattle.container.specs.Container.{annexb, read}
 use Rattle.container.specs.Units.{Sizes, sizesOf, bytesAfter, endsAfter, splitSays}
-use Rattle.annexb.specs.Fill.{Measured, Wrote}
+use Rattle.annexb.specs.Fill.{UnitsRoom, Filled}
 use Rattle.container.specs.declared.units.Split.{Split}
 use Rattle.container.specs.declared.units.Split.the-variants.{Units, Refused}
 use Rattle.container.proofs.units.Split.{the-type}
@@ -64,10 +65,6 @@ counted s {n} {u} q = go (many temporalUnit s) refl q
         let z : _≡_ {A = Sizes} (record { bytes = length (streamBytes (map unitBytes us)); units = length (map unitBytes us) }) (record { bytes = n; units = u }) = cc in
         record { units = us; reads = p; bytes-are = ap (λ (x : Sizes). x .bytes) z; units-are = sym (length-map us unitBytes) ∙ ap (λ (x : Sizes). x .units) z }
 
-pub and-true : (a b : Bool) → (a && b) ≡ true → (a ≡ true) × (b ≡ true)
-and-true true b q = (refl, q)
-and-true false b q = let z : _≡_ {A = ℕ} 0 1 = cc in absurd (omega arith)
-
 module _ (room : Room) (s : List ℕ) (l : length s ≤ limit) (some : 0 < length s) where
   read-found : read annexb room s ≡ fitUnits room (found s)
   unfolding read
@@ -93,10 +90,10 @@ module _ (room : Room) (s : List ℕ) (l : length s ≤ limit) (some : 0 < lengt
     read-whole q = read-fits ∙ rw q
 
 -- with room the units can be written
-pub measured : {s d e : List ℕ} {n u : ℕ} → Counted s n u → fits n u (record { bytes = length d; ends = length e }) ≡ true → Measured s d e
+pub measured : {s d e : List ℕ} {n u : ℕ} → Counted s n u → fits n u (record { bytes = length d; ends = length e }) ≡ true → UnitsRoom s d e
 measured {d = d} {e} {n} {u} c q =
-    let x = and-true (leb n limit) (leb n (length d) && leb u (length e)) q in
-    let y = and-true (leb n (length d)) (leb u (length e)) (x .1) in
+    let x = and-both (leb n limit) (leb n (length d) && leb u (length e)) q in
+    let y = and-both (leb n (length d)) (leb u (length e)) (x .1) in
     record {
       units = c .units;
       reads = c .reads;
@@ -106,7 +103,7 @@ measured {d = d} {e} {n} {u} c q =
     }
 
 -- what was written is what was read
-pub says-whole : (room : Room) {s d e d′ e′ : List ℕ} {a : Answer Sizes} → read annexb room s ≡ found s → a ≡ sizesOf (found s) → Wrote s d e d′ e′ → Says (read annexb room s) a d e d′ e′
+pub says-whole : (room : Room) {s d e d′ e′ : List ℕ} {a : Answer Sizes} → read annexb room s ≡ found s → a ≡ sizesOf (found s) → Filled s d e d′ e′ → Says (read annexb room s) a d e d′ e′
 says-whole room q m w = rw q (m, (w .out, w .ends))
 
 -- an answer without units is a refusal

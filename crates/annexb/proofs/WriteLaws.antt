@@ -14,15 +14,16 @@ use Rattle.container.specs.AnnexB.{annexbBytes}
 use Rattle.bitio.specs.Limits.{limit}
 use Rattle.container.specs.Limits.{Room, fits, fitBytes}
 use Rattle.container.specs.Container.{annexb, writeAt}
-use Rattle.container.specs.Units.{unitsAt, countOf, outAfter, joinedSays}
-use Rattle.annexb.specs.Fill.{held}
+use Rattle.container.specs.Units.{unitsAt, countOf, outAfter, byteCountSays}
+use Rattle.container.proofs.ListLaws.{units-refused}
+use Rattle.annexb.specs.Fill.{readOf}
 use Rattle.container.specs.Lists.{accepts}
 use Rattle.annexb.specs.Join.{Writing}
-use Rattle.container.specs.declared.units.Joined.{Joined}
-use Rattle.container.specs.declared.units.Joined.the-variants.{Bytes, Refused}
-use Rattle.container.proofs.units.Joined.{the-type}
-use Rattle.annexb.proofs.SplitLaws.{and-true}
-use Rattle.annexb.proofs.CutLaws.{accepted-is, refused-36}
+use Rattle.container.specs.declared.units.ByteCount.{ByteCount}
+use Rattle.container.specs.declared.units.ByteCount.the-variants.{Bytes, Refused}
+use Rattle.container.proofs.units.ByteCount.{the-type}
+use Rattle.bitio.proofs.ParseLaws.{and-both}
+use Rattle.annexb.proofs.CutLaws.{accepted-is}
 
 -- an answer's two parts, as a writer's two clauses ask them
 abbrev pub Writes : Answer (List ℕ) → Answer ℕ → (d d′ : List ℕ) → Type 0
@@ -36,7 +37,7 @@ pub writes-whole : {x y : Answer (List ℕ)} {a : Answer ℕ} (d : List ℕ) {d�
 writes-whole d q m w = (rw q m, rw q w)
 
 -- an answer without bytes is a refusal
-pub not-bytes : {x : Answer ℕ} (r : Joined) → OneOf (1 ∷ []) (tagOf the-type r) → joinedSays r ≡ x → (k : ℕ) × (joinedSays r ≡ refused k) × (x ≡ refused k)
+pub not-bytes : {x : Answer ℕ} (r : ByteCount) → OneOf (1 ∷ []) (tagOf the-type r) → byteCountSays r ≡ x → (k : ℕ) × (byteCountSays r ≡ refused k) × (x ≡ refused k)
 not-bytes (Bytes n) t q = absurd (omega arith)
 not-bytes (Refused k) t q = (k, refl, sym q)
 
@@ -48,11 +49,11 @@ module _ (room : Room) (s es : List ℕ) where
   module _ (l : length s ≤ limit) where
     pub write-bad : accepts (unitsAt s es) ≡ false → writeAt annexb room s es ≡ refused 36
     unfolding writeAt andNext
-    write-bad q = rw (le-leb (length s) limit l, refused-36 s es q)
+    write-bad q = rw (le-leb (length s) limit l, units-refused s es q)
 
     -- the units' bytes
     abbrev made : Answer (List ℕ)
-    made = annexbBytes (held (unitsAt s es))
+    made = annexbBytes (readOf (unitsAt s es))
 
     module _ (a : accepts (unitsAt s es) ≡ true) where
       write-made : writeAt annexb room s es ≡ fitBytes room made
@@ -81,7 +82,7 @@ module _ (room : Room) (s es : List ℕ) where
         write-whole f = write-fits ∙ rw f
 
 -- with room the units can be written
-pub writing : (s es d : List ℕ) → accepts (unitsAt s es) ≡ true → {n : ℕ} → countOf (annexbBytes (held (unitsAt s es))) ≡ accepted n
+pub writing : (s es d : List ℕ) → accepts (unitsAt s es) ≡ true → {n : ℕ} → countOf (annexbBytes (readOf (unitsAt s es))) ≡ accepted n
     → fits n 0 (record { bytes = length d; ends = 0 }) ≡ true → Writing s es d
 writing s es d a {n} q f = let (us, p) = accepted-is (unitsAt s es) a in go us p (annexbBytes us) refl (rw p at q)
   where
@@ -89,6 +90,6 @@ writing s es d a {n} q f = let (us, p) = accepted-is (unitsAt s es) a in go us p
     go us p (refused k) y q = let z : _≡_ {A = ℕ} 0 1 = cc in absurd (omega arith)
     go us p (accepted bs) y q =
         let z : length bs ≡ n = cc in
-        let b = and-true (leb n limit) (leb n (length d) && leb 0 0) f in
-        let c = and-true (leb n (length d)) (leb 0 0) (b .1) in
+        let b = and-both (leb n limit) (leb n (length d) && leb 0 0) f in
+        let c = and-both (leb n (length d)) (leb 0 0) (b .1) in
         record { units = us; cut = p; bytes = bs; made = y; room = omega (arith, leb-true n (length d) (c .0)) }

@@ -4,22 +4,16 @@ use mathlib.Core.Path.{_≡_}
 use mathlib.Core.List.{List, [], map}
 use lib.ListN.{length}
 use Rattle.bitio.specs.Parse.{Answer, refused, accepted, answer, many}
-use Rattle.bitio.specs.Lent.{pasted}
 use Rattle.obu.specs.Obu.{Obu, unitBytes}
 use Rattle.container.specs.Stream.{streamBytes}
 use Rattle.container.specs.AnnexB.{temporalUnit}
 use Rattle.bitio.specs.Limits.{limit}
 use Rattle.container.specs.Units.{bytesAfter, endsAfter}
 
--- d with bs at w₀ is d′, and w is the place behind them
-pub record Laid (d : List ℕ) (w₀ : ℕ) (bs d′ : List ℕ) (w : ℕ) : Type 0 where
-  pub next : w ≡ w₀ + length bs
-  pub out : d′ ≡ pasted d w₀ bs
-
 -- what was read, nothing where it is refused
-abbrev pub held : {A : Type 0} → Answer (List A) → List A
-held (refused k) = []
-held (accepted l) = l
+abbrev pub readOf : {A : Type 0} → Answer (List A) → List A
+readOf (refused k) = []
+readOf (accepted l) = l
 
 -- OBUs that are read, and have room in d at w in written form
 pub record Filling (x : Answer (List Obu)) (d : List ℕ) (w : ℕ) : Type 0 where
@@ -28,7 +22,7 @@ pub record Filling (x : Answer (List Obu)) (d : List ℕ) (w : ℕ) : Type 0 whe
   pub room : w + length (unitBytes obus) ≤ length d
 
 -- units that are read, and have room with their ends
-pub record Measured (s d e : List ℕ) : Type 0 where
+pub record UnitsRoom (s d e : List ℕ) : Type 0 where
   pub units : List (List Obu)
   pub reads : many temporalUnit s ≡ accepted units
   pub small : length (streamBytes (map unitBytes units)) ≤ limit
@@ -36,6 +30,6 @@ pub record Measured (s d e : List ℕ) : Type 0 where
   pub slots : length units ≤ length e
 
 -- d and e with the units and their ends
-pub record Wrote (s d e d′ e′ : List ℕ) : Type 0 where
+pub record Filled (s d e d′ e′ : List ℕ) : Type 0 where
   pub out : d′ ≡ bytesAfter (answer (map unitBytes) (many temporalUnit s)) d
   pub ends : e′ ≡ endsAfter (answer (map unitBytes) (many temporalUnit s)) e

@@ -4,7 +4,7 @@ use mathlib.Core.List.{List}
 use lib.ListN.{length, take, drop}
 use Rattle.bitio.specs.Parse.{Head, stop, item}
 use Rattle.obu.specs.Obu.{Obu}
-use Rattle.obu.specs.Place.{Place, placed, extensionSays}
+use Rattle.obu.specs.Place.{Place, lies, extensionSays}
 use Rattle.obu.specs.Place.Place.{wrong as wrongObu}
 use Rattle.annexb.specs.declared.annexb.part.PartAt.{PartAt}
 use Rattle.annexb.specs.declared.annexb.part.PartAt.the-variants.{Part, Refused as PartRefused}
@@ -27,7 +27,7 @@ spotOf e (item p r) = spot (e - length r - length p) (e - length r)
 
 abbrev pub placeTo : ℕ → Head Obu → Place
 placeTo e (stop k) = wrongObu k
-placeTo e (item o r) = placed (o .type) (o .ext) (e - length r - length (o .payload)) (e - length r)
+placeTo e (item o r) = lies (o .type) (o .ext) (e - length r - length (o .payload)) (e - length r)
 
 -- a refusal's number, 0 where there is none
 abbrev pub spotRefusal : Spot → ℕ
@@ -40,5 +40,5 @@ partSays (Part a b) = spot a b
 partSays (PartRefused k) = wrong k
 
 abbrev pub innerSays : InnerAt → Place
-innerSays (Found o) = placed (o .«obu_type») (extensionSays (o .extension)) (o .start) (o .end)
+innerSays (Found o) = lies (o .«obu_type») (extensionSays (o .extension)) (o .start) (o .end)
 innerSays (InnerRefused k) = wrongObu k

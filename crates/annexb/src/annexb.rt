@@ -2,11 +2,11 @@
 ghost use mathlib.Core.Path.{_≡_};
 ghost use lib.ListN.{length};
 ghost use Rattle.container.specs.Container.{annexb, read, writeAt};
-ghost use Rattle.container.specs.Units.{splitSays, sizesOf, bytesAfter, endsAfter, joinedSays, countOf, outAfter};
+ghost use Rattle.container.specs.Units.{splitSays, sizesOf, bytesAfter, endsAfter, byteCountSays, countOf, outAfter};
 use bitio::limits::LIMIT;
 use container::lists::check_ends;
 use container::room::has_room;
-use container::units::Joined;
+use container::units::ByteCount;
 use container::units::Split;
 
 mod count;
@@ -39,22 +39,22 @@ pub fn split_annexb(data: &[u8], out: &mut [u8], ends: &mut [u32]) -> Split
 }
 
 // Units, whose bytes and ends are given, as Annex B into out, each in one frame unit; a refusal changes nothing.
-pub fn write_annexb(units: &[u8], unit_ends: &[u32], out: &mut [u8]) -> Joined
-    ensures { λ r. ⌜ joinedSays r ≡ countOf (writeAt annexb (record { bytes = length (now (out .entry)); ends = 0 }) (now (units .entry)) (now («unit_ends» .entry))) ⌝ }
+pub fn write_annexb(units: &[u8], unit_ends: &[u32], out: &mut [u8]) -> ByteCount
+    ensures { λ r. ⌜ byteCountSays r ≡ countOf (writeAt annexb (record { bytes = length (now (out .entry)); ends = 0 }) (now (units .entry)) (now («unit_ends» .entry))) ⌝ }
     ensures { λ _. ⌜ now (out .exit) ≡ outAfter (writeAt annexb (record { bytes = length (now (out .entry)); ends = 0 }) (now (units .entry)) (now («unit_ends» .entry))) (now (out .entry)) ⌝ }
 {
     if units.len() > LIMIT {
-        return Joined::Refused(34);
+        return ByteCount::Refused(34);
     }
     if !check_ends(units, unit_ends) {
-        return Joined::Refused(36);
+        return ByteCount::Refused(36);
     }
     let found = count::count_units(units, unit_ends);
-    let Joined::Bytes(bytes) = found else {
+    let ByteCount::Bytes(bytes) = found else {
         return found;
     };
     if !has_room(bytes, 0, out.len(), 0) {
-        return Joined::Refused(35);
+        return ByteCount::Refused(35);
     }
     write::put_units(units, unit_ends, out);
     found

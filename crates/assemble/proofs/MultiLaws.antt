@@ -12,7 +12,7 @@ use Rattle.obu.specs.Obu.{passes, obuBytes}
 use Rattle.obu.specs.Place.{extensionSays}
 use Rattle.obu.specs.Write.{obuLength, obu}
 use Rattle.obu.proofs.LengthLaws.{obu-length}
-use Rattle.emittable.proofs.BackFields.{both}
+use Rattle.bitio.proofs.ParseLaws.{and-both}
 use Rattle.blocks.specs.Blocks.{layout, number, listOf, total}
 use Rattle.pictures.specs.Assemble.{Output, Room, fits}
 use Rattle.pictures.specs.Code.{capped}
@@ -109,12 +109,12 @@ pub record Roomy (room : Room) (o : Output) : Type 0 where
 pub fits-roomy : (room : Room) (o : Output) → fits room o ≡ true → Roomy room o
 unfolding fits
 fits-roomy room o g =
-    let (g, g7) = both _ _ g in
-    let (g, g6) = both _ _ g in
-    let (g, g5) = both _ _ g in
-    let (g, g4) = both _ _ g in
-    let (g, g3) = both _ _ g in
-    let (g1, g2) = both (leb (length (o .picture) + length (o .shows) + length (o .header)) limit) _ g in
+    let (g, g7) = and-both _ _ g in
+    let (g, g6) = and-both _ _ g in
+    let (g, g5) = and-both _ _ g in
+    let (g, g4) = and-both _ _ g in
+    let (g, g3) = and-both _ _ g in
+    let (g1, g2) = and-both (leb (length (o .picture) + length (o .shows) + length (o .header)) limit) _ g in
     record {
       bytes = leb-true _ _ g1;
       list = leb-true _ _ g2;

@@ -8,9 +8,9 @@ ghost use Rattle.bitio.specs.Lent.{lent};
 ghost use Rattle.container.specs.Units.{sizesOf, bytesAfter, endsAfter, countOf, outAfter};
 ghost use Rattle.container.specs.Container.{stream, annexb, read, writeAt};
 ghost use Rattle.packets.specs.Packets.{canonicalAt};
-ghost use Rattle.packets.specs.PacketLists.{bytesOf, roomOf, mergedAt, timesAfter};
+ghost use Rattle.packets.specs.PacketLists.{bytesOf, lentRoom, mergedAt, timesAfter};
 ghost use Rattle.bench.specs.Counts.{unitsOrNone, bytesOrNone};
-use container::units::Joined;
+use container::units::ByteCount;
 use container::units::Split;
 use packets::packets::Merged;
 
@@ -46,8 +46,8 @@ pub extern "C" fn bench_write_obu_stream(units: &[u8], unit_ends: &[u32], out: &
     ensures { λ _. ⌜ now (out .exit) ≡ outAfter (writeAt stream (record { bytes = length (now (out .entry)); ends = 0 }) (now (units .entry)) (now («unit_ends» .entry))) (now (out .entry)) ⌝ }
 {
     match container::stream::write_obu_stream(units, unit_ends, out) {
-        Joined::Refused(_) => 0,
-        Joined::Bytes(n) => n,
+        ByteCount::Refused(_) => 0,
+        ByteCount::Bytes(n) => n,
     }
 }
 
@@ -58,8 +58,8 @@ pub extern "C" fn bench_write_annexb(units: &[u8], unit_ends: &[u32], out: &mut 
     ensures { λ _. ⌜ now (out .exit) ≡ outAfter (writeAt annexb (record { bytes = length (now (out .entry)); ends = 0 }) (now (units .entry)) (now («unit_ends» .entry))) (now (out .entry)) ⌝ }
 {
     match annexb::annexb::write_annexb(units, unit_ends, out) {
-        Joined::Refused(_) => 0,
-        Joined::Bytes(n) => n,
+        ByteCount::Refused(_) => 0,
+        ByteCount::Bytes(n) => n,
     }
 }
 
@@ -73,10 +73,10 @@ pub extern "C" fn bench_merge_packets(
     out_ends: &mut [u32],
     out_times: &mut [u64],
 ) -> usize
-    ensures { λ r. ⌜ r ≡ unitsOrNone (sizesOf (answer bytesOf (mergedAt (roomOf (now (out .entry)) (now («out_ends» .entry)) (now («out_times» .entry))) (now (packets .entry)) (now («packet_ends» .entry)) (now (times .entry))))) ⌝ }
-    ensures { λ _. ⌜ now (out .exit) ≡ bytesAfter (answer bytesOf (mergedAt (roomOf (now (out .entry)) (now («out_ends» .entry)) (now («out_times» .entry))) (now (packets .entry)) (now («packet_ends» .entry)) (now (times .entry)))) (now (out .entry)) ⌝ }
-    ensures { λ _. ⌜ now («out_ends» .exit) ≡ endsAfter (answer bytesOf (mergedAt (roomOf (now (out .entry)) (now («out_ends» .entry)) (now («out_times» .entry))) (now (packets .entry)) (now («packet_ends» .entry)) (now (times .entry)))) (now («out_ends» .entry)) ⌝ }
-    ensures { λ _. ⌜ now («out_times» .exit) ≡ timesAfter (mergedAt (roomOf (now (out .entry)) (now («out_ends» .entry)) (now («out_times» .entry))) (now (packets .entry)) (now («packet_ends» .entry)) (now (times .entry))) (now («out_times» .entry)) ⌝ }
+    ensures { λ r. ⌜ r ≡ unitsOrNone (sizesOf (answer bytesOf (mergedAt (lentRoom (now (out .entry)) (now («out_ends» .entry)) (now («out_times» .entry))) (now (packets .entry)) (now («packet_ends» .entry)) (now (times .entry))))) ⌝ }
+    ensures { λ _. ⌜ now (out .exit) ≡ bytesAfter (answer bytesOf (mergedAt (lentRoom (now (out .entry)) (now («out_ends» .entry)) (now («out_times» .entry))) (now (packets .entry)) (now («packet_ends» .entry)) (now (times .entry)))) (now (out .entry)) ⌝ }
+    ensures { λ _. ⌜ now («out_ends» .exit) ≡ endsAfter (answer bytesOf (mergedAt (lentRoom (now (out .entry)) (now («out_ends» .entry)) (now («out_times» .entry))) (now (packets .entry)) (now («packet_ends» .entry)) (now (times .entry)))) (now («out_ends» .entry)) ⌝ }
+    ensures { λ _. ⌜ now («out_times» .exit) ≡ timesAfter (mergedAt (lentRoom (now (out .entry)) (now («out_ends» .entry)) (now («out_times» .entry))) (now (packets .entry)) (now («packet_ends» .entry)) (now (times .entry))) (now («out_times» .entry)) ⌝ }
 {
     match packets::packets::merge_frameless_packets(
         packets,
@@ -98,7 +98,7 @@ pub extern "C" fn bench_canonicalize_tu(unit: &[u8], out: &mut [u8]) -> usize
     ensures { λ _. ⌜ now (out .exit) ≡ outAfter (canonicalAt (record { bytes = length (now (out .entry)); ends = 0 }) (now (unit .entry))) (now (out .entry)) ⌝ }
 {
     match packets::packets::canonicalize_tu(unit, out) {
-        Joined::Refused(_) => 0,
-        Joined::Bytes(n) => n,
+        ByteCount::Refused(_) => 0,
+        ByteCount::Bytes(n) => n,
     }
 }

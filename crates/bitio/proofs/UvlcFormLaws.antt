@@ -27,12 +27,12 @@ halve-none zero x h = refl
 halve-none (suc k) x h = rw (lt-leb 2 x h)
 
 -- the highest bit of x stands at the place 2 ^ z
-pub record Place (x z : ℕ) : Type 0 where
+pub record HighestBit (x z : ℕ) : Type 0 where
   pub above : 2 ^ z ≤ x
   pub below : x < 2 ^ (z + 1)
 
 -- the halvings of x are the place of its highest bit
-halve-place : (k x : ℕ) → 1 ≤ x → x < 2 ^ suc k → Place x (halvings k x)
+halve-place : (k x : ℕ) → 1 ≤ x → x < 2 ^ suc k → HighestBit x (halvings k x)
 unfolding halvings
 halve-place zero x h l = record { above = h; below = l }
 halve-place (suc k) x h l =
@@ -86,7 +86,7 @@ halve-done {x} {y} {n} h r = omega (arith, r .same, halve-none (r .left) y h)
 -- ---- uvlc
 
 -- the zeros are as many as the place of the highest bit of v + 1
-pub uvlc-place : (v : ℕ) → v + 1 < 2 ^ 33 → Place (v + 1) (uvlcZeros v)
+pub uvlc-place : (v : ℕ) → v + 1 < 2 ^ 33 → HighestBit (v + 1) (uvlcZeros v)
 unfolding uvlcZeros
 uvlc-place v h = halve-place 32 (v + 1) (omega arith) h
 
@@ -116,7 +116,7 @@ unfolding bitsOf
 bits-one z = ap (λ l. l ++ (1 ∷ [])) (bits-zeros z)
 
 -- a number with its highest bit at z, in 2 z + 1 bits
-bits-form : (z x : ℕ) → Place x z → bitsOf (2 * z + 1) x ≡ replicate z 0 ++ (1 ∷ bitsOf z (x - 2 ^ z))
+bits-form : (z x : ℕ) → HighestBit x z → bitsOf (2 * z + 1) x ≡ replicate z 0 ++ (1 ∷ bitsOf z (x - 2 ^ z))
 bits-form z x h =
     let a = h .above in
     let b = h .below in

@@ -4,7 +4,7 @@ ghost use Prim.Native.Nat.{_+_, _/_, _%_, _^_, _≤_, _<_};
 ghost use lib.ListN.{length};
 ghost use Rattle.bitio.specs.Bits.{bitsIn};
 ghost use Rattle.bitio.specs.Write.{withBit, putBits, bitsPlaced, bitsLent, bitPutSays, halvings, uvlcWidth, trailingWidth, trailingBits, alignmentWidth};
-use crate::reader::within;
+use crate::reader::bits_within;
 
 // A bit position in lent memory: 0 is the most significant bit of byte 0.
 pub struct BitWriter {
@@ -72,7 +72,7 @@ impl BitWriter {
         ensures { λ _. ⌜ now (out .exit) ≡ bitsLent (now (out .entry)) (self .pos) v n ⌝ }
     {
         let pos = self.pos;
-        if !within(out.len(), pos, n) {
+        if !bits_within(out.len(), pos, n) {
             return BitPut::Full;
         }
         put_bits(out, pos, n, v);

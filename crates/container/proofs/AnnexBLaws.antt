@@ -1,21 +1,21 @@
--- Annex B gives back the units that were written to it.
-use Prim.Native.Nat.{ℕ, zero, suc, _+_, _*_, _^_, _≤_, _<_}
+-- Annex B gives back the units-back that were written to it.
+use Prim.Native.Nat.{ℕ, _+_, _*_, _^_, _<_}
 use native.Mathlib.Omega.{arith}
-use mathlib.Core.Path.{_≡_, refl, sym, ap, _∙_}
-use mathlib.Core.List.{List, [], _∷_, _++_, map, flatMap, append-assoc, append-nil}
+use mathlib.Core.Path.{_≡_, refl, _∙_}
+use mathlib.Core.List.{List, [], _∷_, _++_, map, flatMap, append-nil}
 use mathlib.Core.Option.{Option, none, some}
-use mathlib.Core.Bool.{Bool, true, false, cond as pick}
+use mathlib.Core.Bool.{true}
 use lib.ListN.{length, length-append}
-use Rattle.bitio.specs.Parse.{Answer, refused, accepted, answer, Head, stop, item, before, within, many, onto}
+use Rattle.bitio.specs.Parse.{Answer, refused, accepted, answer, Head, stop, item, before, within, many}
 use Rattle.bitio.specs.Every.{Every}
 use Rattle.bitio.proofs.ParseLaws.{Leaves, Shrinks, many-item, many-nil, many-all, Back}
 use Rattle.bitio.specs.Every.Every.{none as nothing, also}
 use Rattle.bitio.specs.Leb.{sized, framed}
 use Rattle.bitio.proofs.LebLaws.{sized-back, sized-shrinks, framed-length}
-use Rattle.obu.specs.Obu.{Obu, flag, obuType, passes, made, header, extFlag, extBytes, obus, unitBytes}
+use Rattle.obu.specs.Obu.{Obu, passes, header, unitBytes}
 use Rattle.obu.proofs.ObuLaws.{Allowed, passes-small, fields, obus-unit}
 use Rattle.container.specs.Stream.{flat}
-use Rattle.container.specs.AnnexB.{typed, extendedB, innerObu, lengthObu, frameUnit, temporalUnit, annexbUnits, innerBytes, annexbUnit, wrote, annexbBytes}
+use Rattle.container.specs.AnnexB.{innerObu, lengthObu, frameUnit, temporalUnit, annexbUnits, innerBytes, annexbUnit, annexbBytes}
 
 -- ---- a sized part that is read further
 
@@ -33,7 +33,7 @@ within-shrinks {B} a b f s = go (sized a b s) (sized-shrinks a b s)
 within-back : {B : Type 0} (a b : ℕ) (f : List ℕ → Answer B) (p r : List ℕ) (x : B) → length p < 2 ^ 56 → f p ≡ accepted x → within (sized a b (framed p ++ r)) f ≡ item x r
 within-back a b f p r x l e = rw (sized-back a b p r l, e)
 
--- ---- an OBU, a unit, all units
+-- ---- an OBU, a unit, all units-back
 
 inner : (t : ℕ) (e : Option ℕ) (p : List ℕ) → passes t ≡ true
     → innerObu (header 0 t e ++ p) ≡ accepted (record { type = t; ext = e; payload = p })
@@ -74,13 +74,13 @@ module _ (os : List Obu) (a : Every Allowed os) (l : length (annexbUnit os) < 2 
   abbrev obusB : List ℕ
   obusB = flatMap innerBytes os
 
-  sizes : (length obusB < 2 ^ 56) × (length (framed obusB) < 2 ^ 56)
+  short : (length obusB < 2 ^ 56) × (length (framed obusB) < 2 ^ 56)
   unfolding annexbUnit
-  sizes = (omega (arith, framed-length obusB, framed-length (framed obusB)), omega (arith, framed-length (framed obusB)))
+  short = (omega (arith, framed-length obusB, framed-length (framed obusB)), omega (arith, framed-length (framed obusB)))
 
   frame-back : frameUnit (framed obusB ++ []) ≡ item os []
   unfolding frameUnit
-  frame-back = within-back 8 9 (many lengthObu) obusB [] os (sizes .0) (many-all lengthObu innerBytes length-shrinks (every os a (sizes .0)))
+  frame-back = within-back 8 9 (many lengthObu) obusB [] os (short .0) (many-all lengthObu innerBytes length-shrinks (every os a (short .0)))
 
   frames-back : many frameUnit (framed obusB) ≡ accepted (os ∷ [])
   frames-back =
@@ -89,14 +89,14 @@ module _ (os : List Obu) (a : Every Allowed os) (l : length (annexbUnit os) < 2 
   -- a unit is read back, whatever stands behind it
   pub temporal-back : (r : List ℕ) → temporalUnit (annexbUnit os ++ r) ≡ item os r
   unfolding temporalUnit annexbUnit flat
-  temporal-back r = within-back 6 7 (λ p. answer flat (many frameUnit p)) (framed obusB) r os (sizes .1) (rw (frames-back, append-nil))
+  temporal-back r = within-back 6 7 (λ p. answer flat (many frameUnit p)) (framed obusB) r os (short .1) (rw (frames-back, append-nil))
 
-units : (us : List (List Obu)) → Every (Every Allowed) us → length (flatMap annexbUnit us) < 2 ^ 56 → Every (Back temporalUnit annexbUnit) us
+units-back : (us : List (List Obu)) → Every (Every Allowed) us → length (flatMap annexbUnit us) < 2 ^ 56 → Every (Back temporalUnit annexbUnit) us
 unfolding flatMap
-units [] nothing l = nothing
-units (u ∷ us) (also a as′) l =
+units-back [] nothing l = nothing
+units-back (u ∷ us) (also a as′) l =
     let n = length-append (annexbUnit u) (flatMap annexbUnit us) in
-    also (temporal-back u a (omega arith)) (units us as′ (omega arith))
+    also (temporal-back u a (omega arith)) (units-back us as′ (omega arith))
 
 -- ---- the round trip
 
@@ -118,4 +118,4 @@ pub annexb-back : {us : List (List Obu)} → Every (Every Allowed) us → 0 < le
     → annexbUnits (flatMap annexbUnit us) ≡ accepted (map unitBytes us)
 annexb-back nothing l m = absurd (omega arith)
 annexb-back (also {a = u} {l = us} a as′) l m =
-    annexb-some _ (some-bytes u us) ∙ rw (many-all temporalUnit annexbUnit temporal-shrinks (units (u ∷ us) (also a as′) m))
+    annexb-some _ (some-bytes u us) ∙ rw (many-all temporalUnit annexbUnit temporal-shrinks (units-back (u ∷ us) (also a as′) m))

@@ -6,11 +6,12 @@ use mathlib.Core.List.{List, [], _∷_, _++_, flatMap}
 use mathlib.Core.Bool.{Bool, true, false, cond as pick}
 use lib.ListN.{length, length-append}
 use lib.Dec.{eqb}
-use borrow.Author.Tests.{leb-true, eqb-true, eqb-false}
+use borrow.Author.Tests.{eqb-true, eqb-false}
 use Rattle.obu.specs.Obu.{Obu, unitBytes}
-use Rattle.obu.specs.Unit.{count}
-use Rattle.container.specs.Stream.{isDelimiter, isFrame, hasFrame, group, lead, others, either, join, behind, joined, units, flat}
-use Rattle.container.proofs.StreamLaws.{bytes-append, flat-group, count-append}
+use Rattle.obu.specs.Unit.{isDelimiter, isFrame, count}
+use Rattle.container.specs.Stream.{hasFrame, group, lead, others, either, join, behind, joined, units, flat}
+use Rattle.container.specs.Survey.{mostUnits}
+use Rattle.container.proofs.StreamLaws.{bytes-append, flat-group, count-append, frame-some}
 
 -- how many bytes OBUs have, written
 abbrev pub weight : List Obu → ℕ
@@ -102,12 +103,8 @@ behind-few u w (g ∷ gs) = go (hasFrame g) refl (behind-few (join w g) [] gs) (
 
     go : (b : Bool) → hasFrame g ≡ b → length (behind (join w g) [] gs) ≤ suc n → length (behind u (w ++ g) gs) ≤ suc n
         → length (pick b (u ∷ behind (join w g) [] gs) (behind u (w ++ g) gs)) ≤ suc (count isFrame (flat (g ∷ gs)))
-    go true e h i = omega (arith, h, frames-of g gs, leb-true 1 (count isFrame g) e)
+    go true e h i = omega (arith, h, frames-of g gs, frame-some g e)
     go false e h i = omega (arith, i, frames-of g gs)
-
--- n frames: at most n units, or one
-abbrev pub mostUnits : ℕ → ℕ
-mostUnits n = pick (eqb n 0) 1 n
 
 most-grows : (n m : ℕ) → n ≤ m → mostUnits n ≤ mostUnits m
 most-grows n m l = go (eqb n 0) (eqb m 0) refl refl
@@ -138,7 +135,7 @@ joined-few w (g ∷ gs) = go (hasFrame g) refl (behind-few (join w g) [] gs) (jo
         → length (pick b (behind (join w g) [] gs) (joined (w ++ g) gs)) ≤ mostUnits (count isFrame (g ++ flat gs))
     go true e h i =
         let f = count-append isFrame g (flat gs) in
-        let k = leb-true 1 (count isFrame g) e in
+        let k = frame-some g e in
         most-some (count isFrame (g ++ flat gs)) (length (behind (join w g) [] gs)) (omega (arith, h)) (omega arith)
     go false e h i =
         let f = count-append isFrame g (flat gs) in

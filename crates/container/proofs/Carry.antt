@@ -1,36 +1,36 @@
 -- Writing a list of units and reading it back, with 01's limits: the containers' part of demand 3.
-use Prim.Native.Nat.{ℕ, zero, suc, _+_, _^_, _≤_, _<_}
+use Prim.Native.Nat.{ℕ, _≤_, _<_}
 use native.Mathlib.Omega.{arith}
-use mathlib.Core.Path.{_≡_, refl, sym, ap, _∙_}
-use mathlib.Core.List.{List, [], _∷_, _++_, map}
-use mathlib.Core.Bool.{Bool, true, false, cond as pick, _&&_}
+use mathlib.Core.Path.{_≡_, refl}
+use mathlib.Core.List.{List}
+use mathlib.Core.Bool.{true}
 use mathlib.Core.Logic.{_⊎_, inl, inr}
 use lib.ListN.{length}
 use lib.Dec.{leb}
 use borrow.Author.Tests.{leb-true}
 use Rattle.bitio.specs.Parse.{Answer, refused, accepted}
 use Rattle.bitio.specs.Every.{Every}
-use Rattle.bitio.proofs.ParseLaws.{pick-cases, pick-both}
+use Rattle.bitio.proofs.ParseLaws.{pick-cases, pick-both, and-both}
 use Rattle.bitio.specs.Every.Every.{none as nothing, also}
 use Rattle.container.specs.Stream.{streamBytes}
 use Rattle.bitio.specs.Limits.{limit}
 use Rattle.container.specs.Limits.{Room, fits}
 use Rattle.container.specs.Container.{Container, stream, annexb, unitsIn, bytesIn, read, write}
-use Rattle.container.proofs.RoundTrip.{Written, Whole, stream-back, annexb-wrote, annexb-round}
+use Rattle.container.proofs.RoundTrip.{InForm, Whole, stream-back, annexb-wrote, annexb-round}
 
--- ---- demand 3: writing may be refused with 34 or 35 only, reading back with 35 only; else the units come back
+-- ---- demand 3: 34 and 35 are all that writing refuses with, 35 all that reading back does; else the units come back
 
-abbrev pub Same : List (List ℕ) → Answer (List (List ℕ)) → Type 0
-Same us (refused k) = k ≡ 35
-Same us (accepted vs) = vs ≡ us
+abbrev pub CameBack : List (List ℕ) → Answer (List (List ℕ)) → Type 0
+CameBack us (refused k) = k ≡ 35
+CameBack us (accepted vs) = vs ≡ us
 
 abbrev pub Carried : Container → Room → List (List ℕ) → Answer (List ℕ) → Type 0
 Carried c room us (refused k) = (k ≡ 34) ⊎ (k ≡ 35)
-Carried c room us (accepted bs) = Same us (read c room bs)
+Carried c room us (accepted bs) = CameBack us (read c room bs)
 
-all-written : {us : List (List ℕ)} → Every Whole us → Every Written us
+all-written : {us : List (List ℕ)} → Every Whole us → Every InForm us
 all-written nothing = nothing
-all-written (also h hs) = also (h .written) (all-written hs)
+all-written (also h hs) = also (h .held, h .written) (all-written hs)
 
 module _ (us : List (List ℕ)) (w : Every Whole us) (some : 0 < length us) where
   -- what was written, and is short enough, is read back
@@ -42,10 +42,6 @@ module _ (us : List (List ℕ)) (w : Every Whole us) (some : 0 < length us) wher
   wrote stream l = (streamBytes us, refl)
   wrote annexb l = annexb-wrote (all-written w) (omega arith)
 
-  first : (a b : Bool) → (a && b) ≡ true → a ≡ true
-  first true b e = refl
-  first false b e = e
-
   pub carried : (c : Container) (room room′ : Room) → Carried c room′ us (write c room us)
   unfolding write read
   carried c room room′ =
@@ -53,7 +49,7 @@ module _ (us : List (List ℕ)) (w : Every Whole us) (some : 0 < length us) wher
       (λ h. let l = leb-true _ _ h in
       let x = wrote c l in
       rw (x .1) (pick-cases (Carried c room′ us) (fits (length (x .0)) 0 room)
-      (λ k. let m : leb (length (x .0)) limit ≡ true = first _ _ k in
-      rw (m, back c l (x .0) (x .1) (leb-true _ _ m)) (pick-both (Same us) (fits (length (streamBytes us)) (length us) room′) refl refl))
+      (λ k. let m : leb (length (x .0)) limit ≡ true = and-both _ _ k .0 in
+      rw (m, back c l (x .0) (x .1) (leb-true _ _ m)) (pick-both (CameBack us) (fits (length (streamBytes us)) (length us) room′) refl refl))
       (λ k. inr refl)))
       (λ h. inl refl)

@@ -1,15 +1,16 @@
 -- Laws of where units lie: the unit at the front of what is left.
-use Prim.Native.Nat.{ℕ, suc, _+_, _-_, _≤_, _<_}
+use Prim.Native.Nat.{ℕ, suc, _≤_, _<_}
 use native.Mathlib.Omega.{arith}
 use mathlib.Core.Path.{_≡_, refl, sym, ap, ap₂, _∙_}
 use mathlib.Core.List.{List, [], _∷_, _++_, tail, append-assoc}
-use mathlib.Core.Bool.{Bool, true, false, cond as pick, _||_, _&&_}
+use mathlib.Core.Bool.{Bool, true, false, cond as pick, _||_, _&&_, or-false}
 use lib.ListN.{length}
 use Rattle.obu.specs.Obu.{Obu}
-use Rattle.obu.specs.Unit.{count}
-use Rattle.container.specs.Stream.{isDelimiter, isFrame, lead, others, either, join, units}
+use Rattle.obu.specs.Unit.{isDelimiter, isFrame, count}
+use Rattle.container.specs.Stream.{lead, others, either, units}
 use Rattle.container.specs.Extents.{lastLead, led, firstOf, reopens}
-use Rattle.container.proofs.StreamLaws.{tick, leads, resumes, delimiter-frame, count-append, Front, units-more, units-last}
+use Rattle.container.proofs.LeadLaws.{join-is, join-twice}
+use Rattle.container.proofs.StreamLaws.{tick, leads, delimiter-frame, count-append, Front, units-more, units-last}
 
 abbrev pub isNone : List Obu → Bool
 isNone [] = true
@@ -17,17 +18,13 @@ isNone (o ∷ os) = false
 
 -- ---- one OBU more
 
-or-false : (b : Bool) → b ≡ (b || false)
-or-false true = refl
-or-false false = refl
-
 pub none-next : (os : List Obu) (o : Obu) → isNone (os ++ (o ∷ [])) ≡ false
 none-next [] o = refl
 none-next (a ∷ os) o = refl
 
 pub leads-next : (os : List Obu) (o : Obu) → leads (os ++ (o ∷ [])) ≡ (leads os || (isNone os && isDelimiter o))
 leads-next [] o = refl
-leads-next (a ∷ os) o = or-false (isDelimiter a)
+leads-next (a ∷ os) o = sym (or-false (isDelimiter a))
 
 last-next : (os : List Obu) (o : Obu) → lastLead (os ++ (o ∷ [])) ≡ pick (isDelimiter o) (o ∷ []) (lastLead os)
 unfolding lastLead
@@ -56,84 +53,6 @@ pub led-other : (os : List Obu) (o : Obu) → isDelimiter o ≡ false → led (o
 unfolding lastLead
 led-other [] o d = rw d
 led-other (a ∷ os) o d = ap (either (lead (a ∷ []))) (last-next (a ∷ os) o ∙ rw d)
-
--- ---- joined units
-
-pub others-append : (a b : List Obu) → others (a ++ b) ≡ others a ++ others b
-unfolding others
-others-append [] b = refl
-others-append (o ∷ a) b = rw (others-append a b) (go (isDelimiter o))
-  where
-    go : (x : Bool) → pick x (others a ++ others b) (o ∷ (others a ++ others b)) ≡ pick x (others a) (o ∷ others a) ++ others b
-    go true = refl
-    go false = refl
-
-others-again : (a : List Obu) → others (others a) ≡ others a
-unfolding others
-others-again [] = refl
-others-again (o ∷ a) = go (isDelimiter o) refl (others-again a)
-  where
-    go : (x : Bool) → isDelimiter o ≡ x → others (others a) ≡ others a → others (pick x (others a) (o ∷ others a)) ≡ pick x (others a) (o ∷ others a)
-    go true e ih = ih
-    go false e ih = rw (e, ih)
-
-lead-others : (a : List Obu) → lead (others a) ≡ []
-unfolding others
-lead-others [] = refl
-lead-others (o ∷ a) = go (isDelimiter o) refl (lead-others a)
-  where
-    go : (x : Bool) → isDelimiter o ≡ x → lead (others a) ≡ [] → lead (pick x (others a) (o ∷ others a)) ≡ []
-    go true e ih = ih
-    go false e ih = rw e
-
--- what leads does so again
-lead-again : (a m : List Obu) → lead m ≡ [] → lead (lead a ++ m) ≡ lead a
-lead-again [] m e = e
-lead-again (o ∷ a) m e = go (isDelimiter o) refl
-  where
-    go : (x : Bool) → isDelimiter o ≡ x → lead (pick x (o ∷ []) [] ++ m) ≡ pick x (o ∷ []) []
-    go true d = rw d
-    go false d = e
-
-either-again : (a b m : List Obu) → lead m ≡ [] → lead (either (lead a) (lead b) ++ m) ≡ either (lead a) (lead b)
-either-again [] b m e = lead-again b m e
-either-again (o ∷ a) b m e = go (isDelimiter o) refl
-  where
-    go : (x : Bool) → isDelimiter o ≡ x → lead (either (pick x (o ∷ []) []) (lead b) ++ m) ≡ either (pick x (o ∷ []) []) (lead b)
-    go true d = rw d
-    go false d = lead-again b m e
-
--- and is a delimiter
-lead-dropped : (a m : List Obu) → others (lead a ++ m) ≡ others m
-unfolding others
-lead-dropped [] m = refl
-lead-dropped (o ∷ a) m = go (isDelimiter o) refl
-  where
-    go : (x : Bool) → isDelimiter o ≡ x → others (pick x (o ∷ []) [] ++ m) ≡ others m
-    go true d = rw d
-    go false d = refl
-
-either-dropped : (a b m : List Obu) → others (either (lead a) (lead b) ++ m) ≡ others m
-unfolding others
-either-dropped [] b m = lead-dropped b m
-either-dropped (o ∷ a) b m = go (isDelimiter o) refl
-  where
-    go : (x : Bool) → isDelimiter o ≡ x → others (either (pick x (o ∷ []) []) (lead b) ++ m) ≡ others m
-    go true d = rw d
-    go false d = lead-dropped b m
-
-join-is : (a b : List Obu) → join a b ≡ either (lead a) (lead b) ++ others (a ++ b)
-unfolding join
-join-is a b = rw others-append
-
-join-twice : (a b r : List Obu) → join (join a b) r ≡ either (either (lead a) (lead b)) (lead r) ++ others (a ++ (b ++ r))
-join-twice a b r =
-    join-is (join a b) r
-    ∙ ap₂ (λ x y. either x (lead r) ++ y)
-    (ap (λ l. lead l) (join-is a b) ∙ either-again a b (others (a ++ b)) (lead-others (a ++ b)))
-    (others-append (join a b) r
-    ∙ ap (λ l. l ++ others r) (ap others (join-is a b) ∙ either-dropped a b (others (a ++ b)) ∙ others-again (a ++ b))
-    ∙ sym (others-append (a ++ b) r) ∙ ap others (append-assoc a b r))
 
 -- ---- the OBUs before a frame: what waits, and the beginning of the unit with the frame
 
@@ -208,10 +127,6 @@ either-whole : (w h : List Obu) → either (lead w) (lead h) ≡ either (lead (w
 either-whole [] h = sym (either-self (lead h))
 either-whole (o ∷ w) h = refl
 
-same-opening : (r : List Obu) → reopens r ≡ true → resumes r ≡ true
-same-opening [] e = refl
-same-opening (o ∷ r) e = e
-
 -- a frame is behind the front, and mid behind it has none and no delimiter
 module _ (front : List Obu) (f : Obu) (mid : List Obu)
     (waits : count isFrame front ≡ 0) (framed : isFrame f ≡ true) (frames : count isFrame mid ≡ 0) (delimiters : count isDelimiter mid ≡ 0) where
@@ -269,13 +184,13 @@ module _ (front : List Obu) (f : Obu) (mid : List Obu)
     -- it goes out by itself if another frame follows
     pub first-more : 1 ≤ count isFrame r → units (front ++ (f ∷ (mid ++ r))) ≡ (led front ++ others (front ++ (f ∷ mid))) ∷ units r
     first-more n =
-        ap units (sym (list-is r)) ∙ units-more w g r front-is (same-opening r opening) n
+        ap units (sym (list-is r)) ∙ units-more w g r front-is opening n
         ∙ ap (λ l. l ∷ units r) (join-is w g ∙ ap₂ (λ x y. x ++ others y) led-is (sym (append-assoc w h (f ∷ mid)) ∙ ap (λ l. l ++ (f ∷ mid)) (p .list)))
 
     -- else with all that follows
     pub first-last : count isFrame r ≡ 0 → units (front ++ (f ∷ (mid ++ r))) ≡ (either (led front) (lead r) ++ others (front ++ (f ∷ (mid ++ r)))) ∷ []
     first-last n =
-        ap units (sym (list-is r)) ∙ units-last w g r front-is (same-opening r opening) n
+        ap units (sym (list-is r)) ∙ units-last w g r front-is opening n
         ∙ ap (λ l. l ∷ []) (join-twice w g r ∙ ap₂ (λ x y. either x (lead r) ++ others y) led-is (list-is r))
 
 -- what opens a unit and is no frame is a delimiter

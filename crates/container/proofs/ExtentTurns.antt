@@ -1,5 +1,5 @@
 -- The turns of the loops that find where a unit lies, and what they find.
-use Prim.Native.Nat.{ℕ, suc, _+_, _-_, _≤_, _<_}
+use Prim.Native.Nat.{ℕ, suc, _≤_, _<_}
 use native.Mathlib.Omega.{arith}
 use mathlib.Core.Path.{_≡_, refl, sym, ap, ap₂, _∙_}
 use mathlib.Core.List.{List, [], _∷_, _++_, append-assoc, append-nil}
@@ -7,11 +7,11 @@ use mathlib.Core.Option.{Option}
 use mathlib.Core.Bool.{Bool, true, false, not, _||_, _&&_}
 use lib.ListN.{length}
 use Rattle.obu.specs.Obu.{Obu}
-use Rattle.obu.specs.Unit.{isType, count}
+use Rattle.obu.specs.Unit.{isDelimiter, isFrame, isType, count}
 use Rattle.obu.specs.declared.unit.Kind.the-variants.{TemporalDelimiter, Frame}
 use Rattle.obu.proofs.UnitLaws.{count-next}
 use Rattle.obu.proofs.PlaceLaws.{IsPlaced}
-use Rattle.container.specs.Stream.{isDelimiter, isFrame, lead, either, others, units}
+use Rattle.container.specs.Stream.{lead, either, others, units}
 use Rattle.container.specs.Ranges.{Range, here, more}
 use Rattle.container.specs.Extents.{lastLead, led, firstOf, reopens, Frames, ToFrame, ToNext, FirstObu, FirstUnit}
 use Rattle.container.proofs.StreamLaws.{leads, count-append, alone, units-alone}
@@ -194,9 +194,9 @@ obu-first f g =
 
 -- ---- the unit
 
-pub units-none : units [] ≡ []
+pub units-empty : units [] ≡ []
 unfolding count
-units-none = units-alone [] refl
+units-empty = units-alone [] refl
 
 alone-is : {s : List ℕ} {a b : ℕ} {os : List Obu} → Range s a b os → a < b → alone os ≡ os ∷ []
 alone-is (here l) h = absurd (omega arith)
@@ -221,7 +221,7 @@ module _ {s : List ℕ} {at : ℕ} where
         inner-range = none;
         rest = [];
         behind = none;
-        first = units-alone (f .all) (f .frames) ∙ alone-is (f .range) l ∙ ap₂ _∷_ (sym (append-nil (f .all))) (sym units-none);
+        first = units-alone (f .all) (f .frames) ∙ alone-is (f .range) l ∙ ap₂ _∷_ (sym (append-nil (f .all))) (sym units-empty);
         left = refl;
         lead-after = omega arith;
         lead-within = omega arith;
@@ -282,7 +282,7 @@ module _ {s : List ℕ} {at : ℕ} where
       last : units all ≡ (either (led (tf .front)) (lead (tn .rest)) ++ others all) ∷ units []
       last =
           first-last (tf .front) (tf .frame) (tn .front) (tf .waits) (tf .framed) (tn .frames) (tn .delimiters) (tn .rest) (tn .opening) no-more
-          ∙ ap (λ l. (either (led (tf .front)) (lead (tn .rest)) ++ others all) ∷ l) (sym units-none)
+          ∙ ap (λ l. (either (led (tf .front)) (lead (tn .rest)) ++ others all) ∷ l) (sym units-empty)
 
       to-end : {y z : ℕ} (ls : List Obu) → Range s y z ls → either (led (tf .front)) (lead (tn .rest)) ≡ ls → at ≤ y → z ≤ length s → FirstUnit s at left y z at (length s)
       unfolding count

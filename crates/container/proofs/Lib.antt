@@ -1,7 +1,7 @@
 pub mod StreamLaws
 pub mod AnnexBLaws
 pub mod RoundTrip
-pub mod StreamShape
+pub mod LeadLaws
 pub mod Carry
 pub mod RangeLaws
 pub mod ExtentLaws

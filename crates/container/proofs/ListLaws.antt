@@ -4,36 +4,43 @@ use native.Mathlib.Numerals.{add-one}
 use native.Mathlib.Omega.{arith}
 use mathlib.Core.Path.{_≡_, refl, sym, ap, _∙_}
 use mathlib.Core.List.{List, [], _∷_, _++_}
-use mathlib.Core.Bool.{Bool, true, false, cond as pick, _||_, _&&_}
-use lib.ListN.{length, getD, take, drop, length-drop, take-append-drop, drop-of-length-le}
+use mathlib.Core.Bool.{Bool, true, false, cond as pick, _||_, _&&_, and-false}
+use lib.ListN.{length, getD, take, drop, length-drop, take-append-drop, drop-of-length-le, length-append}
 use lib.Seq.{drop-cons, drop-drop}
 use lib.Dec.{leb, ltb, eqb}
 use borrow.Author.Tests.{le-leb, lt-leb, ltb-true, ltb-false, eqb-true, eqb-false, eq-eqb, ne-eqb}
 use Rattle.bitio.specs.Parse.{Answer, refused, accepted, onto, andNext}
 use Rattle.bitio.specs.Lent.{pasted}
+use Rattle.bitio.proofs.ParseLaws.{or-neither, length-none, onto-is}
 use Rattle.container.specs.Stream.{flat, streamBytes}
 use Rattle.bitio.specs.Limits.{limit}
 use Rattle.container.specs.Limits.{Room}
-use Rattle.container.specs.Units.{unitsFrom, unitsAt, countOf, outAfter}
+use Rattle.container.specs.Units.{endsOf, unitsFrom, unitsAt, countOf, outAfter}
 use Rattle.container.specs.Container.{stream, writeAt}
 use Rattle.container.specs.Lists.{accepts}
 
 -- ---- what a list holds
 
-none-left : (s : List ℕ) → length s ≡ 0 → s ≡ []
-none-left [] e = refl
-none-left (b ∷ s) e = absurd (omega arith)
+-- an end for each unit
+pub ends-length : (at : ℕ) (us : List (List ℕ)) → length (endsOf at us) ≡ length us
+unfolding endsOf
+ends-length at [] = refl
+ends-length at (u ∷ us) = ap suc (ends-length (at + length u) us)
 
-onto-is : {A : Type 0} (a : A) (x : Answer (List A)) (l : List A) → onto a x ≡ accepted l → (m : List A) × (x ≡ accepted m) × (l ≡ a ∷ m)
-onto-is a (refused k) l e = let z : _≡_ {A = ℕ} 0 1 = cc in absurd (omega arith)
-onto-is a (accepted m) l e = (m, refl, cc)
+-- one unit more, one end more
+pub ends-more : (at : ℕ) (us : List (List ℕ)) (u : List ℕ) → endsOf at (us ++ (u ∷ [])) ≡ endsOf at us ++ ((at + length (streamBytes us) + length u) ∷ [])
+unfolding endsOf streamBytes flat
+ends-more at [] u = let k : at + 0 + length u ≡ at + length u = omega arith in rw k
+ends-more at (v ∷ us) u =
+    let k : at + length (v ++ flat us) + length u ≡ at + length v + length (flat us) + length u = omega (arith, length-append v (flat us)) in
+    rw k (ap (λ l. (at + length v) ∷ l) (ends-more (at + length v) us u))
 
 from-bytes : (es : List ℕ) (at : ℕ) (s : List ℕ) (us : List (List ℕ)) → unitsFrom at s es ≡ accepted us → streamBytes us ≡ s
 unfolding unitsFrom streamBytes flat
 from-bytes [] at s us e = go (eqb (length s) 0) refl e
   where
     go : (b : Bool) → eqb (length s) 0 ≡ b → pick b (accepted []) (refused 36) ≡ accepted us → flat us ≡ s
-    go true q e = let n : us ≡ [] = cc in rw n (sym (none-left s (eqb-true (length s) 0 q)))
+    go true q e = let n : us ≡ [] = cc in rw n (sym (length-none s (eqb-true (length s) 0 q)))
     go false q e = let z : _≡_ {A = ℕ} 0 1 = cc in absurd (omega arith)
 from-bytes (x ∷ es) at s us e = go (leb at x && leb (x - at) (length s)) e (from-bytes es x (drop (x - at) s))
   where
@@ -71,8 +78,8 @@ from-none (x ∷ es) at s e = go (leb at x && leb (x - at) (length s)) e (from-n
     go true e ih = again (unitsFrom x (drop (x - at) s) es) ih e
     go false e ih = refl
 
-pub units-none : (s es : List ℕ) → accepts (unitsAt s es) ≡ false → unitsAt s es ≡ refused 36
-units-none s es e = from-none es 0 s e
+pub units-refused : (s es : List ℕ) → accepts (unitsAt s es) ≡ false → unitsAt s es ≡ refused 36
+units-refused s es e = from-none es 0 s e
 
 pub units-some : (s es : List ℕ) → accepts (unitsAt s es) ≡ true → (us : List (List ℕ)) × (unitsAt s es ≡ accepted us)
 units-some s es e = go (unitsAt s es) e
@@ -89,14 +96,6 @@ pub record Checking (s es : List ℕ) (at i : ℕ) : Type 0 where
 
 pub checking-start : {s es : List ℕ} → Checking s es 0 0
 checking-start = record { within = omega arith; same = refl }
-
-or-false : (x y : Bool) → (x || y) ≡ false → (x ≡ false) × (y ≡ false)
-or-false true y e = let z : _≡_ {A = ℕ} 0 1 = cc in absurd (omega arith)
-or-false false y e = (refl, e)
-
-and-false : (x : Bool) → (x && false) ≡ false
-and-false true = refl
-and-false false = refl
 
 module _ {s es : List ℕ} {at i : ℕ} (c : Checking s es at i) where
   pub checking-end : length es ≤ i → eqb at (length s) ≡ accepts (unitsAt s es)
@@ -139,7 +138,7 @@ module _ {s es : List ℕ} {at i : ℕ} (c : Checking s es at i) where
 
     pub checking-next : (ltb e at || ltb (length s) e) ≡ false → Checking s es e (i + 1)
     checking-next t =
-        let (x, y) = or-false (ltb e at) (ltb (length s) e) t in
+        let (x, y) = or-neither (ltb e at) (ltb (length s) e) t in
         let p : at ≤ e = ltb-false e at x in
         let q : e ≤ length s = ltb-false (length s) e y in
         let l : e - at ≤ length (drop at s) = omega (arith, length-drop at s) in
@@ -158,23 +157,23 @@ module _ (s es d : List ℕ) where
   abbrev result : Answer (List ℕ)
   result = writeAt stream room s es
 
-  abbrev Refuses : ℕ → Type 0
-  Refuses k = (refused k ≡ countOf result) × (d ≡ outAfter result d)
+  abbrev WriteRefuses : ℕ → Type 0
+  WriteRefuses k = (refused k ≡ countOf result) × (d ≡ outAfter result d)
 
-  refuses : {k : ℕ} → result ≡ refused k → Refuses k
+  refuses : {k : ℕ} → result ≡ refused k → WriteRefuses k
   refuses q = (sym (ap (λ x. countOf x) q), sym (ap (λ x. outAfter x d) q))
 
-  pub write-long : limit < length s → Refuses 34
+  pub write-long : limit < length s → WriteRefuses 34
   unfolding writeAt andNext
   write-long l = refuses (rw (lt-leb (length s) limit l))
 
   module _ (short : length s ≤ limit) where
-    pub write-none : accepts (unitsAt s es) ≡ false → Refuses 36
+    pub write-none : accepts (unitsAt s es) ≡ false → WriteRefuses 36
     unfolding writeAt andNext
-    write-none n = refuses (rw (le-leb (length s) limit short, units-none s es n))
+    write-none n = refuses (rw (le-leb (length s) limit short, units-refused s es n))
 
     module _ (is : accepts (unitsAt s es) ≡ true) where
-      pub write-full : length d < length s → Refuses 35
+      pub write-full : length d < length s → WriteRefuses 35
       unfolding writeAt andNext
       write-full l =
           let (us, q) = units-some s es is in

@@ -9,20 +9,21 @@ use mathlib.Core.Bool.{Bool, true, false, cond as pick, not}
 use mathlib.Core.Logic.{⊎-elim}
 use lib.ListN.{length, drop, length-append, length-drop, drop-of-length-le}
 use borrow.Author.Tests.{lt-ltb}
-use Rattle.bitio.specs.Parse.{Answer, refused, accepted, Head, stop, item, onto}
-use Rattle.bitio.specs.Lent.{pasted}
+use Rattle.bitio.specs.Parse.{accepted, Head, stop, item}
+use Rattle.bitio.specs.Lent.{pasted, Wrote}
 use Rattle.bitio.proofs.LebLaws.{bytes-length}
 use Rattle.bitio.proofs.LentLaws.{pasted-nil, pasted-more, pasted-length}
 use Rattle.obu.specs.Obu.{Obu, passes, headObu, obus, extBytes, obuBytes, unitBytes}
 use Rattle.obu.specs.Place.{wrong, placeOf, obuPlace, part}
 use Rattle.obu.specs.Write.{obuLength, obu}
-use Rattle.bitio.proofs.ParseLaws.{parts-length}
+use Rattle.bitio.proofs.ParseLaws.{parts-length, onto-is}
 use Rattle.obu.proofs.ObuLaws.{is-obu, obus-nil, obus-item, obus-stop}
 use Rattle.obu.proofs.LengthLaws.{obu-length}
 use Rattle.obu.proofs.PlaceLaws.{Placed, IsPlaced, is-placed, part-placed}
 use Rattle.bitio.specs.Limits.{limit}
-use Rattle.container.specs.Stream.{isDelimiter, others}
-use Rattle.container.specs.Ranges.{Step, Range, here, more, isKept, keptOne, keptBytes, Ranged, Measured, Roomy, Wrote, WroteKept}
+use Rattle.obu.specs.Unit.{isDelimiter}
+use Rattle.container.specs.Stream.{others}
+use Rattle.container.specs.Ranges.{Step, Range, here, more, isKept, keptOne, keptBytes, Ranged, Measured, Roomy, WroteKept}
 
 -- ---- ranges
 
@@ -102,10 +103,6 @@ module _ {s : List ℕ} {b : ℕ} where
   range-found k r h q = found k r refl h q
 
 -- ---- up to the end of the bytes
-
-onto-is : (o : Obu) (x : Answer (List Obu)) (os : List Obu) → onto o x ≡ accepted os → (ps : List Obu) × (x ≡ accepted ps) × (os ≡ o ∷ ps)
-onto-is o (refused k) os e = let z : _≡_ {A = ℕ} 0 1 = cc in absurd (omega arith)
-onto-is o (accepted l) os e = (l, refl, cc)
 
 module _ (s : List ℕ) where
   -- the OBU at the head of what is left is placed
@@ -256,15 +253,6 @@ module _ {s : List ℕ} {a b : ℕ} {keep : Bool} where
 
 -- ---- writing
 
--- one behind the other
-pub wrote-more : {d : List ℕ} {to : ℕ} {xs : List ℕ} {w : ℕ} {e ys : List ℕ} {r : ℕ} {f : List ℕ} → to ≤ length d
-    → Wrote d to xs w e → Wrote e w ys r f → Wrote d to (xs ++ ys) r f
-wrote-more {d} {to} {xs} {w} {e} {ys} {r} {f} l x y =
-    record {
-      next = omega (arith, x .next, y .next, length-append xs ys);
-      lent = y .lent ∙ ap₂ (λ a b. pasted a b ys) (x .lent) (x .next) ∙ pasted-more d to xs l ys;
-    }
-
 -- the type of an OBU that is found passes
 pub put-passes : {s : List ℕ} {at t : ℕ} {e : Option ℕ} {p q : ℕ} → IsPlaced s at t e p q → passes t ≡ true
 put-passes g = rw (g .type) at (g .placed .passing)
@@ -288,7 +276,7 @@ module _ {s : List ℕ} {a b : ℕ} {keep : Bool} {d : List ℕ} {to : ℕ} wher
         let x = m .whole os r in
         record {
           next = omega (arith, ap length e, x .0);
-          lent = sym (pasted-nil o w) ∙ ap (pasted o w) (sym e) ∙ x .1;
+          out = sym (pasted-nil o w) ∙ ap (pasted o w) (sym e) ∙ x .1;
         }
 
     module _ {t : ℕ} {e : Option ℕ} {p q : ℕ} (h : at < b) (g : IsPlaced s at t e p q) where
@@ -314,9 +302,9 @@ module _ {s : List ℕ} {a b : ℕ} {keep : Bool} {d : List ℕ} {to : ℕ} wher
       put-next {v} {n} x =
           let bs = keptOne keep there in
           let cs = keptBytes keep (k .rest) in
-          let l : length n ≡ length o = ap length (x .lent) ∙ pasted-length o w bs put-room in
+          let l : length n ≡ length o = ap length (x .out) ∙ pasted-length o w bs put-room in
           let f : pasted n v cs ≡ pasted o w (keptBytes keep (m .rest)) =
-          ap₂ (λ y z. pasted y z cs) (x .lent) (x .next) ∙ pasted-more o w bs (omega (arith, put-room)) cs ∙ ap (pasted o w) (sym left) in
+          ap₂ (λ y z. pasted y z cs) (x .out) (x .next) ∙ pasted-more o w bs (omega (arith, put-room)) cs ∙ ap (pasted o w) (sym left) in
           record {
             rest = k .rest;
             range = k .range;

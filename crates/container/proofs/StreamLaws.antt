@@ -1,19 +1,20 @@
 -- Laws of units: taken from the front, and given back as they were written.
-use Prim.Native.Nat.{ℕ, zero, suc, _+_, _^_, _≤_, _<_}
+use Prim.Native.Nat.{ℕ, suc, _+_, _≤_, _<_}
 use native.Mathlib.Omega.{arith}
-use mathlib.Core.Path.{_≡_, refl, sym, ap, ap₂, _∙_}
+use mathlib.Core.Path.{_≡_, refl, sym, ap, _∙_}
 use mathlib.Core.List.{List, [], _∷_, _++_, map, flatMap, tail, append-assoc, append-nil}
 use mathlib.Core.Bool.{Bool, true, false, cond as pick, _||_, _&&_}
 use lib.ListN.{length}
-use lib.Dec.{leb, eqb}
-use borrow.Author.Tests.{eqb-true, le-leb, lt-leb, leb-false}
-use Rattle.bitio.specs.Parse.{Answer, refused, accepted, answer}
+use borrow.Author.Tests.{eqb-true, le-leb, lt-leb, leb-true, leb-false}
+use Rattle.bitio.specs.Parse.{accepted}
 use Rattle.bitio.specs.Every.{Every}
 use Rattle.bitio.specs.Every.Every.{none as nothing, also}
-use Rattle.obu.specs.Obu.{Obu, obus, obuBytes, unitBytes}
+use Rattle.obu.specs.Obu.{Obu, unitBytes}
 use Rattle.obu.proofs.ObuLaws.{Allowed, obus-unit}
-use Rattle.obu.specs.Unit.{isType, count}
-use Rattle.container.specs.Stream.{isDelimiter, isFrame, hasFrame, opens, seenAfter, Cut, put, cut, group, lead, others, either, join, behind, joined, units, streamUnits, flat, streamBytes}
+use Rattle.obu.proofs.UnitLaws.{has-count}
+use Rattle.obu.specs.Unit.{isDelimiter, isFrame, isType, count}
+use Rattle.container.specs.Stream.{hasFrame, opens, seenAfter, Cut, put, cut, group, lead, others, either, join, behind, joined, units, streamUnits, flat, streamBytes}
+use Rattle.container.specs.Extents.{reopens}
 
 -- one more where b
 abbrev pub tick : Bool → ℕ → ℕ
@@ -82,23 +83,18 @@ cut-opens true o os e =
     let m : seenAfter false o ≡ isFrame o = first-seen false o (λ z. e) in
     rw e (ap (λ (b : Bool). record { here = []; next = (put o true (cut b os)) .next }) (k ∙ sym m))
 
--- nothing, or a unit that opens behind a frame
-abbrev pub resumes : List Obu → Bool
-resumes [] = true
-resumes (o ∷ os) = opens true o
-
-cut-resumes : (r : List Obu) → resumes r ≡ true → cut true r ≡ record { here = []; next = group r }
+cut-reopens : (r : List Obu) → reopens r ≡ true → cut true r ≡ record { here = []; next = group r }
 unfolding cut group
-cut-resumes [] e = refl
-cut-resumes (o ∷ os) e = cut-opens true o os e
+cut-reopens [] e = refl
+cut-reopens (o ∷ os) e = cut-opens true o os e
 
 -- a unit with one frame, then what opens behind a frame
-pub group-single : (g r : List Obu) → Single g → resumes r ≡ true → group (g ++ r) ≡ g ∷ group r
+pub group-single : (g r : List Obu) → Single g → reopens r ≡ true → group (g ++ r) ≡ g ∷ group r
 unfolding group count
 group-single [] r s e = absurd (not-empty s)
 group-single (o ∷ os) r s e =
     let k = first-seen false o (λ z. let y : _≡_ {A = ℕ} 0 1 = cc in absurd (omega arith)) in
-    rw (cut-body r (group r) (cut-resumes r e) (seenAfter false o) os (s .trimmed) (rw k (s .single)))
+    rw (cut-body r (group r) (cut-reopens r e) (seenAfter false o) os (s .trimmed) (rw k (s .single)))
 
 -- what stands before a delimiter is grouped apart
 cut-before : (seen : Bool) (w : List Obu) (o : Obu) (os : List Obu) → isDelimiter o ≡ true
@@ -161,7 +157,7 @@ lead-others (o ∷ os) d = go (isDelimiter o)
     go true = rw (others-all os d)
     go false = rw (others-all os d)
 
-either-nil : (a : List Obu) → either a [] ≡ a
+pub either-nil : (a : List Obu) → either a [] ≡ a
 either-nil [] = refl
 either-nil (o ∷ os) = refl
 
@@ -177,7 +173,17 @@ join-right u d = simp (either-nil, append-nil) (lead-others u d)
 -- ---- joining, from the front
 
 none-there : (g : List Obu) → count isFrame g ≡ 0 → hasFrame g ≡ false
-none-there g e = lt-leb 1 (count isFrame g) (omega arith)
+none-there g e = sym (has-count isFrame g) ∙ lt-leb 1 (count isFrame g) (omega arith)
+
+some-there : (g : List Obu) → 1 ≤ count isFrame g → hasFrame g ≡ true
+some-there g l = sym (has-count isFrame g) ∙ le-leb 1 (count isFrame g) l
+
+-- and back
+pub frame-none : (g : List Obu) → hasFrame g ≡ false → count isFrame g ≡ 0
+frame-none g e = omega (arith, leb-false 1 (count isFrame g) (has-count isFrame g ∙ e))
+
+pub frame-some : (g : List Obu) → hasFrame g ≡ true → 1 ≤ count isFrame g
+frame-some g e = leb-true 1 (count isFrame g) (has-count isFrame g ∙ e)
 
 -- frameless groups wait
 joined-waits : (v : List Obu) (gs hs : List (List Obu)) → count isFrame (flat gs) ≡ 0 → joined v (gs ++ hs) ≡ joined (v ++ flat gs) hs
@@ -189,7 +195,7 @@ joined-waits v (g ∷ gs) hs f =
 
 joined-frame : (v h : List Obu) (gs : List (List Obu)) → Single h → joined v (h ∷ gs) ≡ behind (join v h) [] gs
 unfolding joined
-joined-frame v h gs s = let k = s .single in rw (le-leb 1 (count isFrame h) (omega arith))
+joined-frame v h gs s = rw (some-there h (omega (arith, s .single)))
 
 -- behind a unit with a frame: it goes out if another frame follows, else all that follows joins it
 behind-more : (u v : List Obu) (gs : List (List Obu)) → 1 ≤ count isFrame (flat gs) → behind u v gs ≡ u ∷ joined v gs
@@ -200,7 +206,7 @@ behind-more u v (g ∷ gs) f = go (hasFrame g) refl (behind-more u (v ++ g) gs)
     go : (b : Bool) → hasFrame g ≡ b → (1 ≤ count isFrame (flat gs) → behind u (v ++ g) gs ≡ u ∷ joined (v ++ g) gs)
         → pick b (u ∷ behind (join v g) [] gs) (behind u (v ++ g) gs) ≡ u ∷ pick b (behind (join v g) [] gs) (joined (v ++ g) gs)
     go true e ih = refl
-    go false e ih = ih (omega (arith, leb-false 1 (count isFrame g) e, count-append isFrame g (flat gs)))
+    go false e ih = ih (omega (arith, frame-none g e, count-append isFrame g (flat gs)))
 
 behind-last : (u v : List Obu) (gs : List (List Obu)) → count isFrame (flat gs) ≡ 0 → behind u v gs ≡ join u (v ++ flat gs) ∷ []
 unfolding behind flat
@@ -217,7 +223,7 @@ pub record Front (w g : List Obu) : Type 0 where
   pub single : Single g
   pub apart : 0 < length w → leads g ≡ true
 
-module _ (w g r : List Obu) (f : Front w g) (e : resumes r ≡ true) where
+module _ (w g r : List Obu) (f : Front w g) (e : reopens r ≡ true) where
   units-front : units (w ++ (g ++ r)) ≡ behind (join w g) [] (group r)
   unfolding units
   units-front = go w g f
@@ -264,11 +270,11 @@ pub data Run : List (List Obu) → Type 0 where
   done : Run []
   next : {u : List Obu} {us : List (List Obu)} → Single u → ready us ≡ true → Run us → Run (u ∷ us)
 
-run-resumes : {us : List (List Obu)} → Run us → ready us ≡ true → resumes (flat us) ≡ true
+run-reopens : {us : List (List Obu)} → Run us → ready us ≡ true → reopens (flat us) ≡ true
 unfolding flat
-run-resumes done e = refl
-run-resumes (next {u = []} s r t) e = absurd (not-empty s)
-run-resumes (next {u = o ∷ os} s r t) e = e
+run-reopens done e = refl
+run-reopens (next {u = []} s r t) e = absurd (not-empty s)
+run-reopens (next {u = o ∷ os} s r t) e = e
 
 front : (u : List Obu) → Single u → Front [] u
 unfolding count
@@ -283,10 +289,15 @@ units-run (next {u} {us = []} s r t) =
 units-run (next {u} {us = v ∷ us} s r (next k q t)) =
     let n = count-append isFrame v (flat us) in
     let m = k .single in
-    units-more [] u (v ++ flat us) (front u s) (run-resumes (next k q t) r) (omega arith)
+    units-more [] u (v ++ flat us) (front u s) (run-reopens (next k q t) r) (omega arith)
     ∙ rw (join-left u (s .trimmed)) (ap (λ (l : List (List Obu)). u ∷ l) (units-run (next k q t)))
 
 -- ---- the stream
+
+pub flat-append : {A : Type 0} (a b : List (List A)) → flat (a ++ b) ≡ flat a ++ flat b
+unfolding flat
+flat-append [] b = refl
+flat-append (u ∷ a) b = rw (flat-append a b, append-assoc)
 
 pub bytes-append : (os ps : List Obu) → unitBytes (os ++ ps) ≡ unitBytes os ++ unitBytes ps
 unfolding unitBytes flatMap

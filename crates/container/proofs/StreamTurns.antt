@@ -8,22 +8,22 @@ use lib.ListN.{length, set, length-append, length-map, length-set}
 use lib.Dec.{leb}
 use borrow.Author.Tests.{le-leb, lt-leb, leb-true}
 use Rattle.bitio.specs.Parse.{Answer, refused, accepted, answer}
-use Rattle.bitio.specs.Lent.{pasted}
-use Rattle.bitio.proofs.LentLaws.{pasted-nil, pasted-one, pasted-more, pasted-length}
+use Rattle.bitio.specs.Lent.{pasted, Wrote}
+use Rattle.bitio.proofs.LentLaws.{pasted-nil, pasted-one, pasted-more, pasted-length, wrote-more}
 use Rattle.obu.specs.Obu.{Obu, obus, unitBytes}
-use Rattle.obu.specs.Unit.{count}
-use Rattle.container.specs.Stream.{isFrame, others, units, streamUnits, flat, streamBytes}
+use Rattle.obu.specs.Unit.{isFrame, count}
+use Rattle.container.specs.Stream.{others, units, streamUnits, flat, streamBytes}
 use Rattle.bitio.specs.Limits.{limit}
 use Rattle.container.specs.Limits.{Room, fits, fitUnits}
 use Rattle.container.specs.Units.{endsOf, Sizes, sizesOf, bytesAfter, endsAfter}
 use Rattle.container.specs.Container.{stream, read}
-use Rattle.container.specs.Ranges.{keptBytes, Ranged, Measured, Roomy, Wrote, WroteKept}
-use Rattle.container.specs.Survey.{Tally, tallyOf, Surveyed, sizesFit}
+use Rattle.container.specs.Ranges.{keptBytes, Ranged, Measured, Roomy, WroteKept}
+use Rattle.container.specs.Survey.{Tally, tallyOf, Surveyed, mostUnits, sizesFit}
 use Rattle.container.specs.Extents.{Frames, FirstUnit, UnitRanges, UnitLength, UnitRoom, UnitWrote, StreamFrames, StreamRoom}
 use Rattle.container.proofs.StreamLaws.{bytes-append, bytes-flat}
-use Rattle.container.proofs.RangeLaws.{range-within, range-same, range-end, range-whole, range-most, wrote-more}
-use Rattle.container.proofs.BoundLaws.{mostUnits, units-bytes-most, units-few}
-use Rattle.container.proofs.ExtentTurns.{units-none}
+use Rattle.container.proofs.RangeLaws.{range-within, range-same, range-end, range-whole, range-most}
+use Rattle.container.proofs.BoundLaws.{units-bytes-most, units-few}
+use Rattle.container.proofs.ExtentTurns.{units-empty}
 
 -- ---- one unit
 
@@ -58,11 +58,11 @@ module _ {s : List ℕ} {a b c d : ℕ} where
       inner-roomy =
           let y = x (u .leading) (u .lead-range) in
           let z = unit-sum (u .leading) (u .inner) in
-          let n = ap length (y .lent) ∙ pasted-length e to (keptBytes true (u .leading)) (omega (arith, u .room)) in
+          let n = ap length (y .out) ∙ pasted-length e to (keptBytes true (u .leading)) (omega (arith, u .room)) in
           record { os = u .inner; range = u .inner-range; room = omega (arith, u .room, y .next) }
 
       pub unit-wrote : {r : ℕ} {g : List ℕ} → WroteKept s c d false f w r g → UnitWrote s a b c d e to r g
-      unit-wrote y ls os p q = rw (unit-bytes ls os) (wrote-more (omega (arith, u .room)) (x ls p) (y os q))
+      unit-wrote y ls os p q = rw (unit-bytes ls os) (wrote-more (x ls p) (omega (arith, u .room)) (y os q))
 
 -- the first unit of what is left can be measured, and is short
 module _ {s : List ℕ} {at left a b c d : ℕ} (f : FirstUnit s at left a b c d) where
@@ -116,7 +116,7 @@ sizes-end : {s : List ℕ} {at left n u : ℕ} (r : Frames s at left)
     → length s ≤ at → sizesOf (streamUnits s) ≡ accepted (record { bytes = n; units = u })
 unfolding flat unitBytes flatMap
 sizes-end {n} {u} r q h =
-    let e : units (r .all) ≡ [] = ap units (range-end (r .range) h) ∙ units-none in
+    let e : units (r .all) ≡ [] = ap units (range-end (r .range) h) ∙ units-empty in
     let x : n + bytesLeft (r .all) ≡ n = let y = ap (λ us. length (unitBytes (flat us))) e in omega arith in
     let w : u + length (units (r .all)) ≡ u = let y = ap length e in omega arith in
     q ∙ ap₂ (λ i j. accepted (record { bytes = i; units = j })) x w
@@ -202,7 +202,7 @@ module _ {s : List ℕ} {at left : ℕ} {d e : List ℕ} {w u : ℕ} {o m : List
       × ((o ≡ bytesAfter (streamUnits s) d) × (m ≡ endsAfter (streamUnits s) e))
   unfolding streamBytes flat endsOf
   writing-end h =
-      let q : units (z .rest .all) ≡ [] = ap units (range-end (z .rest .range) h) ∙ units-none in (
+      let q : units (z .rest .all) ≡ [] = ap units (range-end (z .rest .range) h) ∙ units-empty in (
         sizes-end (z .rest) (z .sizes) h,
         (
           sym (z .bytes ∙ ap (λ us. pasted o w (streamBytes (map unitBytes us))) q ∙ pasted-nil o w),
@@ -238,13 +238,13 @@ module _ {s : List ℕ} {at left : ℕ} {d e : List ℕ} {w u : ℕ} {o m : List
       left-units = ap (map unitBytes) (units-next (z .rest) f)
 
       p-long : length p ≡ length o
-      p-long = ap length (here-wrote .lent) ∙ pasted-length o w these (omega (arith, z .room, bytes-next (z .rest) f))
+      p-long = ap length (here-wrote .out) ∙ pasted-length o w these (omega (arith, z .room, bytes-next (z .rest) f))
 
       bytes-then : pasted o w (streamBytes (written (z .rest .all))) ≡ pasted p v (streamBytes (written (f .rest)))
       unfolding streamBytes flat
       bytes-then =
           ap (λ us. pasted o w (streamBytes us)) left-units
-          ∙ sym (ap₂ (λ i j. pasted i j (streamBytes (written (f .rest)))) (here-wrote .lent) (here-wrote .next) ∙ pasted-more o w these (omega (arith, z .room)) (streamBytes (written (f .rest))))
+          ∙ sym (ap₂ (λ i j. pasted i j (streamBytes (written (f .rest)))) (here-wrote .out) (here-wrote .next) ∙ pasted-more o w these (omega (arith, z .room)) (streamBytes (written (f .rest))))
 
       ends-then : pasted m u (endsOf w (written (z .rest .all))) ≡ pasted (set m u v) (u + 1) (endsOf v (written (f .rest)))
       unfolding endsOf
@@ -292,10 +292,6 @@ answer-refused : {A B : Type 0} (f : A → B) (x : Answer A) (k : ℕ) → answe
 answer-refused f (refused j) k e = let q : j ≡ k = cc in ap refused q
 answer-refused f (accepted a) k e = let z : _≡_ {A = ℕ} 0 1 = cc in absurd (omega arith)
 
-abbrev sizesIn : Answer Sizes → Sizes
-sizesIn (refused k) = record { bytes = 0; units = 0 }
-sizesIn (accepted z) = z
-
 three : (x y z : Bool) → (x && (y && z)) ≡ true → (x ≡ true) × (y ≡ true) × (z ≡ true)
 three true true true e = (refl, refl, refl)
 three true true false e = let z : _≡_ {A = ℕ} 0 1 = cc in absurd (omega arith)
@@ -311,13 +307,13 @@ module _ (s d e : List ℕ) where
   result = read stream room s
 
   -- a refusal leaves lent memory as it was
-  abbrev pub Refuses : ℕ → Type 0
-  Refuses k = (refused k ≡ sizesOf result) × ((d ≡ bytesAfter result d) × (e ≡ endsAfter result e))
+  abbrev pub ReadRefuses : ℕ → Type 0
+  ReadRefuses k = (refused k ≡ sizesOf result) × ((d ≡ bytesAfter result d) × (e ≡ endsAfter result e))
 
-  refuses : {k : ℕ} → result ≡ refused k → Refuses k
+  refuses : {k : ℕ} → result ≡ refused k → ReadRefuses k
   refuses q = (sym (ap (λ x. sizesOf x) q), (sym (ap (λ x. bytesAfter x d) q), sym (ap (λ x. endsAfter x e) q)))
 
-  pub read-long : limit < length s → Refuses 34
+  pub read-long : limit < length s → ReadRefuses 34
   unfolding read
   read-long l = refuses (rw (lt-leb (length s) limit l))
 
@@ -326,7 +322,7 @@ module _ (s d e : List ℕ) where
     unfolding read
     read-short p y q = rw (le-leb (length s) limit short, p) q
 
-    pub read-bad : (k : ℕ) → answer tallyOf (obus s) ≡ refused k → Refuses k
+    pub read-bad : (k : ℕ) → answer tallyOf (obus s) ≡ refused k → ReadRefuses k
     unfolding streamUnits
     read-bad k p = refuses (read-short {x = refused k} (rw (answer-refused tallyOf (obus s) k p)) (refused k) refl)
 
@@ -338,7 +334,7 @@ module _ (s d e : List ℕ) where
       sizes : sizesOf (streamUnits s) ≡ accepted (record { bytes = bytesLeft (f .all); units = length (units (f .all)) })
       sizes = sizes-are s (f .all) (f .reads)
 
-      pub read-full : sizesFit (sizesOf (streamUnits s)) room ≡ false → Refuses 35
+      pub read-full : sizesFit (sizesOf (streamUnits s)) room ≡ false → ReadRefuses 35
       read-full o = refuses (read-short refl (refused 35) (fitted (streamUnits s) _ sizes ∙ rw o))
 
       module _ (o : sizesFit (sizesOf (streamUnits s)) room ≡ true) where

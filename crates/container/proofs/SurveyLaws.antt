@@ -10,12 +10,11 @@ use Rattle.bitio.specs.Limits.{limit}
 use Rattle.bitio.specs.Parse.{accepted, answer}
 use Rattle.obu.specs.Obu.{Obu, obus, unitBytes}
 use Rattle.obu.specs.Place.{obuPlace, nothing}
-use Rattle.obu.specs.Unit.{isType, count}
+use Rattle.obu.specs.Unit.{isFrame, isType, count}
 use Rattle.obu.specs.Write.{obuLength}
 use Rattle.obu.specs.declared.unit.Kind.the-variants.{Frame}
 use Rattle.obu.proofs.PlaceLaws.{IsPlaced, Walked, walk-start, walk-next, walk-end}
 use Rattle.obu.proofs.UnitLaws.{count-next}
-use Rattle.container.specs.Stream.{isFrame}
 use Rattle.container.specs.Ranges.{isKept, keptOne}
 use Rattle.container.specs.Survey.{tallyOf}
 use Rattle.container.proofs.StreamLaws.{bytes-append}

@@ -17,7 +17,7 @@ abbrev pub extendedB : ℕ → List ℕ → Answer Obu
 extendedB h [] = refused 3
 extendedB h (e ∷ p) = typed h (some e) p
 
--- an OBU that fills its bytes. 01: bit 02 is ignored, all after header and extension is payload; refusals 12, 1, 3, 2
+-- an OBU that fills its bytes: what follows header and extension is payload, whatever the size bit says; refusals 12, 1, 3, 2
 unfoldable pub innerObu : List ℕ → Answer Obu
 innerObu [] = refused 12
 innerObu (h ∷ s) = pick (flag 128 h) (refused 1) (pick (flag 4 h) (extendedB h s) (typed h none s))
@@ -42,7 +42,7 @@ annexbUnits (b ∷ s) = answer (map unitBytes) (many temporalUnit (b ∷ s))
 abbrev pub innerBytes : Obu → List ℕ
 innerBytes o = framed (header 0 (o .type) (o .ext) ++ o .payload)
 
--- 01: a unit's OBUs in one frame unit, without sizes
+-- a unit as one frame unit of OBUs without sizes
 unfoldable pub annexbUnit : List Obu → List ℕ
 annexbUnit os = framed (framed (flatMap innerBytes os))
 

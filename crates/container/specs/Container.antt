@@ -1,9 +1,8 @@
 -- The operations of both containers, with their limits: what the contracts and demand 3 speak of.
 use Prim.Native.Nat.{ℕ}
 use mathlib.Core.List.{List}
-use mathlib.Core.Bool.{cond as pick}
 use lib.ListN.{length}
-use Rattle.bitio.specs.Parse.{Answer, refused, accepted, andNext}
+use Rattle.bitio.specs.Parse.{Answer, accepted, andNext}
 use Rattle.container.specs.Stream.{streamUnits, streamBytes}
 use Rattle.container.specs.AnnexB.{annexbUnits, annexbBytes}
 use Rattle.container.specs.Limits.{Room, fitBytes, fitUnits}

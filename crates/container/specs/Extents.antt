@@ -6,10 +6,11 @@ use mathlib.Core.Bool.{Bool, true}
 use lib.ListN.{length}
 use Rattle.bitio.specs.Parse.{accepted}
 use Rattle.obu.specs.Obu.{Obu, obus, unitBytes}
-use Rattle.obu.specs.Unit.{count}
-use Rattle.container.specs.Stream.{isDelimiter, isFrame, opens, lead, either, others, units, flat}
+use Rattle.obu.specs.Unit.{isDelimiter, isFrame, count}
+use Rattle.container.specs.Stream.{opens, lead, either, others, units, flat}
 use Rattle.bitio.specs.Limits.{limit}
-use Rattle.container.specs.Ranges.{Range, Wrote}
+use Rattle.container.specs.Ranges.{Range}
+use Rattle.bitio.specs.Lent.{Wrote}
 
 -- the last delimiter, if there is one
 unfoldable pub lastLead : List Obu → List Obu

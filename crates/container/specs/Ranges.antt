@@ -5,7 +5,7 @@ use mathlib.Core.List.{List, [], _∷_}
 use mathlib.Core.Bool.{Bool, cond as pick, not, _||_}
 use lib.ListN.{length, drop}
 use Rattle.bitio.specs.Parse.{item}
-use Rattle.bitio.specs.Lent.{pasted}
+use Rattle.bitio.specs.Lent.{Wrote}
 use Rattle.obu.specs.Obu.{Obu, headObu, obuBytes, unitBytes}
 use Rattle.obu.specs.Unit.{isType}
 use Rattle.obu.specs.declared.unit.Kind.the-variants.{TemporalDelimiter}
@@ -54,10 +54,6 @@ pub record Roomy (s : List ℕ) (a b : ℕ) (keep : Bool) (d : List ℕ) (to : �
   pub range : Range s a b os
   pub room : to + length (keptBytes keep os) ≤ length d
 
--- the place behind them is r, and lent memory is e
-pub record Wrote (d : List ℕ) (to : ℕ) (bs : List ℕ) (r : ℕ) (e : List ℕ) : Type 0 where
-  pub next : r ≡ to + length bs
-  pub lent : e ≡ pasted d to bs
-
+-- and what was written of them
 abbrev pub WroteKept : List ℕ → ℕ → ℕ → Bool → List ℕ → ℕ → ℕ → List ℕ → Type 0
 WroteKept s a b keep d to r e = (os : List Obu) → Range s a b os → Wrote d to (keptBytes keep os) r e

@@ -2,24 +2,16 @@
 use Prim.Native.Nat.{ℕ}
 use mathlib.Core.List.{List, [], _∷_, _++_, map}
 use mathlib.Core.Bool.{Bool, true, false, cond as pick, _||_, _&&_}
-use lib.Dec.{leb}
 use Rattle.bitio.specs.Parse.{Answer, answer}
 use Rattle.obu.specs.Obu.{Obu, obus, unitBytes}
-use Rattle.obu.specs.Unit.{isKind, count}
-use Rattle.obu.specs.declared.unit.Kind.the-variants.{TemporalDelimiter, Frame}
-
-abbrev pub isDelimiter : Obu → Bool
-isDelimiter o = isKind TemporalDelimiter o
-
-abbrev pub isFrame : Obu → Bool
-isFrame o = isKind Frame o
+use Rattle.obu.specs.Unit.{isDelimiter, isFrame, has}
 
 abbrev pub hasFrame : List Obu → Bool
-hasFrame os = leb 1 (count isFrame os)
+hasFrame os = has isFrame os
 
 -- ---- grouping
 
--- 01: a delimiter opens a unit; a frame opens one if the current unit has a frame (seen)
+-- every delimiter opens a unit, and a frame does behind another in its unit (seen)
 abbrev pub opens : Bool → Obu → Bool
 opens seen o = isDelimiter o || (seen && isFrame o)
 
@@ -60,17 +52,17 @@ abbrev pub either : List Obu → List Obu → List Obu
 either [] b = b
 either (o ∷ os) b = o ∷ os
 
--- 01: joining keeps the first delimiter found at the head of either part, moves it to the front and drops the others
+-- one delimiter stays, in front: a's if a begins with one, else b's
 unfoldable pub join : List Obu → List Obu → List Obu
 join a b = either (lead a) (lead b) ++ (others a ++ others b)
 
--- 01: frameless units, put end to end (w), join the next unit with a frame, at the end the last (u).
--- A unit with a frame is treated so even if none waits.
+-- u has gone out but for what may still join it; w are the frameless units since then, end to end. They join the next unit
+-- with a frame, which is joined so even with none, or at the end u.
 unfoldable pub behind : List Obu → List Obu → List (List Obu) → List (List Obu)
 behind u w [] = join u w ∷ []
 behind u w (g ∷ gs) = pick (hasFrame g) (u ∷ behind (join w g) [] gs) (behind u (w ++ g) gs)
 
--- the same while no unit with a frame has come. 01: if no unit has a frame, all go out as one, delimiters untouched
+-- the same while no unit with a frame has come: without any, all OBUs are one unit as they are
 unfoldable pub joined : List Obu → List (List Obu) → List (List Obu)
 joined [] [] = []
 joined (o ∷ w) [] = (o ∷ w) ∷ []

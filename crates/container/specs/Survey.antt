@@ -2,12 +2,12 @@
 use Prim.Native.Nat.{ℕ}
 use mathlib.Core.Path.{_≡_}
 use mathlib.Core.List.{List}
-use mathlib.Core.Bool.{Bool, false}
+use mathlib.Core.Bool.{Bool, false, cond as pick}
 use lib.ListN.{length}
+use lib.Dec.{eqb}
 use Rattle.bitio.specs.Parse.{Answer, refused, accepted}
 use Rattle.obu.specs.Obu.{Obu, unitBytes}
-use Rattle.obu.specs.Unit.{count}
-use Rattle.container.specs.Stream.{isFrame}
+use Rattle.obu.specs.Unit.{isFrame, count}
 use Rattle.container.specs.Limits.{Room, fits}
 use Rattle.container.specs.Units.{Sizes}
 use Rattle.container.specs.Extents.{StreamFrames}
@@ -31,6 +31,10 @@ seenSays (Refused k) = refused k
 pub record Surveyed (s : List ℕ) (n b : ℕ) : Type 0 where
   pub stream : StreamFrames s n
   pub bytes : length (unitBytes (stream .all)) ≡ b
+
+-- n frames: at most n units, or one
+abbrev pub mostUnits : ℕ → ℕ
+mostUnits n = pick (eqb n 0) 1 n
 
 -- whether units of these sizes have room
 abbrev pub sizesFit : Answer Sizes → Room → Bool

@@ -1,7 +1,7 @@
 -- Lists of units as lent memory has them: their bytes one behind the other, and the end of each.
 use Prim.Native.Nat.{ℕ, _+_, _-_}
 use mathlib.Core.List.{List, [], _∷_}
-use mathlib.Core.Bool.{Bool, cond as pick, _&&_}
+use mathlib.Core.Bool.{cond as pick, _&&_}
 use lib.ListN.{length, take, drop}
 use lib.Dec.{leb, eqb}
 use Rattle.bitio.specs.Parse.{Answer, refused, accepted, answer, onto}
@@ -9,8 +9,8 @@ use Rattle.bitio.specs.Lent.{pasted}
 use Rattle.container.specs.Stream.{streamBytes}
 use Rattle.container.specs.declared.units.Split.{Split}
 use Rattle.container.specs.declared.units.Split.the-variants.{Units, Refused as SplitRefused}
-use Rattle.container.specs.declared.units.Joined.{Joined}
-use Rattle.container.specs.declared.units.Joined.the-variants.{Bytes, Refused as JoinedRefused}
+use Rattle.container.specs.declared.units.ByteCount.{ByteCount}
+use Rattle.container.specs.declared.units.ByteCount.the-variants.{Bytes, Refused as CountRefused}
 
 -- the end of each unit, the first of which starts at `at`
 unfoldable pub endsOf : ℕ → List (List ℕ) → List ℕ
@@ -18,7 +18,7 @@ endsOf at [] = []
 endsOf at (u ∷ us) = (at + length u) ∷ endsOf (at + length u) us
 
 -- the units whose ends are given, s being the bytes from `at` on.
--- 01: 36 unless ends never fall and the last (0 if none) is the byte count
+-- 36: an end falls, or the last is not where the bytes end
 unfoldable pub unitsFrom : ℕ → List ℕ → List ℕ → Answer (List (List ℕ))
 unitsFrom at s [] = pick (eqb (length s) 0) (accepted []) (refused 36)
 unitsFrom at s (e ∷ es) =
@@ -59,7 +59,7 @@ abbrev pub outAfter : Answer (List ℕ) → List ℕ → List ℕ
 outAfter (refused k) d = d
 outAfter (accepted bs) d = pasted d 0 bs
 
--- 01's number and values for each case of Joined
-abbrev pub joinedSays : Joined → Answer ℕ
-joinedSays (Bytes n) = accepted n
-joinedSays (JoinedRefused k) = refused k
+-- 01's number and values for each case of ByteCount
+abbrev pub byteCountSays : ByteCount → Answer ℕ
+byteCountSays (Bytes n) = accepted n
+byteCountSays (CountRefused k) = refused k

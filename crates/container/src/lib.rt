@@ -1,4 +1,4 @@
-// Units from and to a stream and Annex B, packets joined, units made canonical (document 01).
+// Units from and to a stream, lists of units in lent memory, and the OBUs between two positions (document 01).
 mod extents;
 pub mod lists;
 pub mod ranges;

@@ -1,13 +1,11 @@
 // Units from a stream, and a stream from units (document 01).
 ghost use mathlib.Core.Path.{_≡_};
-ghost use mathlib.Core.Bool.{cond as pick};
 ghost use lib.ListN.{length};
-ghost use lib.Dec.{eqb};
 ghost use Rattle.bitio.specs.Parse.{accepted};
 ghost use Rattle.container.specs.Stream.{streamUnits};
-ghost use Rattle.container.specs.Units.{sizesOf, bytesAfter, endsAfter, splitSays, countOf, outAfter, joinedSays};
+ghost use Rattle.container.specs.Units.{sizesOf, bytesAfter, endsAfter, splitSays, countOf, outAfter, byteCountSays};
 ghost use Rattle.container.specs.Container.{stream, read, writeAt};
-ghost use Rattle.container.specs.Survey.{Surveyed, sizesFit};
+ghost use Rattle.container.specs.Survey.{Surveyed, mostUnits, sizesFit};
 ghost use Rattle.container.specs.Extents.{UnitRanges, UnitLength, UnitRoom, UnitWrote, StreamFrames, StreamRoom};
 use crate::extents::Extent;
 use crate::extents::less;
@@ -18,7 +16,7 @@ use crate::ranges::written_len;
 use crate::room::has_room;
 use crate::survey::Seen;
 use crate::survey::survey;
-use crate::units::Joined;
+use crate::units::ByteCount;
 use crate::units::Split;
 use bitio::limits::LIMIT;
 use obu::writer::put_bytes;
@@ -67,7 +65,7 @@ fn measure(s: &[u8], frames: usize) -> Size
 
 // How many units a stream with so many frames has at most.
 fn most_units(frames: usize) -> usize
-    ensures { λ r. ⌜ r ≡ pick (eqb frames 0) 1 frames ⌝ }
+    ensures { λ r. ⌜ r ≡ mostUnits frames ⌝ }
 {
     if frames == 0 {
         return 1;
@@ -132,20 +130,20 @@ pub fn split_obu_stream(data: &[u8], out: &mut [u8], ends: &mut [u32]) -> Split
 }
 
 // A stream of units: their bytes as they are. A refusal changes nothing.
-pub fn write_obu_stream(units: &[u8], unit_ends: &[u32], out: &mut [u8]) -> Joined
-    ensures { λ r. ⌜ joinedSays r ≡ countOf (writeAt stream (record { bytes = length (now (out .entry)); ends = 0 }) (now (units .entry)) (now («unit_ends» .entry))) ⌝ }
+pub fn write_obu_stream(units: &[u8], unit_ends: &[u32], out: &mut [u8]) -> ByteCount
+    ensures { λ r. ⌜ byteCountSays r ≡ countOf (writeAt stream (record { bytes = length (now (out .entry)); ends = 0 }) (now (units .entry)) (now («unit_ends» .entry))) ⌝ }
     ensures { λ _. ⌜ now (out .exit) ≡ outAfter (writeAt stream (record { bytes = length (now (out .entry)); ends = 0 }) (now (units .entry)) (now («unit_ends» .entry))) (now (out .entry)) ⌝ }
 {
     let len = units.len();
     if len > LIMIT {
-        return Joined::Refused(34);
+        return ByteCount::Refused(34);
     }
     if !check_ends(units, unit_ends) {
-        return Joined::Refused(36);
+        return ByteCount::Refused(36);
     }
     if len > out.len() {
-        return Joined::Refused(35);
+        return ByteCount::Refused(35);
     }
     put_bytes(out, 0, units);
-    Joined::Bytes(len)
+    ByteCount::Bytes(len)
 }

@@ -6,8 +6,8 @@ pub enum Split {
     Refused(u32),
 }
 
-pub enum Joined {
-    // how many bytes were written
+pub enum ByteCount {
+    // how many bytes were written, or would be
     Bytes(usize),
     // document 01's number
     Refused(u32),

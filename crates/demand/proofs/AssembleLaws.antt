@@ -13,7 +13,7 @@ use Rattle.bitio.specs.Limits.{limit}
 use Rattle.bitio.specs.Every.{Every}
 use Rattle.bitio.specs.Every.Every.{none as nothing, also}
 use Rattle.obu.specs.Obu.{Obu, obus}
-use Rattle.obu.specs.Unit.{has, lastPayload, firstPayload, ofUnit}
+use Rattle.obu.specs.Unit.{isFrame, has, lastPayload, firstPayload, ofUnit}
 use Rattle.obu.specs.Place.{part}
 use Rattle.header.specs.Sequence.{Sequence, parseSequence}
 use Rattle.header.specs.Support.{support, supportedSequence}
@@ -30,7 +30,7 @@ use Rattle.pictures.specs.Prepare.{isSequence, timedSequence, effective, renewa
 use Rattle.pictures.specs.declared.settings.Settings.{Settings}
 use Rattle.pictures.specs.Assemble.{Outcome, stopped, made, andAlso, inSegment, overall, noneEmpty, sizes, sameBytes, sameHeader, sameHeaders, headerObu, prepareAll, Output, outputOf, Room, fits, assembled, assemble}
 use Rattle.player.proofs.StepLaws.{link}
-use Rattle.frame.specs.UnitFrame.{unitFrame, framePayload, isFrame}
+use Rattle.frame.specs.UnitFrame.{unitFrame, framePayload}
 use Rattle.demand.specs.Premises.{listHeader, Premise, Formed, InFields}
 use Rattle.demand.proofs.HeaderLaws.{timed-short, timed-back, timed-fine}
 use Rattle.demand.proofs.PlayerLaws.{sole-is}

@@ -15,7 +15,7 @@ use Rattle.bitio.specs.Leb.{lebRead, readLeb, sized, lebWrite, lebBytes, framed
 use Rattle.bitio.specs.Every.{Every}
 use Rattle.bitio.specs.Every.Every.{none as nothing, also}
 use Rattle.obu.specs.Obu.{Obu, passes, headObuOf, obusOf, obuBytes, unitBytes, Written}
-use Rattle.obu.specs.Unit.{isType, count, firstPayload}
+use Rattle.obu.specs.Unit.{isType, count, has, firstPayload}
 use Rattle.obu.specs.Place.{part}
 use Rattle.header.specs.Fields.{readFlag, readOr, flagOr, uvlcOr}
 use Rattle.header.specs.SequenceOpening.{timingInfo, decoderModelInfo, opening}
@@ -276,7 +276,7 @@ Carried c = (write c (record { bytes = 96; ends = 7 }) (unitsOf outputTwo) ≡ a
     × (read c (record { bytes = 96; ends = 7 }) (bytesOf (write c (record { bytes = 96; ends = 7 }) (unitsOf outputTwo))) ≡ accepted (unitsOf outputTwo))
 
 carried-both : (Carried stream) × (Carried annexb)
-unfolding many manyF lebRead readLeb sized lebWrite lebBytes framed passes headObuOf obusOf obuBytes unitBytes flatMap isType count part named unitsOf cut group others join behind joined units streamUnits flat streamBytes innerObu lengthObu frameUnit temporalUnit annexbUnits annexbUnit annexbBytes read write
+unfolding many manyF lebRead readLeb sized lebWrite lebBytes framed passes headObuOf obusOf obuBytes unitBytes flatMap isType count has part named unitsOf cut group others join behind joined units streamUnits flat streamBytes innerObu lengthObu frameUnit temporalUnit annexbUnits annexbUnit annexbBytes read write
 carried-both = ((refl, refl), (refl, refl))
 
 carries : (c : Container) → Carried c → ReadBack (unitsOf outputTwo) (unitsOf outputTwo)

@@ -13,13 +13,13 @@ use Rattle.bitio.specs.Limits.{limit}
 use Rattle.bitio.specs.Every.{Every}
 use Rattle.bitio.specs.Every.Every.{none as nothing, also}
 use Rattle.obu.specs.Obu.{Obu, obus}
-use Rattle.obu.specs.Unit.{has, count, firstPayload}
+use Rattle.obu.specs.Unit.{isFrame, has, count, firstPayload}
 use Rattle.header.specs.Sequence.{Sequence, parseSequence}
 use Rattle.header.specs.Support.{support, supportedSequence}
 use Rattle.frame.specs.Frame.{parseFrame}
 use Rattle.frame.specs.declared.frame_header.FrameHeaderInfo.{FrameHeaderInfo}
 use Rattle.pictures.specs.Prepare.{isSequence, lowest}
-use Rattle.frame.specs.UnitFrame.{framePayload, isFrame}
+use Rattle.frame.specs.UnitFrame.{framePayload}
 use Rattle.player.specs.Player.{empty, refresh, Shown, act, State, keepAs, keep, play}
 use Rattle.player.specs.declared.slots.Slot.{Slot}
 use Rattle.demand.specs.Premises.{Same}

@@ -8,16 +8,14 @@ use mathlib.Core.Option.{Option, none, some}
 use lib.ListN.{length}
 use lib.Dec.{eqb}
 use borrow.Author.Tests.{eqb-true}
-use Rattle.frame.specs.UnitFrame.{isFrame}
 use Rattle.bitio.specs.Parse.{accepted, andNext}
 use Rattle.bitio.specs.Leb.{lebWrite, lebBytes, framed}
 use Rattle.bitio.specs.Every.{Every}
 use Rattle.bitio.specs.Every.Every.{none as nothing, also}
 use Rattle.obu.specs.Obu.{Obu, passes, obuBytes, unitBytes}
-use Rattle.obu.specs.Unit.{isType, has, count, firstPayload}
+use Rattle.obu.specs.Unit.{isFrame, isDelimiter, isType, has, count, firstPayload}
 use Rattle.obu.specs.declared.unit.Kind.the-variants.{TemporalDelimiter, Frame as FrameObu}
 use Rattle.obu.proofs.ObuLaws.{Allowed, obus-allowed, unit-written}
-use Rattle.container.specs.Stream.{isDelimiter}
 use Rattle.container.proofs.StreamLaws.{leads}
 use Rattle.container.proofs.RoundTrip.{Whole}
 use Rattle.pictures.specs.Prepare.{isSequence, firstOf, renewed, sent, showByte, showUnit}
@@ -198,7 +196,8 @@ alone (o ∷ os) d = rw (d .0, d .1)
 pub whole : (s u : List ℕ) → Premise s u → Whole u
 whole s u w =
     record {
-      written = record { held = w .held; reads = w .written .reads; writes = w .written .bytes };
+      held = w .held;
+      written = w .written;
       led = led (w .held) (w .delimited);
       alone = alone (w .held) (w .delimited);
       single = w .single;

@@ -3,13 +3,11 @@ use Prim.Native.Nat.{ℕ, _^_, _<_}
 use mathlib.Core.Path.{_≡_}
 use mathlib.Core.List.{List, [], _∷_}
 use mathlib.Core.Bool.{true, false}
-use Rattle.frame.specs.UnitFrame.{isFrame}
 use Rattle.bitio.specs.Parse.{accepted}
 use Rattle.bitio.specs.Every.{Every}
 use Rattle.obu.specs.Obu.{Obu, obus, Written}
-use Rattle.obu.specs.Unit.{count, firstPayload, ofUnit}
+use Rattle.obu.specs.Unit.{isFrame, isDelimiter, count, firstPayload, ofUnit}
 use Rattle.header.specs.Sequence.{Sequence, parseSequence}
-use Rattle.container.specs.Stream.{isDelimiter}
 use Rattle.pictures.specs.Segments.{Segment}
 use Rattle.pictures.specs.Prepare.{isSequence}
 use Rattle.pictures.specs.declared.settings.Settings.{Settings}

@@ -5,11 +5,11 @@ use native.Mathlib.Omega.{arith}
 use mathlib.Core.List.{List, [], _++_, append-assoc}
 use mathlib.Core.Bool.{Bool, true, not}
 use lib.Dec.{eqb}
-use lib.ListN.{length, drop, length-append, length-drop}
+use lib.ListN.{length, length-append}
 use borrow.Author.Tests.{ltb-true, eqb-true}
 use Rattle.bitio.specs.Limits.{limit, limited}
 use Rattle.bitio.specs.Parse.{accepted}
-use Rattle.bitio.specs.Bits.{Bytes, Reading, fails, reads}
+use Rattle.bitio.specs.Bits.{Reading, fails, reads}
 use Rattle.bitio.specs.Write.{bitsOf, unpack, trailingWidth, trailingBits}
 use Rattle.bitio.proofs.SeesLaws.{Sees}
 use Rattle.bitio.proofs.UnpackLaws.{length-bits, unpack-append}
@@ -19,13 +19,13 @@ use Rattle.header.specs.SequencePoints.{pointCount}
 use Rattle.header.specs.Sequence.{Sequence, readSequence, parseSequence}
 use Rattle.emittable.specs.PutSequence.{putSequence}
 use Rattle.emittable.specs.Emittable.{openingFits, sizeFits, codingFits, emittable}
-use Rattle.emit.specs.Emit.{pack, trailed, sequenceBytes}
+use Rattle.emit.specs.Emit.{trailed, sequenceBytes}
 use Rattle.header.specs.declared.seq_header.FrameSize.{FrameSize}
 use Rattle.header.specs.declared.seq_header.Coding.{Coding}
-use Rattle.emit.proofs.PackLaws.{AreBits, are-append, are-bits, unpack-pack, length-pack, pack-bytes, pack-unpack}
+use Rattle.emit.proofs.PackLaws.{AreBits, are-append, are-bits, unpack-pack, length-pack}
 use Rattle.emit.proofs.PutLaws.{Puts, sequence-puts}
 use Rattle.header.proofs.LimitedLaws.{within-limit}
-use Rattle.emittable.proofs.BackFields.{both}
+use Rattle.bitio.proofs.ParseLaws.{and-both}
 use Rattle.emittable.proofs.BackSequence.{opening-delay, opening-count, sequence-back}
 use Rattle.emit.proofs.FormFields.{holds}
 use Rattle.emit.proofs.FormSequence.{sequence-form}
@@ -39,28 +39,28 @@ four n g = ltb-true n 16 g
 pub size-widths : (z : FrameSize) → sizeFits z ≡ true → (z .«frame_width_bits_minus_1» < 16) × (z .«frame_height_bits_minus_1» < 16)
 unfolding sizeFits
 size-widths z g =
-    let (g, g4) = both _ _ g in
-    let (g, g3) = both _ _ g in
-    let (g1, g2) = both (fits 4 (z .«frame_width_bits_minus_1»)) (fits 4 (z .«frame_height_bits_minus_1»)) g in
+    let (g, g4) = and-both _ _ g in
+    let (g, g3) = and-both _ _ g in
+    let (g1, g2) = and-both (fits 4 (z .«frame_width_bits_minus_1»)) (fits 4 (z .«frame_height_bits_minus_1»)) g in
     (four (z .«frame_width_bits_minus_1») g1, four (z .«frame_height_bits_minus_1») g2)
 
 pub coding-size : (profile : ℕ) (full : Bool) (c : Coding) → codingFits profile full c ≡ true → sizeFits (c .size) ≡ true
 unfolding codingFits
 coding-size profile full c g =
-    let (g, g6) = both _ _ g in
-    let (g, g5) = both _ _ g in
-    let (g, g4) = both _ _ g in
-    let (g, g3) = both _ _ g in
-    let (g1, g2) = both (sizeFits (c .size)) _ g in
+    let (g, g6) = and-both _ _ g in
+    let (g, g5) = and-both _ _ g in
+    let (g, g4) = and-both _ _ g in
+    let (g, g3) = and-both _ _ g in
+    let (g1, g2) = and-both (sizeFits (c .size)) _ g in
     g1
 
 -- the header's bits stand before what follows, at most 3141
 pub emittable-puts : (q : Sequence) → emittable q ≡ true → Puts 3141 (putSequence q)
 unfolding emittable
 emittable-puts q g =
-    let (g, g4) = both _ _ g in
-    let (g, g3) = both _ _ g in
-    let (g1, g2) = both (openingFits (q .header .opening)) (eqb (length (q .points)) (pointCount (q .header .opening))) g in
+    let (g, g4) = and-both _ _ g in
+    let (g, g3) = and-both _ _ g in
+    let (g1, g2) = and-both (openingFits (q .header .opening)) (eqb (length (q .points)) (pointCount (q .header .opening))) g in
     let n = eqb-true (length (q .points)) (pointCount (q .header .opening)) g2 in
     let m = opening-count (q .header .opening) g1 in
     let z = size-widths (q .header .coding .size) (coding-size (q .header .opening .«seq_profile») (not (q .header .opening .«reduced_still_picture_header»)) (q .header .coding) g4) in
@@ -87,11 +87,6 @@ module _ (q : Sequence) (g : emittable q ≡ true) where
       let n = length-trailed (putSequence q []) in
       unpack-pack (are-trailed (emittable-puts q g .bits)) (omega arith)
 
-  -- it is made of bytes
-  pub payload-bytes : Bytes (sequenceBytes q)
-  unfolding sequenceBytes
-  payload-bytes = pack-bytes (are-trailed (emittable-puts q g .bits))
-
   -- it is not long
   pub payload-length : length (sequenceBytes q) ≤ 393
   unfolding sequenceBytes
@@ -117,7 +112,7 @@ module _ (q : Sequence) (g : emittable q ≡ true) where
   unfolding parseSequence
   parse-emitted rest small = ap answerOf (sequence-back q _ g (payload-sees rest small) .eq)
 
-  -- and so does parse_sequence_header, within the limit
+  -- README claims it: and so does parse_sequence_header, within the limit
   pub emitted-back : (rest : List ℕ) → length (sequenceBytes q ++ rest) ≤ limit → limited (sequenceBytes q ++ rest) (parseSequence (sequenceBytes q ++ rest)) ≡ accepted q
   emitted-back rest h = within-limit _ _ h ∙ parse-emitted rest (omega arith)
 
@@ -133,20 +128,7 @@ pub parse-emittable : (s : List ℕ) (q : Sequence) → parseSequence s ≡ acce
 unfolding parseSequence
 parse-emittable s q e = let (p, r) = ended q (readSequence s) e in holds (sequence-form s 0) q p r .good
 
--- emittable fields are those that some payload reads as
+-- docs/DIFFERENCES.md claims it: emittable fields are those that some payload reads as
 pub emittable-exact : (q : Sequence) → (emittable q ≡ true → (s : List ℕ) × (parseSequence s ≡ accepted q)) × ((s : List ℕ) → parseSequence s ≡ accepted q → emittable q ≡ true)
 emittable-exact q =
     (λ g. (sequenceBytes q ++ [], parse-emitted q g [] (omega (arith, length-append (sequenceBytes q) [], payload-length q g))), λ s. parse-emittable s q)
-
--- a payload that ends in its own trailing bits is what emitting its fields gives
-pub emit-read : (s : List ℕ) (q : Sequence) (e : ℕ) → Bytes s → readSequence s ≡ reads q e → drop e (unpack s) ≡ bitsOf (trailingWidth e) (trailingBits e) → sequenceBytes q ≡ s
-unfolding sequenceBytes trailed
-emit-read s q e b r t =
-    let f = holds (sequence-form s 0) q e r in
-    let l = putSequence q [] in
-    let u : unpack s ≡ l ++ bitsOf (trailingWidth e) (trailingBits e) = f .bits ∙ emittable-puts q (f .good) .apart (drop e (unpack s)) ∙ ap (λ x. l ++ x) t in
-    let n = length-append l (bitsOf (trailingWidth e) (trailingBits e)) in
-    let m = length-bits (trailingWidth e) (trailingBits e) in
-    let d = length-drop e (unpack s) in
-    let a : length l ≡ e = omega (arith, ap length u, ap length t) in
-    ap pack (ap (λ j. l ++ bitsOf (trailingWidth j) (trailingBits j)) a ∙ sym u) ∙ pack-unpack s b

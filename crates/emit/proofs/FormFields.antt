@@ -17,7 +17,7 @@ use Rattle.bitio.specs.Uvlc.{leadingZeros, uvlcSuffix, uvlc}
 use Rattle.bitio.specs.Write.{bitsOf, unpack, uvlcZeros, uvlcWidth}
 use Rattle.bitio.proofs.BitLaws.{bit-lt, bits-lt, read-there, read-past, read-wide}
 use Rattle.bitio.proofs.UnpackLaws.{length-unpack, unpack-at}
-use Rattle.bitio.proofs.UvlcFormLaws.{Place, uvlc-place, uvlc-bits}
+use Rattle.bitio.proofs.UvlcFormLaws.{HighestBit, uvlc-place, uvlc-bits}
 use Rattle.header.specs.Fields.{readFlag, readOr, flagOr, uvlcOr}
 use Rattle.emittable.specs.PutFields.{put, putOr, putFlag, putFlagOr, putUvlcOr, fits, fitsOr, flagFitsOr, uvlcFitsOr}
 use Rattle.emit.proofs.PackLaws.{one-bit}
@@ -32,11 +32,11 @@ All P (reads a q) = P a q
 pub record Holds {A : Type 0} (P : A → ℕ → Type 0) (x : Reading A) : Type 0 where
   pub all : All P x
 
-pub held : {A : Type 0} {P : A → ℕ → Type 0} {a : A} {q : ℕ} → P a q → Holds P (reads a q)
-held h = record { all = h }
+pub holds-reads : {A : Type 0} {P : A → ℕ → Type 0} {a : A} {q : ℕ} → P a q → Holds P (reads a q)
+holds-reads h = record { all = h }
 
-pub refuses : {A : Type 0} {P : A → ℕ → Type 0} {k : ℕ} → Holds P (fails k)
-refuses = record { all = tt }
+pub holds-fails : {A : Type 0} {P : A → ℕ → Type 0} {k : ℕ} → Holds P (fails k)
+holds-fails = record { all = tt }
 
 pub holds : {A : Type 0} {P : A → ℕ → Type 0} {x : Reading A} → Holds P x → (a : A) (q : ℕ) → x ≡ reads a q → P a q
 holds {A} {P} h a q e = subst (All P) e (h .all)
@@ -91,13 +91,13 @@ pub bits-form : (s : List ℕ) (p n : ℕ) → Holds (λ v q. Formed s p (fits n
 unfolding fits put
 bits-form s p n =
     elim (decLt 64 n) [
-      | yes w ↦ rw (read-wide s p n w) refuses
+      | yes w ↦ rw (read-wide s p n w) holds-fails
       | no w ↦
           elim (decLt (bitsIn (length s)) (p + n)) [
-            | yes l ↦ rw (read-past s p n l) refuses
+            | yes l ↦ rw (read-past s p n l) holds-fails
             | no l ↦
                 rw (read-there s p n (omega arith) (omega arith))
-                (held (record { good = lt-ltb (bitsAt s p n) (2 ^ n) (bits-lt s p n); bits = bits-seen s p n (omega arith) }))
+                (holds-reads (record { good = lt-ltb (bitsAt s p n) (2 ^ n) (bits-lt s p n); bits = bits-seen s p n (omega arith) }))
           ]
     ]
 
@@ -106,7 +106,7 @@ pub flag-form : (s : List ℕ) (p : ℕ) → Holds (λ v q. Formed s p true (put
 unfolding readFlag putFlag fits put
 flag-form s p =
     holds-then _ (bits-form s p 1) (λ v q h.
-    held (record { good = refl; bits = h .bits ∙ ap (λ b. bitsOf 1 b ++ drop q (unpack s)) (byte v (ltb-true v 2 (h .good))) }))
+    holds-reads (record { good = refl; bits = h .bits ∙ ap (λ b. bitsOf 1 b ++ drop q (unpack s)) (byte v (ltb-true v 2 (h .good))) }))
   where
     byte : (v : ℕ) → v < 2 → v ≡ boolByte (eqb v 1)
     byte zero k = refl
@@ -117,14 +117,14 @@ flag-form s p =
 pub or-form : (s : List ℕ) (p : ℕ) (on : Bool) (n other : ℕ) → Holds (λ v q. Formed s p (fitsOr on n other v) (putOr on n v) q) (readOr s p on n other)
 unfolding fitsOr putOr readOr
 or-form s p true n other = bits-form s p n
-or-form s p false n other = held (record { good = eq-eqb other other refl; bits = refl })
+or-form s p false n other = holds-reads (record { good = eq-eqb other other refl; bits = refl })
 
 -- a flag where on
 pub flag-or-form : (s : List ℕ) (p : ℕ) (on other : Bool) → Holds (λ v q. Formed s p (flagFitsOr on other v) (putFlagOr on v) q) (flagOr s p on other)
 unfolding flagFitsOr putFlagOr flagOr
 flag-or-form s p true other = flag-form s p
-flag-or-form s p false true = held (record { good = refl; bits = refl })
-flag-or-form s p false false = held (record { good = refl; bits = refl })
+flag-or-form s p false true = holds-reads (record { good = refl; bits = refl })
+flag-or-form s p false false = holds-reads (record { good = refl; bits = refl })
 
 -- a flag that is always there
 pub flag-always-form : (s : List ℕ) (p : ℕ) → Holds (λ v q. Formed s p true (putFlag v) q) (flagOr s p true false)
@@ -139,22 +139,22 @@ Zeros s p limit z q = (z < limit) × (drop p (unpack s) ≡ replicate z 0 ++ (1 
 
 zeros-form : (limit : ℕ) (s : List ℕ) (p : ℕ) → Holds (λ z q. Zeros s p limit z q) (leadingZeros limit s p)
 unfolding leadingZeros fits put
-zeros-form zero s p = refuses
+zeros-form zero s p = holds-fails
 zeros-form (suc limit) s p =
     holds-then _ (bits-form s p 1) (λ b q h.
     bit (eqb b 1) b q refl (h .bits) (ltb-true b 2 (h .good)) (zeros-form limit s q))
   where
     bit : (t : Bool) (b q : ℕ) → eqb b 1 ≡ t → drop p (unpack s) ≡ bitsOf 1 b ++ drop q (unpack s) → b < 2 → Holds (λ z r. Zeros s q limit z r) (leadingZeros limit s q)
         → Holds (λ z r. Zeros s p (suc limit) z r) (pick t (reads 0 q) (andThen (leadingZeros limit s q) (λ z r. reads (suc z) r)))
-    bit true b q e h l more = held (omega arith, h ∙ ap (λ x. x ++ drop q (unpack s)) (one-bit b l ∙ ap (λ x. x ∷ []) (eqb-true b 1 e)))
+    bit true b q e h l more = holds-reads (omega arith, h ∙ ap (λ x. x ++ drop q (unpack s)) (one-bit b l ∙ ap (λ x. x ∷ []) (eqb-true b 1 e)))
     bit false b q e h l more =
         let n = eqb-false b 1 e in
         let o : b ≡ 0 = omega arith in
         holds-then _ more (λ z r k.
-        held (omega arith, h ∙ ap (λ x. x ++ drop q (unpack s)) (one-bit b l ∙ ap (λ x. x ∷ []) o) ∙ ap (λ x. 0 ∷ x) (k .1)))
+        holds-reads (omega arith, h ∙ ap (λ x. x ++ drop q (unpack s)) (one-bit b l ∙ ap (λ x. x ∷ []) o) ∙ ap (λ x. 0 ∷ x) (k .1)))
 
 -- the highest bit has one place
-same-place : (x y z : ℕ) → Place x y → Place x z → y ≡ z
+same-place : (x y z : ℕ) → HighestBit x y → HighestBit x z → y ≡ z
 same-place x y z a b =
     elim (decLt y z) [
       | yes l ↦ absurd (omega (arith, pow-mono {i = y + 1} {j = z} (omega arith), a .below, b .above))
@@ -196,9 +196,9 @@ suffix-form s p z r x q a b =
     }
 
 -- no uvlc
-uvlc-off : (s : List ℕ) (p : ℕ) → Formed s p (uvlcFitsOr false 0) (putUvlcOr false 0) p
+uvlc-off-form : (s : List ℕ) (p : ℕ) → Formed s p (uvlcFitsOr false 0) (putUvlcOr false 0) p
 unfolding uvlcFitsOr putUvlcOr
-uvlc-off s p = record { good = refl; bits = refl }
+uvlc-off-form s p = record { good = refl; bits = refl }
 
 -- uvlc where on
 pub uvlc-or-form : (s : List ℕ) (p : ℕ) (on : Bool) → Holds (λ v q. Formed s p (uvlcFitsOr on v) (putUvlcOr on v) q) (uvlcOr 32 s p on)
@@ -207,5 +207,5 @@ uvlc-or-form s p true =
     holds-then _ (zeros-form 32 s p) (λ z r a.
     rw (lt-leb 32 z (a .0))
     (holds-then _ (bits-form s r z) (λ x q b.
-    held (suffix-form s p z r x q a b))))
-uvlc-or-form s p false = held (uvlc-off s p)
+    holds-reads (suffix-form s p z r x q a b))))
+uvlc-or-form s p false = holds-reads (uvlc-off-form s p)

@@ -11,7 +11,7 @@ use Rattle.header.specs.SequenceRules.{ours}
 use Rattle.header.specs.SequenceOpening.{timingInfo, decoderModelInfo, opening}
 use Rattle.emittable.specs.PutSequence.{putTiming, putModel, putOpening}
 use Rattle.emittable.specs.Emittable.{timingFits, modelFits, openingFits}
-use Rattle.emit.proofs.FormFields.{Holds, held, refuses, holds-then, Formed, formed-then, formed-also, bits-form, flag-form, or-form, flag-or-form, uvlc-or-form}
+use Rattle.emit.proofs.FormFields.{Holds, holds-reads, holds-fails, holds-then, Formed, formed-then, formed-also, bits-form, flag-form, or-form, flag-or-form, uvlc-or-form}
 
 -- AV1 5.5.3 timing_info
 pub timing-form : (s : List ℕ) (p : ℕ) (full : Bool) → Holds (λ t q. Formed s p (timingFits full t) (putTiming full t) q) (timingInfo ours s p full)
@@ -22,7 +22,7 @@ timing-form s p full =
     holds-then _ (or-form _ _ _ _ _) (λ v p f3.
     holds-then _ (flag-or-form _ _ _ _) (λ v p f4.
     holds-then _ (uvlc-or-form _ _ _) (λ v p f5.
-    held (formed-then (formed-then (formed-then (formed-then f1 f2) f3) f4) f5))))))
+    holds-reads (formed-then (formed-then (formed-then (formed-then f1 f2) f3) f4) f5))))))
 
 -- AV1 5.5.4 decoder_model_info
 pub model-form : (s : List ℕ) (p : ℕ) (timed : Bool) → Holds (λ m q. Formed s p (modelFits timed m) (putModel timed m) q) (decoderModelInfo s p timed)
@@ -33,11 +33,11 @@ model-form s p timed =
     holds-then _ (or-form _ _ _ _ _) (λ v p f3.
     holds-then _ (or-form _ _ _ _ _) (λ v p f4.
     holds-then _ (or-form _ _ _ _ _) (λ v p f5.
-    held (formed-then (formed-then (formed-then (formed-then f1 f2) f3) f4) f5))))))
+    holds-reads (formed-then (formed-then (formed-then (formed-then f1 f2) f3) f4) f5))))))
 
 -- what a condition does not refuse
 unless : {A : Type 0} {P : A → ℕ → Type 0} (t : Bool) (k : ℕ) (x : Reading A) → (t ≡ false → Holds P x) → Holds P (pick t (fails k) x)
-unless true k x h = refuses
+unless true k x h = holds-fails
 unless false k x h = h refl
 
 -- a profile that is not refused is up to 2
@@ -56,4 +56,4 @@ opening-form s p =
     holds-then _ (model-form _ _ _) (λ v p f5.
     holds-then _ (flag-or-form _ _ _ _) (λ v p f6.
     holds-then _ (or-form _ _ _ _ _) (λ v p f7.
-    held (formed-then (formed-then (formed-then (formed-then (formed-also (formed-also (profile-form profile e f1) f2) f3) f4) f5) f6) f7)))))))))
+    holds-reads (formed-then (formed-then (formed-then (formed-then (formed-also (formed-also (profile-form profile e f1) f2) f3) f4) f5) f6) f7)))))))))

@@ -13,7 +13,7 @@ use Rattle.emittable.specs.PutSequence.{putOpening, putSequence}
 use Rattle.emittable.specs.Emittable.{openingFits, emittable}
 use Rattle.header.specs.declared.seq_header.Opening.{Opening}
 use Rattle.header.specs.declared.seq_header.OperatingPoint.{OperatingPoint}
-use Rattle.emit.proofs.FormFields.{Holds, held, holds-then, Formed, formed-then}
+use Rattle.emit.proofs.FormFields.{Holds, holds-reads, holds-then, Formed, formed-then}
 use Rattle.emit.proofs.FormOpening.{opening-form}
 use Rattle.emit.proofs.FormPoints.{points-form}
 use Rattle.emit.proofs.FormCoding.{coding-form}
@@ -29,4 +29,4 @@ sequence-form s p =
     holds-then _ (opening-form _ _) (λ o p f1.
     holds-then _ (points-form _ _ _ _) (λ xs p f2.
     holds-then _ (coding-form _ _ _ _) (λ c p f3.
-    held (formed-then (formed-then (counted o xs (f2 .0) f1) (f2 .1)) f3))))
+    holds-reads (formed-then (formed-then (counted o xs (f2 .0) f1) (f2 .1)) f3))))

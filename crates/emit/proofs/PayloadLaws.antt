@@ -3,7 +3,7 @@ use mathlib.Core.Path.{_≡_, refl, sym, ap, ap₂, _∙_}
 use Prim.Native.Nat.{ℕ, _+_, _*_, _-_, _/_, _%_, _^_, _≤_, _<_}
 use native.Mathlib.Omega.{arith}
 use native.Mathlib.Decide.{decLt}
-use mathlib.Core.List.{List, [], _++_, append-nil, append-assoc}
+use mathlib.Core.List.{List, [], _++_, append-nil}
 use mathlib.Core.Bool.{Bool, true, false, not}
 use lib.Dec.{leb, eqb}
 use lib.ListN.{length, getD, take, drop, length-take, take-append-drop, List·getD-eq-default}
@@ -21,10 +21,10 @@ use Rattle.header.specs.SequencePoints.{delayBits, pointCount}
 use Rattle.header.specs.Sequence.{Sequence}
 use Rattle.emittable.specs.Emittable.{timingFits, openingFits, emittable}
 use Rattle.emit.specs.Emit.{pack, trailed, sequenceBytes, emitPlaced, emitLent}
-use Rattle.emit.specs.Wrote.{Wrote}
+use Rattle.emit.specs.WroteBits.{WroteBits}
 use Rattle.header.specs.declared.seq_header.TimingInfo.{TimingInfo}
 use Rattle.header.specs.declared.seq_header.Opening.{Opening}
-use Rattle.emittable.proofs.BackFields.{both}
+use Rattle.bitio.proofs.ParseLaws.{and-both}
 use Rattle.emittable.proofs.BackSequence.{opening-delay, opening-count}
 use Rattle.emit.proofs.EmitLaws.{size-widths, coding-size, length-trailed}
 use Rattle.emit.proofs.PackLaws.{pack-unpack}
@@ -40,19 +40,19 @@ uvlc-width false v g = let e = eqb-true v 0 g in omega arith
 timing-ticks : (full : Bool) (t : TimingInfo) → timingFits full t ≡ true → t .«num_ticks_per_picture_minus_1» < 2 ^ 32
 unfolding timingFits
 timing-ticks full t g =
-    let (g, g5) = both _ _ g in
-    let (g, g4) = both _ _ g in
-    let (g, g3) = both _ _ g in
-    let (g1, g2) = both (flagFitsOr full false (t .«timing_info_present»)) _ g in
+    let (g, g5) = and-both _ _ g in
+    let (g, g4) = and-both _ _ g in
+    let (g, g3) = and-both _ _ g in
+    let (g1, g2) = and-both (flagFitsOr full false (t .«timing_info_present»)) _ g in
     uvlc-width (t .«equal_picture_interval») (t .«num_ticks_per_picture_minus_1») g5
 
 opening-ticks : (o : Opening) → openingFits o ≡ true → o .timing .«num_ticks_per_picture_minus_1» < 2 ^ 32
 unfolding openingFits
 opening-ticks o g =
-    let (g, g5) = both _ _ g in
-    let (g, g4) = both _ _ g in
-    let (g, g3) = both _ _ g in
-    let (g1, g2) = both (leb (o .«seq_profile») 2) _ g in
+    let (g, g5) = and-both _ _ g in
+    let (g, g4) = and-both _ _ g in
+    let (g, g3) = and-both _ _ g in
+    let (g1, g2) = and-both (leb (o .«seq_profile») 2) _ g in
     timing-ticks (not (o .«reduced_still_picture_header»)) (o .timing) g2
 
 -- what the writers ask of the fields
@@ -66,9 +66,9 @@ pub record Widths (q : Sequence) : Type 0 where
 pub widths : (q : Sequence) → emittable q ≡ true → Widths q
 unfolding emittable
 widths q g =
-    let (g, g4) = both _ _ g in
-    let (g, g3) = both _ _ g in
-    let (g1, g2) = both (openingFits (q .header .opening)) (eqb (length (q .points)) (pointCount (q .header .opening))) g in
+    let (g, g4) = and-both _ _ g in
+    let (g, g3) = and-both _ _ g in
+    let (g1, g2) = and-both (openingFits (q .header .opening)) (eqb (length (q .points)) (pointCount (q .header .opening))) g in
     let z = size-widths (q .header .coding .size) (coding-size (q .header .opening .«seq_profile») (not (q .header .opening .«reduced_still_picture_header»)) (q .header .coding) g4) in
     record {
       ticks = opening-ticks (q .header .opening) g1;
@@ -109,8 +109,8 @@ module _ (n : ℕ) (s : List ℕ) (b : Bytes s) where
   drop-bytes : Bytes (drop n s)
   drop-bytes i = rw (getD-drop n s i 0) (b (n + i))
 
-module _ (q : Sequence) {d e f : List ℕ} {p r : ℕ} (room : 400 ≤ length d) (a : Wrote d 0 e p 3141 (putSequence q))
-    (b : Wrote e p f r 8 (put (trailingWidth p) (trailingBits p))) (was : Bytes d) (is : Bytes f) where
+module _ (q : Sequence) {d e f : List ℕ} {p r : ℕ} (room : 400 ≤ length d) (a : WroteBits d 0 e p 3141 (putSequence q))
+    (b : WroteBits e p f r 8 (put (trailingWidth p) (trailingBits p))) (was : Bytes d) (is : Bytes f) where
   fields-bits : take p (unpack e) ≡ putSequence q []
   fields-bits = sym (append-nil (take p (unpack e))) ∙ a .adds []
 
@@ -165,8 +165,8 @@ unfolding pasted
 payload-part z xs {n = n} e p = ap (take (n - 0)) p ∙ take-at xs (drop (0 + length xs) z) (n - 0) (omega arith)
 
 -- the sections, one after the other
-pub sections : (q : Sequence) {d e f g : List ℕ} {p₁ p₂ p₃ : ℕ} → Wrote d 0 e p₁ 190 (putOpening (q .header .opening)) → Wrote e p₁ f p₂ 2848 (putPoints (q .header .opening) (q .points))
-    → Wrote f p₂ g p₃ 103 (putCoding (q .header .opening .«seq_profile») (not (q .header .opening .«reduced_still_picture_header»)) (q .header .coding)) → Wrote d 0 g p₃ 3141 (putSequence q)
+pub sections : (q : Sequence) {d e f g : List ℕ} {p₁ p₂ p₃ : ℕ} → WroteBits d 0 e p₁ 190 (putOpening (q .header .opening)) → WroteBits e p₁ f p₂ 2848 (putPoints (q .header .opening) (q .points))
+    → WroteBits f p₂ g p₃ 103 (putCoding (q .header .opening .«seq_profile») (not (q .header .opening .«reduced_still_picture_header»)) (q .header .coding)) → WroteBits d 0 g p₃ 3141 (putSequence q)
 unfolding putSequence
 sections q a b c = wrote-as 3141 (omega arith) (λ l. refl) (wrote-then (wrote-then a b) c)
 

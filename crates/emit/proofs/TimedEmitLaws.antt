@@ -12,12 +12,12 @@ use Rattle.emittable.specs.PutFields.{fits, fitsOr, flagFitsOr, uvlcFitsOr}
 use Rattle.header.specs.SequencePoints.{pointCount}
 use Rattle.header.specs.Sequence.{Sequence, parseSequence}
 use Rattle.emittable.specs.Emittable.{timingFits, modelFits, openingFits, pointFits, pointsFit, emittable}
-use Rattle.emit.specs.Emit.{sequenceBytes, emitted}
-use Rattle.header.specs.Timed.{atLeastOne, rate, retimed, withTiming, timedSequence}
+use Rattle.emit.specs.Emit.{sequenceBytes}
+use Rattle.header.specs.Timed.{atLeastOne, rate, retimed, withTiming, timedAt}
 use Rattle.header.specs.declared.seq_header.DecoderModelInfo.{DecoderModelInfo}
 use Rattle.header.specs.declared.seq_header.Opening.{Opening}
 use Rattle.header.specs.declared.seq_header.OperatingPoint.{OperatingPoint}
-use Rattle.emittable.proofs.BackFields.{both}
+use Rattle.bitio.proofs.ParseLaws.{and-both}
 use Rattle.emit.proofs.EmitLaws.{parse-emittable, parse-emitted}
 
 -- two conditions that hold
@@ -47,20 +47,20 @@ any-flag v = refl
 model-timed : (timed : Bool) (m : DecoderModelInfo) → modelFits timed m ≡ true → modelFits true m ≡ true
 unfolding modelFits
 model-timed timed m g =
-    let (g, g5) = both _ _ g in
-    let (g, g4) = both _ _ g in
-    let (g, g3) = both _ _ g in
-    let (g1, g2) = both (flagFitsOr timed false (m .«decoder_model_info_present»)) _ g in
+    let (g, g5) = and-both _ _ g in
+    let (g, g4) = and-both _ _ g in
+    let (g, g3) = and-both _ _ g in
+    let (g1, g2) = and-both (flagFitsOr timed false (m .«decoder_model_info_present»)) _ g in
     each (each (each (each (any-flag (m .«decoder_model_info_present»)) g2) g3) g4) g5
 
 -- what stands before the operating points
 opening-timed : (num den : ℕ) (o : Opening) → o .«reduced_still_picture_header» ≡ false → num < 2 ^ 32 → den < 2 ^ 32 → openingFits o ≡ true → openingFits (retimed (rate num den) o) ≡ true
 unfolding openingFits retimed
 opening-timed num den o r a b g =
-    let (g, g5) = both _ _ g in
-    let (g, g4) = both _ _ g in
-    let (g, g3) = both _ _ g in
-    let (g1, g2) = both (leb (o .«seq_profile») 2) _ g in
+    let (g, g5) = and-both _ _ g in
+    let (g, g4) = and-both _ _ g in
+    let (g, g3) = and-both _ _ g in
+    let (g1, g2) = and-both (leb (o .«seq_profile») 2) _ g in
     each (each (each (each g1 timing) (model-timed (o .timing .«timing_info_present») (o .model) g3)) g4) g5
   where
     timing : timingFits (not (o .«reduced_still_picture_header»)) (rate num den) ≡ true
@@ -74,20 +74,15 @@ points-timed num den o (x ∷ xs) = ap (λ b. pointFits o x && b) (points-timed 
 
 module _ (num den : ℕ) (q : Sequence) (full : q .header .opening .«reduced_still_picture_header» ≡ false) (a : num < 2 ^ 32) (b : den < 2 ^ 32) where
   -- an emittable header that is not reduced is emittable with its timing, whatever timing it had
-  pub timed-emittable : emittable q ≡ true → emittable (timedSequence num den q) ≡ true
+  pub timed-emittable : emittable q ≡ true → emittable (timedAt num den q) ≡ true
   unfolding emittable withTiming retimed
   timed-emittable g =
-      let (g, g4) = both _ _ g in
-      let (g, g3) = both _ _ g in
-      let (g1, g2) = both (openingFits (q .header .opening)) (eqb (length (q .points)) (pointCount (q .header .opening))) g in
+      let (g, g4) = and-both _ _ g in
+      let (g, g3) = and-both _ _ g in
+      let (g1, g2) = and-both (openingFits (q .header .opening)) (eqb (length (q .points)) (pointCount (q .header .opening))) g in
       each (each (each (opening-timed num den (q .header .opening) full a b g1) g2) (points-timed num den (q .header .opening) (q .points) ∙ g3)) g4
 
-  -- a header that was read is emitted with its timing
-  pub timed-emitted : (s : List ℕ) → parseSequence s ≡ accepted q → emitted (timedSequence num den q) ≡ accepted (sequenceBytes (timedSequence num den q))
-  unfolding emitted
-  timed-emitted s e = rw (timed-emittable (parse-emittable s q e))
-
   -- emitted, it is read back as itself timed, whatever bytes stand behind
-  pub timed-back : (s rest : List ℕ) → parseSequence s ≡ accepted q → 8 * length (sequenceBytes (timedSequence num den q) ++ rest) < 2 ^ 64
-      → parseSequence (sequenceBytes (timedSequence num den q) ++ rest) ≡ accepted (timedSequence num den q)
-  timed-back s rest e small = parse-emitted (timedSequence num den q) (timed-emittable (parse-emittable s q e)) rest small
+  pub timed-back : (s rest : List ℕ) → parseSequence s ≡ accepted q → 8 * length (sequenceBytes (timedAt num den q) ++ rest) < 2 ^ 64
+      → parseSequence (sequenceBytes (timedAt num den q) ++ rest) ≡ accepted (timedAt num den q)
+  timed-back s rest e small = parse-emitted (timedAt num den q) (timed-emittable (parse-emittable s q e)) rest small

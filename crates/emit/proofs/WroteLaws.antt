@@ -17,12 +17,12 @@ use Rattle.bitio.proofs.UvlcFormLaws.{uvlc-most}
 use Rattle.bitio.proofs.WriteLaws.{put-length, unpack-put, placed-there, lent-there}
 use Rattle.emittable.specs.PutFields.{put, putOr, putFlag, putFlagOr, putUvlcOr}
 use Rattle.emittable.specs.PutSequence.{putPoint, putPoints}
-use Rattle.emit.specs.Wrote.{Wrote}
+use Rattle.emit.specs.WroteBits.{WroteBits}
 use Rattle.header.specs.declared.seq_header.Opening.{Opening}
 use Rattle.header.specs.declared.seq_header.OperatingPoint.{OperatingPoint}
 
 -- nothing
-pub wrote-none : (d : List ℕ) (p n : ℕ) → Wrote d p d p n (λ l. l)
+pub wrote-none : (d : List ℕ) (p n : ℕ) → WroteBits d p d p n (λ l. l)
 wrote-none d p n = record { len = refl; on = omega arith; near = omega arith; adds = λ l. refl; rest = refl }
 
 -- what is the same from q on is the same from r on
@@ -32,7 +32,7 @@ later x y {q} {r} h e =
     ap (λ j. drop j x) (sym k) ∙ sym (drop-drop (r - q) q x) ∙ ap (drop (r - q)) e ∙ drop-drop (r - q) q y ∙ ap (λ j. drop j y) k
 
 -- one field after the other
-pub wrote-then : {d e g : List ℕ} {p q r a b : ℕ} {f h : List ℕ → List ℕ} → Wrote d p e q a f → Wrote e q g r b h → Wrote d p g r (a + b) (λ l. f (h l))
+pub wrote-then : {d e g : List ℕ} {p q r a b : ℕ} {f h : List ℕ → List ℕ} → WroteBits d p e q a f → WroteBits e q g r b h → WroteBits d p g r (a + b) (λ l. f (h l))
 wrote-then {d} {e} {h = h} x y =
     record {
       len = y .len ∙ x .len;
@@ -43,13 +43,13 @@ wrote-then {d} {e} {h = h} x y =
     }
 
 -- as many bits or more, said another way
-pub wrote-as : {d e : List ℕ} {p q a : ℕ} (b : ℕ) {f g : List ℕ → List ℕ} → a ≤ b → ((l : List ℕ) → f l ≡ g l) → Wrote d p e q a f → Wrote d p e q b g
+pub wrote-as : {d e : List ℕ} {p q a : ℕ} (b : ℕ) {f g : List ℕ → List ℕ} → a ≤ b → ((l : List ℕ) → f l ≡ g l) → WroteBits d p e q a f → WroteBits d p e q b g
 wrote-as {d} {p = p} b h e x =
     record { len = x .len; on = x .on; near = omega (arith, x .near); adds = λ l. x .adds l ∙ ap (λ y. take p (unpack d) ++ y) (e l); rest = x .rest }
 
 -- what was written so far, its ends and its bits left for antt to find
 abbrev pub Run : Type 0
-Run = (d : List ℕ) × (p : ℕ) × (e : List ℕ) × (q : ℕ) × (n : ℕ) × (f : List ℕ → List ℕ) × Wrote d p e q n f
+Run = (d : List ℕ) × (p : ℕ) × (e : List ℕ) × (q : ℕ) × (n : ℕ) × (f : List ℕ → List ℕ) × WroteBits d p e q n f
 
 -- with room the writer does not refuse
 module _ (d : List ℕ) (p n : ℕ) (room : p + n ≤ bitsIn (length d)) where
@@ -60,7 +60,7 @@ module _ (d : List ℕ) (p n : ℕ) (room : p + n ≤ bitsIn (length d)) where
       omega arith
 
   -- and stands behind what it has written
-  pub wrote-bits : {e : List ℕ} {q : ℕ} (v : ℕ) → accepted q ≡ bitsPlaced d p n → e ≡ bitsLent d p v n → Wrote d p e q n (put n v)
+  pub wrote-bits : {e : List ℕ} {q : ℕ} (v : ℕ) → accepted q ≡ bitsPlaced d p n → e ≡ bitsLent d p v n → WroteBits d p e q n (put n v)
   unfolding put
   wrote-bits {e} {q} v s t =
       let at : q ≡ p + n = let f = placed-there d p n room in cc in
@@ -86,35 +86,35 @@ module _ (d : List ℕ) (p v : ℕ) (room : p + 65 ≤ bitsIn (length d)) where
   pub never-full-uvlc : refused 35 ≡ bitsPlaced d p (uvlcWidth v) → ⊥
   never-full-uvlc = never-full d p (uvlcWidth v) uvlc-room
 
-  pub wrote-uvlc : {e : List ℕ} {q : ℕ} → accepted q ≡ bitsPlaced d p (uvlcWidth v) → e ≡ bitsLent d p (v + 1) (uvlcWidth v) → Wrote d p e q 65 (putUvlcOr true v)
+  pub wrote-uvlc : {e : List ℕ} {q : ℕ} → accepted q ≡ bitsPlaced d p (uvlcWidth v) → e ≡ bitsLent d p (v + 1) (uvlcWidth v) → WroteBits d p e q 65 (putUvlcOr true v)
   unfolding putUvlcOr
   wrote-uvlc s t = let h = uvlc-most v in wrote-as 65 (omega arith) (λ l. refl) (wrote-bits d p (uvlcWidth v) uvlc-room (v + 1) s t)
 
 -- ---- a field that is there, or not
 
 module _ {d e : List ℕ} {p q n : ℕ} (on : Bool) (v : ℕ) where
-  pub or-on : on ≡ true → Wrote d p e q n (put n v) → Wrote d p e q n (putOr on n v)
+  pub or-on : on ≡ true → WroteBits d p e q n (put n v) → WroteBits d p e q n (putOr on n v)
   unfolding putOr
   or-on t x = wrote-as n (omega arith) (λ l. rw t) x
 
-  pub uvlc-on : on ≡ true → Wrote d p e q n (putUvlcOr true v) → Wrote d p e q n (putUvlcOr on v)
+  pub uvlc-on : on ≡ true → WroteBits d p e q n (putUvlcOr true v) → WroteBits d p e q n (putUvlcOr on v)
   unfolding putUvlcOr
   uvlc-on t x = wrote-as n (omega arith) (λ l. rw t) x
 
-pub flag-on : {d e : List ℕ} {p q n : ℕ} (on v : Bool) → on ≡ true → Wrote d p e q n (putFlag v) → Wrote d p e q n (putFlagOr on v)
+pub flag-on : {d e : List ℕ} {p q n : ℕ} (on v : Bool) → on ≡ true → WroteBits d p e q n (putFlag v) → WroteBits d p e q n (putFlagOr on v)
 unfolding putFlagOr
 flag-on {n = n} on v t x = wrote-as n (omega arith) (λ l. rw t) x
 
 module _ (d : List ℕ) (p n : ℕ) (on : Bool) (t : on ≡ false) where
-  pub or-off : (m v : ℕ) → Wrote d p d p n (putOr on m v)
+  pub or-off : (m v : ℕ) → WroteBits d p d p n (putOr on m v)
   unfolding putOr
   or-off m v = wrote-as n (omega arith) (λ l. rw t) (wrote-none d p n)
 
-  pub flag-off : (v : Bool) → Wrote d p d p n (putFlagOr on v)
+  pub flag-off : (v : Bool) → WroteBits d p d p n (putFlagOr on v)
   unfolding putFlagOr
   flag-off v = wrote-as n (omega arith) (λ l. rw t) (wrote-none d p n)
 
-  pub uvlc-off : (v : ℕ) → Wrote d p d p n (putUvlcOr on v)
+  pub uvlc-off : (v : ℕ) → WroteBits d p d p n (putUvlcOr on v)
   unfolding putUvlcOr
   uvlc-off v = wrote-as n (omega arith) (λ l. rw t) (wrote-none d p n)
 
@@ -126,20 +126,20 @@ put-last o [] x l = refl
 put-last o (y ∷ xs) x l = ap (putPoint o y) (put-last o xs x l)
 
 -- none so far
-pub wrote-first : (d : List ℕ) (p : ℕ) (o : Opening) → Wrote d p d p 0 (putPoints o [])
+pub wrote-first : (d : List ℕ) (p : ℕ) (o : Opening) → WroteBits d p d p 0 (putPoints o [])
 unfolding putPoints
 wrote-first d p o = wrote-as 0 (omega arith) (λ l. refl) (wrote-none d p 0)
 
 -- one more
 pub wrote-point : {d e g : List ℕ} {p q r : ℕ} (o : Opening) (xs : List OperatingPoint) (x : OperatingPoint) (i : ℕ) → i < length xs
-    → Wrote d p e q (89 * i) (putPoints o (take i xs)) → Wrote e q g r 89 (putPoint o (getD xs i x)) → Wrote d p g r (89 * (i + 1)) (putPoints o (take (i + 1) xs))
+    → WroteBits d p e q (89 * i) (putPoints o (take i xs)) → WroteBits e q g r 89 (putPoint o (getD xs i x)) → WroteBits d p g r (89 * (i + 1)) (putPoints o (take (i + 1) xs))
 wrote-point o xs x i h a b =
     wrote-as (89 * (i + 1)) (omega arith)
     (λ l. put-last o (take i xs) (getD xs i x) l ∙ ap (λ ys. putPoints o ys l) (sym (ap (λ j. take j xs) (add-one i) ∙ take-suc xs i x h)))
     (wrote-then a b)
 
 -- all
-pub wrote-points : {d e : List ℕ} {p q : ℕ} (o : Opening) (xs : List OperatingPoint) (i n : ℕ) → i ≡ n → n ≤ 32 → Wrote d p e q (89 * i) (putPoints o (take i xs)) → Wrote d p e q 2848 (putPoints o (take n xs))
+pub wrote-points : {d e : List ℕ} {p q : ℕ} (o : Opening) (xs : List OperatingPoint) (i n : ℕ) → i ≡ n → n ≤ 32 → WroteBits d p e q (89 * i) (putPoints o (take i xs)) → WroteBits d p e q 2848 (putPoints o (take n xs))
 wrote-points o xs i n e h a = wrote-as 2848 (omega arith) (λ l. ap (λ j. putPoints o (take j xs) l) e) a
 
 -- ---- trailing bits
@@ -152,5 +152,5 @@ module _ (d : List ℕ) (p : ℕ) (room : p + 8 ≤ bitsIn (length d)) where
   never-full-trailing = never-full d p (trailingWidth p) trailing-room
 
   pub wrote-trailing : {e : List ℕ} {q : ℕ} → accepted q ≡ bitsPlaced d p (trailingWidth p) → e ≡ bitsLent d p (trailingBits p) (trailingWidth p)
-      → Wrote d p e q 8 (put (trailingWidth p) (trailingBits p))
+      → WroteBits d p e q 8 (put (trailingWidth p) (trailingBits p))
   wrote-trailing s t = wrote-as 8 (omega arith) (λ l. refl) (wrote-bits d p (trailingWidth p) trailing-room (trailingBits p) s t)

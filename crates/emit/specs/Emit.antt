@@ -1,7 +1,7 @@
 -- A sequence header as a payload, and that in lent memory.
 use Prim.Native.Nat.{ℕ, zero, suc, _+_, _*_, _/_, _^_}
 use mathlib.Core.List.{List, [], _∷_, _++_}
-use mathlib.Core.Bool.{Bool, cond as pick}
+use mathlib.Core.Bool.{cond as pick}
 use lib.ListN.{length, take, drop}
 use Rattle.bitio.specs.Parse.{Answer, refused, accepted}
 use Rattle.bitio.specs.Lent.{placed, lent}

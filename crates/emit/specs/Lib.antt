@@ -1,2 +1,2 @@
 pub mod Emit
-pub mod Wrote
+pub mod WroteBits

@@ -19,7 +19,8 @@ use Rattle.header.specs.declared.seq_header.Filters.{Filters}
 use Rattle.header.specs.declared.seq_header.ColorDescription.{ColorDescription}
 use Rattle.header.specs.declared.seq_header.ColorSampling.{ColorSampling}
 use Rattle.header.specs.declared.seq_header.Coding.{Coding}
-use Rattle.emittable.proofs.BackFields.{both, Back, done, next, bits-back, flag-back, or-back, flag-or-back, flag-always-back}
+use Rattle.emittable.proofs.BackFields.{Back, done, next, bits-back, flag-back, or-back, flag-or-back, flag-always-back}
+use Rattle.bitio.proofs.ParseLaws.{and-both}
 
 -- a width of four bits, and one more
 width : (n : ℕ) → fits 4 n ≡ true → n + 1 ≤ 64
@@ -30,9 +31,9 @@ width n g = let h = ltb-true n 16 g in omega arith
 pub size-back : (z : FrameSize) (l : List ℕ) {s : List ℕ} {p : ℕ} → sizeFits z ≡ true → Sees s p (putSize z l) → Back s (frameSize s p) z l
 unfolding putSize sizeFits frameSize
 size-back z l g k =
-    let (g, g4) = both _ _ g in
-    let (g, g3) = both _ _ g in
-    let (g1, g2) = both _ _ g in
+    let (g, g4) = and-both _ _ g in
+    let (g, g3) = and-both _ _ g in
+    let (g1, g2) = and-both _ _ g in
     next _ _ (bits-back _ _ _ g1 (omega arith) k) (λ p k.
     next _ _ (bits-back _ _ _ g2 (omega arith) k) (λ p k.
     next _ _ (bits-back _ _ _ g3 (width _ g1) k) (λ p k.
@@ -43,8 +44,8 @@ size-back z l g k =
 pub ids-back : (full : Bool) (i : FrameIds) (l : List ℕ) {s : List ℕ} {p : ℕ} → idsFit full i ≡ true → Sees s p (putIds full i l) → Back s (frameIds s p full) i l
 unfolding putIds idsFit frameIds
 ids-back full i l g k =
-    let (g, g3) = both _ _ g in
-    let (g1, g2) = both _ _ g in
+    let (g, g3) = and-both _ _ g in
+    let (g1, g2) = and-both _ _ g in
     next _ _ (flag-or-back _ _ _ _ g1 k) (λ p k.
     next _ _ (or-back _ _ _ _ _ g2 (omega arith) k) (λ p k.
     next _ _ (or-back _ _ _ _ _ g3 (omega arith) k) (λ p k.
@@ -54,12 +55,12 @@ ids-back full i l g k =
 pub tools-back : (full : Bool) (t : Tools) (l : List ℕ) {s : List ℕ} {p : ℕ} → toolsFit full t ≡ true → Sees s p (putTools full t l) → Back s (codingTools s p full) t l
 unfolding putTools toolsFit codingTools
 tools-back full t l g k =
-    let (g, g7) = both _ _ g in
-    let (g, g6) = both _ _ g in
-    let (g, g5) = both _ _ g in
-    let (g, g4) = both _ _ g in
-    let (g, g3) = both _ _ g in
-    let (g1, g2) = both _ _ g in
+    let (g, g7) = and-both _ _ g in
+    let (g, g6) = and-both _ _ g in
+    let (g, g5) = and-both _ _ g in
+    let (g, g4) = and-both _ _ g in
+    let (g, g3) = and-both _ _ g in
+    let (g1, g2) = and-both _ _ g in
     next _ _ (flag-back _ _ k) (λ p k.
     next _ _ (flag-back _ _ k) (λ p k.
     next _ _ (flag-back _ _ k) (λ p k.
@@ -76,10 +77,10 @@ tools-back full t l g k =
 pub screen-back : (full hint : Bool) (t : ScreenTools) (l : List ℕ) {s : List ℕ} {p : ℕ} → screenFits full hint t ≡ true → Sees s p (putScreen full hint t l) → Back s (screenTools s p full hint) t l
 unfolding putScreen screenFits screenTools
 screen-back full hint t l g k =
-    let (g, g5) = both _ _ g in
-    let (g, g4) = both _ _ g in
-    let (g, g3) = both _ _ g in
-    let (g1, g2) = both _ _ g in
+    let (g, g5) = and-both _ _ g in
+    let (g, g4) = and-both _ _ g in
+    let (g, g3) = and-both _ _ g in
+    let (g1, g2) = and-both _ _ g in
     next _ _ (flag-or-back _ _ _ _ g1 k) (λ p k.
     next _ _ (or-back _ _ _ _ _ g2 (omega arith) k) (λ p k.
     next _ _ (flag-or-back _ _ _ _ g3 k) (λ p k.
@@ -100,10 +101,10 @@ filters-back f l k =
 pub color-back : (profile : ℕ) (c : ColorDescription) (l : List ℕ) {s : List ℕ} {p : ℕ} → colorFits profile c ≡ true → Sees s p (putColor profile c l) → Back s (colorDescription s p profile) c l
 unfolding putColor colorFits colorDescription
 color-back profile c l g k =
-    let (g, g5) = both _ _ g in
-    let (g, g4) = both _ _ g in
-    let (g, g3) = both _ _ g in
-    let (g1, g2) = both _ _ g in
+    let (g, g5) = and-both _ _ g in
+    let (g, g4) = and-both _ _ g in
+    let (g, g3) = and-both _ _ g in
+    let (g1, g2) = and-both _ _ g in
     next _ _ (flag-back _ _ k) (λ p k.
     next _ _ (flag-or-back _ _ _ _ g1 k) (λ p k.
     next _ _ (flag-or-back _ _ _ _ g2 k) (λ p k.
@@ -117,9 +118,9 @@ color-back profile c l g k =
 pub sampling-back : (profile : ℕ) (c : ColorDescription) (m : ColorSampling) (l : List ℕ) {s : List ℕ} {p : ℕ} → samplingFits profile c m ≡ true → Sees s p (putSampling profile c m l) → Back s (colorSampling ours s p profile c) m l
 unfolding putSampling samplingFits colorSampling
 sampling-back profile c m l g k =
-    let (g, g4) = both _ _ g in
-    let (g, g3) = both _ _ g in
-    let (g1, g2) = both _ _ g in
+    let (g, g4) = and-both _ _ g in
+    let (g, g3) = and-both _ _ g in
+    let (g1, g2) = and-both _ _ g in
     next _ _ (flag-or-back _ _ _ _ g1 k) (λ p k.
     next _ _ (flag-or-back _ _ _ _ g2 k) (λ p k.
     next _ _ (flag-or-back _ _ _ _ g3 k) (λ p k.
@@ -131,11 +132,11 @@ sampling-back profile c m l g k =
 pub coding-back : (profile : ℕ) (full : Bool) (c : Coding) (l : List ℕ) {s : List ℕ} {p : ℕ} → codingFits profile full c ≡ true → Sees s p (putCoding profile full c l) → Back s (coding ours s p profile full) c l
 unfolding putCoding codingFits coding
 coding-back profile full c l g k =
-    let (g, g6) = both _ _ g in
-    let (g, g5) = both _ _ g in
-    let (g, g4) = both _ _ g in
-    let (g, g3) = both _ _ g in
-    let (g1, g2) = both _ _ g in
+    let (g, g6) = and-both _ _ g in
+    let (g, g5) = and-both _ _ g in
+    let (g, g4) = and-both _ _ g in
+    let (g, g3) = and-both _ _ g in
+    let (g1, g2) = and-both _ _ g in
     next _ _ (size-back _ _ g1 k) (λ p k.
     next _ _ (ids-back _ _ _ g2 k) (λ p k.
     next _ _ (tools-back _ _ _ g3 k) (λ p k.

@@ -3,7 +3,7 @@ use mathlib.Core.Path.{_≡_, refl, sym, ap, _∙_}
 use Prim.Native.Nat.{ℕ, _+_, _-_, _^_, _≤_}
 use native.Mathlib.Omega.{arith}
 use mathlib.Core.List.{List}
-use mathlib.Core.Bool.{Bool, true, false, not, _&&_, cond as pick}
+use mathlib.Core.Bool.{Bool, true, false, not, cond as pick}
 use borrow.Author.Tests.{ltb-true, eqb-true}
 use Rattle.bitio.specs.Bits.{Reading, reads, andThen, readBits}
 use Rattle.bitio.specs.Write.{uvlcWidth}
@@ -11,11 +11,6 @@ use Rattle.bitio.proofs.SeesLaws.{Sees, sees-bits}
 use Rattle.bitio.proofs.UvlcBackLaws.{sees-uvlc}
 use Rattle.header.specs.Fields.{readFlag, readOr, flagOr, uvlcOr}
 use Rattle.emittable.specs.PutFields.{put, putOr, putFlag, putFlagOr, putUvlcOr, fits, fitsOr, flagFitsOr, uvlcFitsOr}
-
--- both of two conditions
-pub both : (a b : Bool) → a && b ≡ true → (a ≡ true) × (b ≡ true)
-both true b e = (refl, e)
-both false b e = let z : _≡_ {A = ℕ} 0 1 = cc in absurd (omega arith)
 
 -- x reads as v, and then l is seen
 pub record Back {A : Type 0} (s : List ℕ) (x : Reading A) (v : A) (l : List ℕ) : Type 0 where

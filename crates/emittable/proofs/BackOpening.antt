@@ -15,16 +15,17 @@ use Rattle.emittable.specs.Emittable.{timingFits, modelFits, openingFits
 use Rattle.header.specs.declared.seq_header.TimingInfo.{TimingInfo}
 use Rattle.header.specs.declared.seq_header.DecoderModelInfo.{DecoderModelInfo}
 use Rattle.header.specs.declared.seq_header.Opening.{Opening}
-use Rattle.emittable.proofs.BackFields.{both, Back, done, next, bits-back, flag-back, or-back, flag-or-back, uvlc-or-back}
+use Rattle.emittable.proofs.BackFields.{Back, done, next, bits-back, flag-back, or-back, flag-or-back, uvlc-or-back}
+use Rattle.bitio.proofs.ParseLaws.{and-both}
 
 -- AV1 5.5.3 timing_info
 pub timing-back : (full : Bool) (t : TimingInfo) (l : List ℕ) {s : List ℕ} {p : ℕ} → timingFits full t ≡ true → Sees s p (putTiming full t l) → Back s (timingInfo ours s p full) t l
 unfolding putTiming timingFits timingInfo
 timing-back full t l g k =
-    let (g, g5) = both _ _ g in
-    let (g, g4) = both _ _ g in
-    let (g, g3) = both _ _ g in
-    let (g1, g2) = both _ _ g in
+    let (g, g5) = and-both _ _ g in
+    let (g, g4) = and-both _ _ g in
+    let (g, g3) = and-both _ _ g in
+    let (g1, g2) = and-both _ _ g in
     next _ _ (flag-or-back _ _ _ _ g1 k) (λ p k.
     next _ _ (or-back _ _ _ _ _ g2 (omega arith) k) (λ p k.
     next _ _ (or-back _ _ _ _ _ g3 (omega arith) k) (λ p k.
@@ -36,10 +37,10 @@ timing-back full t l g k =
 pub model-back : (timed : Bool) (m : DecoderModelInfo) (l : List ℕ) {s : List ℕ} {p : ℕ} → modelFits timed m ≡ true → Sees s p (putModel timed m l) → Back s (decoderModelInfo s p timed) m l
 unfolding putModel modelFits decoderModelInfo
 model-back timed m l g k =
-    let (g, g5) = both _ _ g in
-    let (g, g4) = both _ _ g in
-    let (g, g3) = both _ _ g in
-    let (g1, g2) = both _ _ g in
+    let (g, g5) = and-both _ _ g in
+    let (g, g4) = and-both _ _ g in
+    let (g, g3) = and-both _ _ g in
+    let (g1, g2) = and-both _ _ g in
     next _ _ (flag-or-back _ _ _ _ g1 k) (λ p k.
     next _ _ (or-back _ _ _ _ _ g2 (omega arith) k) (λ p k.
     next _ _ (or-back _ _ _ _ _ g3 (omega arith) k) (λ p k.
@@ -56,10 +57,10 @@ profile-fits n h = lt-ltb n 8 (omega arith)
 pub opening-back : (o : Opening) (l : List ℕ) {s : List ℕ} {p : ℕ} → openingFits o ≡ true → Sees s p (putOpening o l) → Back s (opening ours s p) o l
 unfolding openingFits putOpening opening
 opening-back o l g k =
-    let (g, g5) = both _ _ g in
-    let (g, g4) = both _ _ g in
-    let (g, g3) = both _ _ g in
-    let (g1, g2) = both _ _ g in
+    let (g, g5) = and-both _ _ g in
+    let (g, g4) = and-both _ _ g in
+    let (g, g3) = and-both _ _ g in
+    let (g1, g2) = and-both _ _ g in
     let h = leb-true (o .«seq_profile») 2 g1 in
     let e : ltb 2 (o .«seq_profile») ≡ false = le-ltb 2 (o .«seq_profile») h in
     next _ _ (bits-back _ _ _ (profile-fits _ h) (omega arith) k) (λ p k.

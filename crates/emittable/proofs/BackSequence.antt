@@ -17,7 +17,8 @@ use Rattle.emittable.specs.Emittable.{modelFits, openingFits, pointsFit,
 use Rattle.header.specs.declared.seq_header.DecoderModelInfo.{DecoderModelInfo}
 use Rattle.header.specs.declared.seq_header.Opening.{Opening}
 use Rattle.header.specs.declared.seq_header.OperatingPoint.{OperatingPoint}
-use Rattle.emittable.proofs.BackFields.{both, Back, done, next}
+use Rattle.emittable.proofs.BackFields.{Back, done, next}
+use Rattle.bitio.proofs.ParseLaws.{and-both}
 use Rattle.emittable.proofs.BackOpening.{opening-back}
 use Rattle.emittable.proofs.BackPoints.{points-back}
 use Rattle.emittable.proofs.BackCoding.{coding-back}
@@ -32,19 +33,19 @@ five false v g = let e = eqb-true v 0 g in omega arith
 model-delay : (timed : Bool) (m : DecoderModelInfo) → modelFits timed m ≡ true → m .«buffer_delay_length_minus_1» < 32
 unfolding modelFits
 model-delay timed m g =
-    let (g, g5) = both _ _ g in
-    let (g, g4) = both _ _ g in
-    let (g, g3) = both _ _ g in
-    let (g1, g2) = both (flagFitsOr timed false (m .«decoder_model_info_present»)) _ g in
+    let (g, g5) = and-both _ _ g in
+    let (g, g4) = and-both _ _ g in
+    let (g, g3) = and-both _ _ g in
+    let (g1, g2) = and-both (flagFitsOr timed false (m .«decoder_model_info_present»)) _ g in
     five (m .«decoder_model_info_present») _ g2
 
 pub opening-delay : (o : Opening) → openingFits o ≡ true → delayBits o ≤ 32
 unfolding openingFits
 opening-delay o g =
-    let (g, g5) = both _ _ g in
-    let (g, g4) = both _ _ g in
-    let (g, g3) = both _ _ g in
-    let (g1, g2) = both (leb (o .«seq_profile») 2) _ g in
+    let (g, g5) = and-both _ _ g in
+    let (g, g4) = and-both _ _ g in
+    let (g, g3) = and-both _ _ g in
+    let (g1, g2) = and-both (leb (o .«seq_profile») 2) _ g in
     let h = model-delay (o .timing .«timing_info_present») (o .model) g3 in
     omega arith
 
@@ -52,10 +53,10 @@ opening-delay o g =
 pub opening-count : (o : Opening) → openingFits o ≡ true → pointCount o ≤ 32
 unfolding openingFits
 opening-count o g =
-    let (g, g5) = both _ _ g in
-    let (g, g4) = both _ _ g in
-    let (g, g3) = both _ _ g in
-    let (g1, g2) = both (leb (o .«seq_profile») 2) _ g in
+    let (g, g5) = and-both _ _ g in
+    let (g, g4) = and-both _ _ g in
+    let (g, g3) = and-both _ _ g in
+    let (g1, g2) = and-both (leb (o .«seq_profile») 2) _ g in
     let h = five (not (o .«reduced_still_picture_header»)) (o .«operating_points_cnt_minus_1») g5 in
     omega arith
 
@@ -68,9 +69,9 @@ counted o xs l w e g k = rw (sym e) (points-back o xs l w g k)
 pub sequence-back : (q : Sequence) (l : List ℕ) {s : List ℕ} {p : ℕ} → emittable q ≡ true → Sees s p (putSequence q l) → Back s (sequenceHeader ours s p) q l
 unfolding emittable putSequence sequenceHeader
 sequence-back q l g k =
-    let (g, g4) = both _ _ g in
-    let (g, g3) = both _ _ g in
-    let (g1, g2) = both _ _ g in
+    let (g, g4) = and-both _ _ g in
+    let (g, g3) = and-both _ _ g in
+    let (g1, g2) = and-both _ _ g in
     let d = opening-delay (q .header .opening) g1 in
     let w : delayBits (q .header .opening) ≤ 64 = omega arith in
     next _ _ (opening-back _ _ g1 k) (λ p k.

@@ -115,34 +115,18 @@ module _ (q : Sequence) (s : List ℕ) where
   unfolding parseFrame
   header-is e = answered HeaderIs (frameHeader modelled s 0 q) (header-holds modelled s q 0) e
 
-  -- the slot of show-existing is below 8
-  pub slot-lt : {slot : ℕ} → parseFrame q s ≡ accepted (Existing slot) → slot < 8
-  slot-lt e = header-is e
-
   module _ {f : FrameInfo} (e : parseFrame q s ≡ accepted (Frame f)) where
     is : FrameIs f
     is = header-is e
-
-    -- a frame type is below 4
-    pub type-lt : f .«frame_type» < 4
-    type-lt = is .type
 
     -- refresh flags are below 256
     pub flags-lt : f .«refresh_frame_flags» < 256
     flags-lt = is .flags
 
-    -- a shown key refreshes all slots
-    pub key-flags : f .«frame_type» ≡ keyFrame → f .«show_frame» ≡ true → f .«refresh_frame_flags» ≡ 255
-    key-flags t h = is .all (rw (t, h))
-
-    -- a switch frame refreshes all slots
+    -- a switch frame refreshes all slots, without bits: what must-fail/switch_flags_from_bits would have otherwise
     pub switch-flags : f .«frame_type» ≡ switchFrame → f .«refresh_frame_flags» ≡ 255
     switch-flags t = is .all (rw t)
 
     -- a shown frame that is no key is showable
     pub shown-showable : f .«show_frame» ≡ true → (f .«frame_type» ≡ keyFrame → ⊥) → f .«showable_frame» ≡ true
     shown-showable h t = is .showable h ∙ ap not (ne-eqb _ _ t)
-
-    -- a shown key is not
-    pub key-not-showable : f .«frame_type» ≡ keyFrame → f .«show_frame» ≡ true → f .«showable_frame» ≡ false
-    key-not-showable t h = is .showable h ∙ rw t

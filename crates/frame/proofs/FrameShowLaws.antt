@@ -1,5 +1,5 @@
 -- The payload of a show unit reads as show-existing of its slot.
-use Prim.Native.Nat.{ℕ, _+_, _*_, _/_, _%_, _<_}
+use Prim.Native.Nat.{ℕ, _/_, _%_, _<_}
 use native.Mathlib.Omega.{arith}
 use mathlib.Core.Path.{_≡_, ap, _∙_}
 use mathlib.Core.List.{List, _∷_}
@@ -10,15 +10,11 @@ use Rattle.bitio.proofs.BitLaws.{bits-byte, read-there}
 use Rattle.header.specs.Fields.{readFlag}
 use Rattle.header.specs.Sequence.{Sequence}
 use Rattle.header.specs.Support.{hasPointInfo, support}
-use Rattle.frame.specs.Frame.{showExisting, frameBits, frameHeader, parseFrame}
+use Rattle.frame.specs.Frame.{showByte, showExisting, frameBits, frameHeader, parseFrame}
 use Rattle.header.specs.declared.seq_header.OperatingPoint.{OperatingPoint}
 use Rattle.header.specs.declared.seq_header.SequenceHeader.{SequenceHeader}
 use Rattle.frame.specs.declared.frame_header.FrameHeaderInfo.the-variants.{Existing}
 use Rattle.header.proofs.TimedLaws.{supports}
-
--- show_existing_frame 1, frame_to_show_map_idx in three bits, and trailing bits
-abbrev pub showByte : ℕ → ℕ
-showByte slot = 128 + 16 * slot + 8
 
 module _ (b : ℕ) (rest : List ℕ) where
   -- the first bit

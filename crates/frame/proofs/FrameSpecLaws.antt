@@ -2,7 +2,7 @@
 use Prim.Native.Nat.{ℕ}
 use mathlib.Core.Path.{_≡_, refl, sym, ap, _∙_}
 use mathlib.Core.List.{List}
-use mathlib.Core.Bool.{Bool, true, false, _&&_, true≢false, cond as pick}
+use mathlib.Core.Bool.{Bool, true, false, true≢false, and-true, cond as pick}
 use Rattle.bitio.specs.Bits.{Reading, fails, reads, andThen}
 use Rattle.bitio.specs.Every.{Every, none, also}
 use Rattle.header.specs.Fields.{readFlag, readOr, flagOr}
@@ -58,13 +58,13 @@ module _ (has has' : OperatingPoint → Bool) (s : List ℕ) where
 
   module _ (q : Sequence) where
     -- the removal times at this position are read the same
-    abbrev Same : ℕ → Type 0
-    Same p = bufferRemoval has s p (q .header .opening .model) (q .points) ≡ bufferRemoval has' s p (q .header .opening .model) (q .points)
+    abbrev SameRemoval : ℕ → Type 0
+    SameRemoval p = bufferRemoval has s p (q .header .opening .model) (q .points) ≡ bufferRemoval has' s p (q .header .opening .model) (q .points)
 
     -- so is a frame, if they are wherever its fields lead
     info-same :
         (p : ℕ)
-        → ((f : FrameStart) (r : ℕ) → frameStart s p (hasPointInfo (q .header .opening)) ≡ reads f r → (hint t : ℕ) → orderHint s r (q .header .coding) f ≡ reads hint t → Same t)
+        → ((f : FrameStart) (r : ℕ) → frameStart s p (hasPointInfo (q .header .opening)) ≡ reads f r → (hint t : ℕ) → orderHint s r (q .header .coding) f ≡ reads hint t → SameRemoval t)
         → frameInfo has s p q ≡ frameInfo has' s p q
     unfolding frameInfo
     info-same p same =
@@ -103,10 +103,6 @@ module _ (has has' : OperatingPoint → Bool) (s : List ℕ) where
         header-same 0 (λ r u. info-same r (λ f a g hint t h. flag-same t (q .header .opening .model) (q .points) (λ b k. never b (rw (u, g, h) k))))
 
 -- ---- 01's removal times and AV1's own
-
-and-true : (b : Bool) → b && true ≡ b
-and-true true = refl
-and-true false = refl
 
 module _ (temporal spatial : ℕ) where
   -- a point whose idc is 0 is in every layer

@@ -2,7 +2,6 @@ pub mod FrameChain
 pub mod RemovalLaws
 pub mod FrameLaws
 pub mod FrameShowLaws
-pub mod FrameTimedLaws
 pub mod FrameSpecLaws
 pub mod FrameFromLaws
 pub mod UnitFrameLaws

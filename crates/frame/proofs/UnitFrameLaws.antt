@@ -1,5 +1,5 @@
 -- The frame of a unit, where the unit's frames are counted.
-use Prim.Native.Nat.{ℕ, _<_}
+use Prim.Native.Nat.{ℕ}
 use native.Mathlib.Omega.{arith}
 use mathlib.Core.Path.{_≡_, ap}
 use mathlib.Core.List.{List, []}
@@ -8,10 +8,10 @@ use lib.Dec.{ltb}
 use borrow.Author.Tests.{ne-eqb}
 use Rattle.bitio.specs.Parse.{Answer, refused, accepted, answer, andNext}
 use Rattle.obu.specs.Obu.{Obu, obus}
-use Rattle.obu.specs.Unit.{count, firstPayload, ofUnit}
+use Rattle.obu.specs.Unit.{isFrame, count, firstPayload, ofUnit}
 use Rattle.header.specs.Sequence.{Sequence}
 use Rattle.frame.specs.Frame.{parseFrame}
-use Rattle.frame.specs.UnitFrame.{isFrame, framePayload, unitFrame}
+use Rattle.frame.specs.UnitFrame.{framePayload, unitFrame}
 
 module _ (sole : Bool) (q : Sequence) (u : List ℕ) where
   abbrev counted : Answer (List Obu) → Answer ℕ

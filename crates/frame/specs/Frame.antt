@@ -1,5 +1,5 @@
 -- AV1 5.9.2 uncompressed_header up to refresh_frame_flags, under a sequence header.
-use Prim.Native.Nat.{ℕ, _+_, _/_, _%_, _^_}
+use Prim.Native.Nat.{ℕ, _+_, _*_, _/_, _%_, _^_}
 use mathlib.Core.List.{List, [], _∷_}
 use mathlib.Core.Bool.{Bool, true, false, not, _&&_, _||_, cond as pick}
 use lib.Dec.{eqb}
@@ -55,6 +55,10 @@ unfoldable pub showExisting : List ℕ → ℕ → Bool → Reading ℕ
 showExisting s p pointInfo =
     andThen (readBits s p 3) (λ slot p.
     pick pointInfo (fails 19) (reads slot p))
+
+-- the byte that shows a slot again: show_existing_frame 1, frame_to_show_map_idx in three bits, and trailing bits
+abbrev pub showByte : ℕ → ℕ
+showByte slot = 128 + 16 * slot + 8
 
 -- frame_type to error_resilient_mode; 19: a shown frame's temporal_point_info would follow
 unfoldable pub frameStart : List ℕ → ℕ → Bool → Reading FrameStart
@@ -137,7 +141,7 @@ specFrame temporal spatial q f = frameHeader (layered temporal spatial) f 0 q
 unfoldable pub parseFrame : Sequence → List ℕ → Answer FrameHeaderInfo
 parseFrame q f = answerOf (readFrame q f)
 
--- parse_frame_header_info within the limit, from both payloads: 14 to 16 of the sequence header come first
+-- the same of the two payloads: first the sequence header is read, with its 14 to 16
 unfoldable pub parseFrameFrom : List ℕ → List ℕ → Answer FrameHeaderInfo
 parseFrameFrom s f = answerOf (andThen (readSequence s) (λ q _. readFrame q f))
 

@@ -27,5 +27,5 @@ abbrev pub existing : Reading ℕ → Answer FrameHeaderInfo
 existing x = answerOf (andThen x (λ slot p. reads (Existing slot) p))
 
 -- a frame that was read, as the whole answer
-abbrev pub framed : Reading FrameInfo → Answer FrameHeaderInfo
-framed x = answerOf (andThen x (λ f p. reads (Frame f) p))
+abbrev pub asFrame : Reading FrameInfo → Answer FrameHeaderInfo
+asFrame x = answerOf (andThen x (λ f p. reads (Frame f) p))

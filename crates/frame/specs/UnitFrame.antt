@@ -5,15 +5,10 @@ use mathlib.Core.Bool.{Bool, cond as pick, _&&_}
 use lib.Dec.{eqb, ltb}
 use Rattle.bitio.specs.Parse.{Answer, refused, accepted, andNext}
 use Rattle.obu.specs.Obu.{Obu, obus}
-use Rattle.obu.specs.Unit.{isKind, count, firstPayload}
-use Rattle.obu.specs.declared.unit.Kind.the-variants.{Frame as FrameObu}
+use Rattle.obu.specs.Unit.{isFrame, count, firstPayload}
 use Rattle.header.specs.Sequence.{Sequence}
 use Rattle.frame.specs.Frame.{parseFrame}
 use Rattle.frame.specs.declared.frame_header.FrameHeaderInfo.{FrameHeaderInfo}
-
--- frame headers and frames
-abbrev pub isFrame : Obu → Bool
-isFrame o = isKind FrameObu o
 
 -- the payload of the first: 28 no frame; 39 more than one, where it must be the only one
 unfoldable pub framePayload : Bool → List Obu → Answer (List ℕ)

@@ -30,7 +30,7 @@ Not16 x = x ≡ fails 16 → ⊥
 
 module _ {A B : Type 0} where
   -- the same first part
-  first-same : (k : A → ℕ → Reading B) {x y : Reading A} → x ≡ y → andThen x k ≡ andThen y k
+  pub first-same : (k : A → ℕ → Reading B) {x y : Reading A} → x ≡ y → andThen x k ≡ andThen y k
   first-same k e = ap (λ z. andThen z k) e
 
   -- the first part is not refused with 16 either
@@ -71,7 +71,7 @@ timing-agrees s p full n =
     agree-after (flagOr s p present false) _ _ n (λ equal p n.
     agree-first (uvlcOr 32 s p equal) _ _ n (ticks-agree s p equal)))))
 
-opening-agrees : (s : List ℕ) (p : ℕ) → Not16 (opening ours s p) → opening ours s p ≡ opening (av1 s) s p
+pub opening-agrees : (s : List ℕ) (p : ℕ) → Not16 (opening ours s p) → opening ours s p ≡ opening (av1 s) s p
 unfolding opening
 opening-agrees s p n =
     agree-after (readBits s p 3) _ _ n (λ profile p n.
@@ -130,7 +130,8 @@ coding-agrees s p profile full h =
 
 -- ---- the whole
 
--- on every payload whose header is not monochrome and has no uvlc of 32 zeros, AV1's own reading and 01's are the same, refusals too
+-- docs/DIFFERENCES.md claims it: on every payload whose header is not monochrome and has no uvlc of 32 zeros, AV1's own
+-- reading and 01's are the same, refusals too
 pub sequence-agrees : (s : List ℕ) → Not16 (readSequence s) → Holds NotMono (colorRead s) → readSequence s ≡ specSequence s
 unfolding sequenceHeader colorRead
 sequence-agrees s n h =
@@ -154,7 +155,7 @@ color-at P (fails n) k e f = tt
 color-at P (reads a p) k e f = f a p e
 
 -- both parts were read
-read-both : {A B : Type 0} (G : Type 0) (x : Reading A) (k : A → ℕ → Reading B) {b : B} {q : ℕ} → andThen x k ≡ reads b q
+pub read-both : {A B : Type 0} (G : Type 0) (x : Reading A) (k : A → ℕ → Reading B) {b : B} {q : ℕ} → andThen x k ≡ reads b q
     → ((a : A) (p : ℕ) → x ≡ reads a p → k a p ≡ reads b q → G) → G
 read-both G (fails n) k e f = let z : _≡_ {A = ℕ} 0 1 = cc in absurd (omega arith)
 read-both G (reads a p) k e f = f a p refl e
@@ -177,12 +178,12 @@ color-in r s p profile full c q e =
     answered c (reads x p) = x
 
 -- what follows for each thing read
-held : {A : Type 0} (P Q : A → Type 0) (x : Reading A) → Holds P x → ((a : A) → P a → Q a) → Holds Q x
-held P Q (fails k) h f = tt
-held P Q (reads a p) h f = f a h
+holds-so : {A : Type 0} (P Q : A → Type 0) (x : Reading A) → Holds P x → ((a : A) → P a → Q a) → Holds Q x
+holds-so P Q (fails k) h f = tt
+holds-so P Q (reads a p) h f = f a h
 
 -- what was read, or else d
-abbrev readElse : {A : Type 0} → A → Reading A → A
+abbrev pub readElse : {A : Type 0} → A → Reading A → A
 readElse d (fails k) = d
 readElse d (reads a p) = a
 
@@ -192,10 +193,10 @@ color-read s q p e m =
     color-after NotMono (opening ours s 0) _ _ e (λ o p e.
     color-after NotMono (operatingPoints (pointCount o) s p o) _ _ e (λ xs p e.
     read-both (Holds NotMono (colorIn s p (o .«seq_profile») (not (o .«reduced_still_picture_header»)))) (coding ours s p (o .«seq_profile») (not (o .«reduced_still_picture_header»))) _ e (λ c r d e.
-    held (λ x. x ≡ c .color) NotMono (colorIn s p (o .«seq_profile») (not (o .«reduced_still_picture_header»))) (color-in ours s p (o .«seq_profile») (not (o .«reduced_still_picture_header»)) c r d)
+    holds-so (λ x. x ≡ c .color) NotMono (colorIn s p (o .«seq_profile») (not (o .«reduced_still_picture_header»))) (color-in ours s p (o .«seq_profile») (not (o .«reduced_still_picture_header»)) c r d)
     (λ x f. ap (λ (y : ColorDescription). y .«mono_chrome») (f ∙ ap (λ y. readElse q y .header .coding .color) e) ∙ m))))
 
--- a header that is read and is not monochrome has the fields that AV1 gives it
+-- the same claim of docs/DIFFERENCES.md by the fields: a header that is read and is not monochrome has those that AV1 gives it
 pub read-agrees : (s : List ℕ) (q : Sequence) (p : ℕ) → readSequence s ≡ reads q p → NotMono (q .header .coding .color) → specSequence s ≡ reads q p
 read-agrees s q p e m =
     sym (sequence-agrees s (λ f. let z : _≡_ {A = ℕ} 0 1 = cc in omega arith) (color-read s q p e m)) ∙ e
@@ -296,10 +297,10 @@ opening-back s p o q e h =
 coding-back : (s : List ℕ) (p profile : ℕ) (full : Bool) (c : Coding) (q : ℕ) → coding (av1 s) s p profile full ≡ reads c q → NotMono (c .color) → coding ours s p profile full ≡ reads c q
 coding-back s p profile full c q e m =
     coding-agrees s p profile full
-    (held (λ x. x ≡ c .color) NotMono (colorIn s p profile full) (color-in (av1 s) s p profile full c q e) (λ x f. ap (λ (y : ColorDescription). y .«mono_chrome») f ∙ m))
+    (holds-so (λ x. x ≡ c .color) NotMono (colorIn s p profile full) (color-in (av1 s) s p profile full c q e) (λ x f. ap (λ (y : ColorDescription). y .«mono_chrome») f ∙ m))
     ∙ e
 
--- a header that AV1 reads, not monochrome and without 32 zeros, is read with the same fields
+-- and the other way: a header that AV1 reads, not monochrome and without 32 zeros, is read with the same fields
 pub spec-agrees : (s : List ℕ) (q : Sequence) (p : ℕ) → specSequence s ≡ reads q p → NotMono (q .header .coding .color) → FewTicks (q .header .opening .timing) → readSequence s ≡ reads q p
 unfolding sequenceHeader
 spec-agrees s q p e m h =

@@ -6,3 +6,4 @@ pub mod ParseLaws
 pub mod SupportLaws
 pub mod TimedLaws
 pub mod AgreeLaws
+pub mod MonoLaws

@@ -48,11 +48,6 @@ abbrev pub Holds : {A : Type 0} → (A → Type 0) → Reading A → Type 0
 Holds P (fails k) = Unit {0}
 Holds P (reads a p) = P a
 
--- it holds of everything
-pub all-hold : {A : Type 0} {P : A → Type 0} (x : Reading A) → ((a : A) → P a) → Holds P x
-all-hold (fails k) f = tt
-all-hold (reads a p) f = f a
-
 -- it follows from what holds of the first thing read
 pub then-holds : {A B : Type 0} (P : A → Type 0) (Q : B → Type 0) (x : Reading A) (k : A → ℕ → Reading B)
     → Holds P x → ((a : A) (p : ℕ) → P a → Holds Q (k a p)) → Holds Q (andThen x k)

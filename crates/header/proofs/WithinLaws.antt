@@ -1,27 +1,17 @@
 -- Bounds of what a sequence header is read as.
 use Prim.Native.Nat.{ℕ, _≤_, _<_}
-use native.Mathlib.Omega.{arith}
-use mathlib.Core.Path.{_≡_}
 use mathlib.Core.List.{List}
-use mathlib.Core.Bool.{Bool, false, not, _&&_}
+use mathlib.Core.Bool.{Bool, false, not}
 use lib.Dec.{ltb, lit<}
-use lib.ListN.{length}
 use borrow.Author.Tests.{ltb-false}
-use Rattle.bitio.specs.Parse.{accepted}
-use Rattle.bitio.specs.Bits.{Reading, fails, reads, readBits}
+use Rattle.bitio.specs.Bits.{readBits}
 use Rattle.bitio.proofs.ParseLaws.{pick-cases}
-use Rattle.header.specs.Fields.{readFlag, readOr, flagOr, answerOf}
-use Rattle.header.specs.SequenceRules.{Rules, ours}
+use Rattle.header.specs.Fields.{readFlag, readOr, flagOr}
+use Rattle.header.specs.SequenceRules.{Rules}
 use Rattle.header.specs.SequenceOpening.{timingInfo, decoderModelInfo, opening}
-use Rattle.header.specs.SequencePoints.{operatingPoints, pointCount}
-use Rattle.header.specs.SequenceCoding.{select, frameSize, frameIds, codingTools, screenTools, filters, colorDescription, colorSampling, coding}
-use Rattle.header.specs.Sequence.{Sequence, sequenceHeader, readSequence, parseSequence}
 use Rattle.header.specs.declared.seq_header.DecoderModelInfo.{DecoderModelInfo}
 use Rattle.header.specs.declared.seq_header.Opening.{Opening}
-use Rattle.header.specs.declared.seq_header.ScreenTools.{ScreenTools}
-use Rattle.header.specs.declared.seq_header.Coding.{Coding}
 use Rattle.header.proofs.ReadLaws.{Holds, then-holds, then-any, or-lt}
-use Rattle.header.proofs.PointLaws.{points-count}
 
 -- buffer delays and removal times have up to 32 bits
 pub record ModelWithin (m : DecoderModelInfo) : Type 0 where
@@ -55,55 +45,3 @@ opening-within r s p =
     then-any OpeningWithin (flagOr s p (not reduced) false) _ (λ delay p.
     then-holds (λ v. v < 32) OpeningWithin (readOr s p (not reduced) 5 0) _ (or-lt s p (not reduced) 5 0 (lit< tt)) (λ more p c.
     record { profile = ltb-false 2 profile e; model = m; count = c }))))))))
-
--- the order hint has up to 8 bits
-abbrev pub HintWithin : ScreenTools → Type 0
-HintWithin t = t .«order_hint_bits_minus_1» < 8
-
-screen-within : (s : List ℕ) (p : ℕ) (full hint : Bool) → Holds HintWithin (screenTools s p full hint)
-unfolding screenTools
-screen-within s p full hint =
-    then-any HintWithin (flagOr s p full false) _ (λ choose p.
-    then-any HintWithin (readOr s p (full && not choose) 1 select) _ (λ tools p.
-    then-any HintWithin (flagOr s p (full && ltb 0 tools) false) _ (λ chooseMv p.
-    then-any HintWithin (readOr s p (full && ltb 0 tools && not chooseMv) 1 select) _ (λ mv p.
-    then-holds (λ v. v < 8) HintWithin (readOr s p hint 3 0) _ (or-lt s p hint 3 0 (lit< tt)) (λ bits p b. b)))))
-
-abbrev pub CodingWithin : Coding → Type 0
-CodingWithin c = HintWithin (c .screen)
-
-pub coding-within : (r : Rules) (s : List ℕ) (p profile : ℕ) (full : Bool) → Holds CodingWithin (coding r s p profile full)
-unfolding coding
-coding-within r s p profile full =
-    then-any CodingWithin (frameSize s p) _ (λ size p.
-    then-any CodingWithin (frameIds s p full) _ (λ ids p.
-    then-any CodingWithin (codingTools s p full) _ (λ tools p.
-    then-holds HintWithin CodingWithin (screenTools s p full (tools .«enable_order_hint»)) _ (screen-within s p full (tools .«enable_order_hint»)) (λ screen p h.
-    then-any CodingWithin (filters s p) _ (λ filters p.
-    then-any CodingWithin (colorDescription s p profile) _ (λ color p.
-    then-any CodingWithin (colorSampling r s p profile color) _ (λ sampling p.
-    then-any CodingWithin (readFlag s p) _ (λ grain p. h))))))))
-
--- and there are as many operating points as said
-pub record SequenceWithin (q : Sequence) : Type 0 where
-  pub opening : OpeningWithin (q .header .opening)
-  pub points : length (q .points) ≡ pointCount (q .header .opening)
-  pub coding : CodingWithin (q .header .coding)
-
-pub sequence-within : (r : Rules) (s : List ℕ) (p : ℕ) → Holds SequenceWithin (sequenceHeader r s p)
-unfolding sequenceHeader
-sequence-within r s p =
-    then-holds OpeningWithin SequenceWithin (opening r s p) _ (opening-within r s p) (λ o p a.
-    then-holds (λ xs. length xs ≡ pointCount o) SequenceWithin (operatingPoints (pointCount o) s p o) _ (points-count s o (pointCount o) p) (λ xs p b.
-    then-holds CodingWithin SequenceWithin (coding r s p (o .«seq_profile») (not (o .«reduced_still_picture_header»))) _
-    (coding-within r s p (o .«seq_profile») (not (o .«reduced_still_picture_header»))) (λ c p h.
-    record { opening = a; points = b; coding = h })))
-
--- the fields of a payload are within these bounds
-pub parsed-within : (s : List ℕ) (q : Sequence) → parseSequence s ≡ accepted q → SequenceWithin q
-unfolding parseSequence
-parsed-within s q e = go (readSequence s) (sequence-within ours s 0) e
-  where
-    go : (x : Reading Sequence) → Holds SequenceWithin x → answerOf x ≡ accepted q → SequenceWithin q
-    go (fails k) h f = let z : _≡_ {A = ℕ} 0 1 = cc in absurd (omega arith)
-    go (reads a p) h f = let w : a ≡ q = cc in rw w at h

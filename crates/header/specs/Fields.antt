@@ -6,7 +6,6 @@ use lib.Dec.{eqb}
 use Rattle.bitio.specs.Parse.{Answer, refused, accepted}
 use Rattle.bitio.specs.Bits.{Reading, fails, reads, andThen, readBits}
 use Rattle.bitio.specs.Uvlc.{uvlc}
-use Rattle.bitio.specs.declared.reader.BitReader.{BitReader}
 use Rattle.header.specs.declared.fields.Flag.{Flag}
 use Rattle.header.specs.declared.fields.Flag.the-variants.{Value, Short}
 

@@ -4,7 +4,7 @@ use mathlib.Core.List.{List, []}
 use mathlib.Core.Bool.{not}
 use lib.ListN.{take}
 use Rattle.bitio.specs.Parse.{Answer, refused, accepted}
-use Rattle.bitio.specs.Bits.{Reading, fails, reads, andThen}
+use Rattle.bitio.specs.Bits.{Reading, reads, andThen}
 use Rattle.header.specs.Fields.{answerOf}
 use Rattle.header.specs.SequenceRules.{Rules, ours, av1}
 use Rattle.header.specs.SequenceOpening.{opening}

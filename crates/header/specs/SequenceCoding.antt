@@ -3,7 +3,7 @@ use Prim.Native.Nat.{ℕ, _+_}
 use mathlib.Core.List.{List}
 use mathlib.Core.Bool.{Bool, true, false, not, _&&_, _||_}
 use lib.Dec.{eqb, ltb}
-use Rattle.bitio.specs.Bits.{Reading, fails, reads, andThen, readBits}
+use Rattle.bitio.specs.Bits.{Reading, reads, andThen, readBits}
 use Rattle.header.specs.Fields.{readFlag, readOr, flagOr}
 use Rattle.header.specs.SequenceRules.{Rules}
 use Rattle.header.specs.declared.seq_header.FrameSize.{FrameSize}

@@ -1,7 +1,7 @@
 -- AV1 5.5.1 sequence_header_obu up to the operating points. A reduced header has values without bits.
 use Prim.Native.Nat.{ℕ}
 use mathlib.Core.List.{List}
-use mathlib.Core.Bool.{Bool, true, false, not, cond as pick}
+use mathlib.Core.Bool.{Bool, false, not, cond as pick}
 use lib.Dec.{ltb}
 use Rattle.bitio.specs.Bits.{Reading, fails, reads, andThen, readBits}
 use Rattle.header.specs.Fields.{readFlag, readOr, flagOr, uvlcOr}

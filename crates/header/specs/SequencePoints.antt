@@ -1,10 +1,10 @@
 -- AV1 5.5.1: the operating points.
 use Prim.Native.Nat.{ℕ, zero, suc, _+_, _-_}
 use mathlib.Core.List.{List, [], _∷_, _++_}
-use mathlib.Core.Bool.{Bool, true, false, not, _&&_}
+use mathlib.Core.Bool.{false, not, _&&_}
 use lib.Dec.{ltb}
 use lib.ListN.{length, replicate}
-use Rattle.bitio.specs.Bits.{Reading, fails, reads, andThen, readBits}
+use Rattle.bitio.specs.Bits.{Reading, reads, andThen, readBits}
 use Rattle.header.specs.Fields.{readOr, flagOr}
 use Rattle.header.specs.declared.seq_header.Opening.{Opening}
 use Rattle.header.specs.declared.seq_header.OperatingPoint.{OperatingPoint}

@@ -47,6 +47,6 @@ withTiming num den h = record { opening = retimed (rate num den) (h .opening); c
 unfoldable pub timed : ℕ → ℕ → SequenceHeader → Answer SequenceHeader
 timed num den h = pick (h .opening .«reduced_still_picture_header») (refused 17) (accepted (withTiming num den h))
 
--- a header with its operating points, timed
-abbrev pub timedSequence : ℕ → ℕ → Sequence → Sequence
-timedSequence num den q = record { header = withTiming num den (q .header); points = q .points }
+-- a header with its operating points, timed at num frames in den seconds
+abbrev pub timedAt : ℕ → ℕ → Sequence → Sequence
+timedAt num den q = record { header = withTiming num den (q .header); points = q .points }

@@ -1,20 +1,20 @@
 -- Laws of OBUs: what is read, and reading back what was written.
-use Prim.Native.Nat.{ℕ, zero, suc, _+_, _-_, _*_, _/_, _%_, _^_, _≤_, _<_}
+use Prim.Native.Nat.{ℕ, _+_, _*_, _/_, _%_, _^_, _<_}
 use native.Mathlib.Omega.{arith}
 use mathlib.Core.Path.{_≡_, refl, sym, ap, _∙_}
 use mathlib.Core.List.{List, [], _∷_, _++_, flatMap, append-assoc, append-nil}
 use mathlib.Core.Option.{Option, none, some}
 use mathlib.Core.Bool.{Bool, true, false, cond as pick, _||_}
-use lib.ListN.{length, length-append}
+use lib.ListN.{length}
 use lib.Dec.{leb, eqb}
 use borrow.Author.Tests.{leb-true, eqb-true}
-use Rattle.bitio.specs.Parse.{Answer, refused, accepted, Head, stop, item, within, many, onto}
+use Rattle.bitio.specs.Parse.{Answer, refused, accepted, Head, stop, item, within, onto}
 use Rattle.bitio.specs.Every.{Every}
-use Rattle.bitio.proofs.ParseLaws.{Leaves, Shrinks, pick-both, pick-cases, many-item, many-stop, many-nil, Back, many-back, many-all, Holds, many-each, many-agree, Parts, parts-less, parts-behind}
+use Rattle.bitio.proofs.ParseLaws.{Leaves, Shrinks, pick-both, pick-cases, many-item, many-stop, many-nil, Back, many-all, Holds, many-each, many-agree, Parts, parts-less, parts-behind}
 use Rattle.bitio.specs.Every.Every.{none as nothing, also}
-use Rattle.bitio.specs.Leb.{lebBytes, sized, framed}
+use Rattle.bitio.specs.Leb.{sized, framed}
 use Rattle.bitio.proofs.LebLaws.{sized-back, Sized, sized-parts}
-use Rattle.obu.specs.Obu.{Obu, flag, obuType, passes, made, sizedBody, extended, headObuOf, headObu, obusOf, obus, specObus, extFlag, extBytes, header, obuBytes, unitBytes, Written}
+use Rattle.obu.specs.Obu.{Obu, flag, obuType, passes, made, sizedBody, extended, headObuOf, headObu, obusOf, obus, specObus, obuBytes, unitBytes, Written}
 
 -- ---- what is read is a part of the list
 
@@ -144,7 +144,7 @@ every : {os : List Obu} → Every Allowed os → Every (Back headObu obuBytes) o
 every nothing = nothing
 every (also {a = o} h hs) = also (head-back o h) (every hs)
 
--- the OBUs of the bytes of any OBU list are that list
+-- README claims it: the OBUs of the bytes of any OBU list that can be written are that list
 pub obus-unit : {os : List Obu} → Every Allowed os → obus (unitBytes os) ≡ accepted os
 unfolding obusOf unitBytes
 obus-unit hs = many-all headObu obuBytes (obu-shrinks passes) (every hs)
@@ -187,10 +187,6 @@ pub obus-allowed : (s : List ℕ) (os : List Obu) → length s < 2 ^ 56 → obus
 unfolding obusOf
 obus-allowed s os l e = rw e at (many-each Allowed headObu (2 ^ 56) (obu-shrinks passes) head-allowed s l)
 
--- behind a unit in written form reading goes on as if it were not there
-pub obus-append : (u : List ℕ) (os : List Obu) (b : List ℕ) → length u < 2 ^ 56 → Written u os → obus (u ++ b) ≡ infront os (obus b)
-obus-append u os b l w = ap (λ (x : List ℕ). obus (x ++ b)) (sym (w .bytes)) ∙ obus-behind (obus-allowed u os l (w .reads)) b
-
 -- the bytes of OBUs that can be read are in written form
 pub unit-written : {os : List Obu} → Every Allowed os → Written (unitBytes os) os
 unit-written hs = record { reads = obus-unit hs; bytes = refl }
@@ -207,7 +203,7 @@ unfolding headObuOf
 head-agrees [] n = refl
 head-agrees (h ∷ s) n = typed (flag 128 h) (passes (obuType h)) (pick (flag 4 h) (extended h s) (sizedBody h none s)) n
 
--- where no OBU that is met has a reserved type 9 to 14, AV1's reading and this one are the same
+-- docs/DIFFERENCES.md claims it: where no OBU that is met has a reserved type 9 to 14, AV1's reading and this one are the same
 pub obus-agree : (s : List ℕ) → (obus s ≡ refused 2 → ⊥) → obus s ≡ specObus s
 unfolding obusOf
 obus-agree s n = many-agree headObu (headObuOf (λ t. true)) 2 head-agrees s n

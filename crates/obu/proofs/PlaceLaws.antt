@@ -1,27 +1,27 @@
 -- Laws of the OBU at a position: the outcomes of reading it, and what it says.
-use Prim.Native.Nat.{ℕ, zero, suc, _+_, _-_, _*_, _/_, _%_, _^_, _≤_, _<_}
+use Prim.Native.Nat.{ℕ, _+_, _-_, _/_, _%_, _≤_, _<_}
 use native.Mathlib.Omega.{arith}
 use native.Mathlib.Numerals.{add-one}
 use mathlib.Core.Path.{_≡_, refl, sym, ap, _∙_}
-use mathlib.Core.List.{List, [], _∷_, _++_, append-assoc, append-nil}
+use mathlib.Core.List.{List, [], _∷_, _++_, append-nil}
 use mathlib.Core.Option.{Option, none, some}
-use mathlib.Core.Bool.{Bool, true, false, cond as pick}
-use lib.ListN.{length, getD, take, drop, length-drop, length-take, drop-of-length-le}
+use mathlib.Core.Bool.{true, false}
+use lib.ListN.{length, getD, take, drop, length-drop, drop-of-length-le}
 use lib.Seq.{length-take-le, drop-cons, drop-drop, take-append-seam, drop-append-seam}
-use lib.Dec.{leb, ltb, eqb}
+use lib.Dec.{ltb}
 use borrow.Author.Tests.{lt-ltb, le-ltb, ltb-true, ltb-false, lt-leb, le-leb, ne-eqb}
-use Rattle.bitio.specs.Parse.{Answer, refused, accepted, Head, stop, item, onto}
-use Rattle.bitio.specs.Leb.{Number, number, readLeb, sized}
+use Rattle.bitio.specs.Parse.{refused, accepted, Head, stop, item}
+use Rattle.bitio.specs.Leb.{number, readLeb, sized}
 use Rattle.bitio.specs.Leb.Number.{none as noNumber}
-use Rattle.bitio.proofs.ParseLaws.{pick-cases, Parts, parts-length}
-use Rattle.obu.specs.Obu.{Obu, flag, obuType, passes, made, sizedBody, extended, headObuOf, headObu, obus}
+use Rattle.bitio.proofs.ParseLaws.{pick-cases, parts-length}
+use Rattle.obu.specs.Obu.{Obu, passes, sizedBody, headObuOf, headObu, obus}
 use types.Run.{OneOf}
 use denote.Enum.Declared.{tagOf}
 use mathlib.Core.Logic.{inl, inr}
 use Rattle.obu.proofs.reader.ObuAt.{the-type}
 use Rattle.obu.specs.declared.reader.ObuAt.{ObuAt}
 use Rattle.obu.specs.declared.reader.ObuAt.the-variants.{Found, End, Refused}
-use Rattle.obu.specs.Place.{Place, nothing, wrong, placed, placeOf, obuPlace, refusalOf, obuSays, part}
+use Rattle.obu.specs.Place.{Place, nothing, wrong, lies, placeOf, obuPlace, refusalOf, obuSays, part}
 use Rattle.obu.specs.Write.{obu as obuOf}
 use Rattle.obu.proofs.ObuLaws.{is-obu, obus-item, obus-stop, obus-nil, infront, infront-next, infront-nil}
 
@@ -31,7 +31,7 @@ module _ (s : List ℕ) (h : ℕ) (e : Option ℕ) (p : ℕ) (in-s : p ≤ lengt
   abbrev body : Place
   body = placeOf s (sizedBody h e (drop p s))
 
-  pub body-rest : (h / 2 % 2 ≡ 1 → ⊥) → placed (h / 8 % 16) e p (length s) ≡ body
+  pub body-rest : (h / 2 % 2 ≡ 1 → ⊥) → lies (h / 8 % 16) e p (length s) ≡ body
   body-rest n =
       let k : length s - 0 - (length s - p) ≡ p = omega arith in
       let z : length s - 0 ≡ length s = omega arith in
@@ -49,7 +49,7 @@ module _ (s : List ℕ) (h : ℕ) (e : Option ℕ) (p : ℕ) (in-s : p ≤ lengt
           let m : length (drop q s) < n = rw length-drop l in
           rw (sz, b, lt-leb n (length (drop q s)) m)
 
-      pub body-got : q ≤ length s → n ≤ length s - q → placed (h / 8 % 16) e q (q + n) ≡ body
+      pub body-got : q ≤ length s → n ≤ length s - q → lies (h / 8 % 16) e q (q + n) ≡ body
       unfolding sized
       body-got w l =
           let m : n ≤ length (drop q s) = rw length-drop l in
@@ -142,7 +142,7 @@ module _ (s : List ℕ) (at : ℕ) where
   abbrev Says : Head Obu → Place → Type 0
   Says x nothing = length s ≤ at
   Says x (wrong k) = (at < length s) × (x ≡ stop k)
-  Says x (placed t e a b) = IsPlaced s at t e a b
+  Says x (lies t e a b) = IsPlaced s at t e a b
 
   says : (x : Head Obu) → at < length s → headObu (drop at s) ≡ x → Says x (placeOf s x)
   says (stop k) l e = (l, refl)
@@ -154,7 +154,7 @@ module _ (s : List ℕ) (at : ℕ) where
       pick-cases (Says (headObu (drop at s))) (ltb at (length s)) (λ t. says (headObu (drop at s)) (ltb-true at (length s) t) refl) (λ t. ltb-false at (length s) t)
 
   -- an OBU at a position, a refusal there, and the end
-  pub is-placed : {t : ℕ} {e : Option ℕ} {a b : ℕ} → obuPlace s at ≡ placed t e a b → IsPlaced s at t e a b
+  pub is-placed : {t : ℕ} {e : Option ℕ} {a b : ℕ} → obuPlace s at ≡ lies t e a b → IsPlaced s at t e a b
   is-placed q = rw q at place-says
 
   pub is-wrong : (k : ℕ) → obuPlace s at ≡ wrong k → (at < length s) × (headObu (drop at s) ≡ stop k)

@@ -1,5 +1,5 @@
 -- Laws of the questions on a unit: one OBU more.
-use Prim.Native.Nat.{ℕ, zero, suc, _+_, _-_, _≤_, _<_}
+use Prim.Native.Nat.{ℕ, suc, _-_, _≤_, _<_}
 use native.Mathlib.Omega.{arith}
 use mathlib.Core.Path.{_≡_, refl, sym, ap, _∙_}
 use mathlib.Core.List.{List, [], _∷_, _++_, map, append-nil}
@@ -16,10 +16,9 @@ use Rattle.bitio.proofs.ParseLaws.{Leaves, Shrinks, many-map, many-item, many-s
 use Rattle.obu.proofs.reader.ObuAt.{the-type}
 use Rattle.obu.specs.declared.reader.ObuAt.{ObuAt}
 use Rattle.obu.specs.declared.reader.ObuAt.the-variants.{Found, End, Refused}
-use Rattle.obu.specs.declared.unit.Kind.the-variants.{TemporalDelimiter}
 use Rattle.obu.specs.Obu.{Obu, passes, headObu, obusOf, obus}
 use Rattle.obu.specs.Place.{obuPlace, obuSays}
-use Rattle.obu.specs.Unit.{isKind, count, has, firstPayload, lastPayload, Located, located, locatedObus, orElse, sought, foundSays, payloadFound, strayIn, ofUnit}
+use Rattle.obu.specs.Unit.{isDelimiter, count, has, firstPayload, lastPayload, Located, located, locatedObus, orElse, sought, foundSays, payloadFound, strayIn, ofUnit}
 use Rattle.obu.proofs.ObuLaws.{obu-shrinks, obus-item, infront, infront-next, infront-nil}
 use Rattle.obu.proofs.PlaceLaws.{Placed, is-wrong, is-end, walk-start, walk-end, walk-stop}
 
@@ -37,19 +36,6 @@ module _ (p : Obu → Bool) where
       go true false = refl
       go false true = refl
       go false false = refl
-
-  pub has-next : (os : List Obu) (o : Obu) → has p (os ++ (o ∷ [])) ≡ (has p os || p o)
-  unfolding has
-  has-next [] o = go (p o)
-    where
-      go : (t : Bool) → (t || false) ≡ t
-      go true = refl
-      go false = refl
-  has-next (a ∷ os) o = rw (has-next os o) (go (p a))
-    where
-      go : (t : Bool) → (t || (has p os || p o)) ≡ ((t || has p os) || p o)
-      go true = refl
-      go false = refl
 
   -- to have one is to have at least one
   pub has-count : (os : List Obu) → leb 1 (count p os) ≡ has p os
@@ -231,11 +217,8 @@ payload-last p s = found-payload true p (lastPayload p) (λ os. last-is p os .0)
 
 -- ---- a delimiter that is not first
 
-abbrev delimiter : Obu → Bool
-delimiter o = isKind TemporalDelimiter o
-
 -- a unit of which nothing is counted is refused
-pub stray-refused : (x : Answer (List Obu)) (k : ℕ) → answer (count delimiter) x ≡ refused k → ofUnit false strayIn x ≡ false
+pub stray-refused : (x : Answer (List Obu)) (k : ℕ) → answer (count isDelimiter) x ≡ refused k → ofUnit false strayIn x ≡ false
 stray-refused (refused j) k e = refl
 stray-refused (accepted os) k e = let z : _≡_ {A = ℕ} 0 1 = cc in absurd (omega arith)
 
@@ -250,26 +233,26 @@ stray-none s End k e = rw (walk-end (walk-start s) (sym e))
 stray-none s (Refused n) k e = rw (walk-stop (walk-start s) n (sym e))
 
 -- o is first, and n delimiters are counted
-module _ (s : List ℕ) (o : Obu) (a b n : ℕ) (p : Placed s 0 o a b) (counted : answer (count delimiter) (obus s) ≡ accepted n) where
-  rest : (x : Answer (List Obu)) → answer (count delimiter) (onto o x) ≡ accepted n → (ls : List Obu) × (onto o x ≡ accepted (o ∷ ls)) × (n ≡ pick (delimiter o) (suc (count delimiter ls)) (count delimiter ls))
+module _ (s : List ℕ) (o : Obu) (a b n : ℕ) (p : Placed s 0 o a b) (counted : answer (count isDelimiter) (obus s) ≡ accepted n) where
+  rest : (x : Answer (List Obu)) → answer (count isDelimiter) (onto o x) ≡ accepted n → (ls : List Obu) × (onto o x ≡ accepted (o ∷ ls)) × (n ≡ pick (isDelimiter o) (suc (count isDelimiter ls)) (count isDelimiter ls))
   unfolding count
   rest (refused k) e = let z : _≡_ {A = ℕ} 0 1 = cc in absurd (omega arith)
-  rest (accepted ls) e = (ls, refl, let q : count delimiter (o ∷ ls) ≡ n = cc in sym q)
+  rest (accepted ls) e = (ls, refl, let q : count isDelimiter (o ∷ ls) ≡ n = cc in sym q)
 
-  first : (ls : List Obu) × (obus s ≡ accepted (o ∷ ls)) × (n ≡ pick (delimiter o) (suc (count delimiter ls)) (count delimiter ls))
+  first : (ls : List Obu) × (obus s ≡ accepted (o ∷ ls)) × (n ≡ pick (isDelimiter o) (suc (count isDelimiter ls)) (count isDelimiter ls))
   first =
       let h = obus-item s o (drop b s) (p .head) in
-      let r = rest (obus (drop b s)) (sym (ap (answer (count delimiter)) h) ∙ counted) in
+      let r = rest (obus (drop b s)) (sym (ap (answer (count isDelimiter)) h) ∙ counted) in
       (r .0, h ∙ r .1, r .2)
 
-  pub stray-behind : delimiter o ≡ true → leb 2 n ≡ ofUnit false strayIn (obus s)
+  pub stray-behind : isDelimiter o ≡ true → leb 2 n ≡ ofUnit false strayIn (obus s)
   stray-behind t =
       let r = first in
-      let c = count delimiter (r .0) in
-      ap (leb 2) (r .2 ∙ ap (λ b. pick b (suc c) c) t) ∙ leb·suc-suc 1 c ∙ has-count delimiter (r .0) ∙ sym (ap (ofUnit false strayIn) (r .1))
+      let c = count isDelimiter (r .0) in
+      ap (leb 2) (r .2 ∙ ap (λ b. pick b (suc c) c) t) ∙ leb·suc-suc 1 c ∙ has-count isDelimiter (r .0) ∙ sym (ap (ofUnit false strayIn) (r .1))
 
-  pub stray-any : delimiter o ≡ false → leb 1 n ≡ ofUnit false strayIn (obus s)
+  pub stray-any : isDelimiter o ≡ false → leb 1 n ≡ ofUnit false strayIn (obus s)
   stray-any t =
       let r = first in
-      let c = count delimiter (r .0) in
-      ap (leb 1) (r .2 ∙ ap (λ b. pick b (suc c) c) t) ∙ has-count delimiter (r .0) ∙ sym (ap (ofUnit false strayIn) (r .1))
+      let c = count isDelimiter (r .0) in
+      ap (leb 1) (r .2 ∙ ap (λ b. pick b (suc c) c) t) ∙ has-count isDelimiter (r .0) ∙ sym (ap (ofUnit false strayIn) (r .1))

@@ -2,14 +2,14 @@
 use Prim.Native.Nat.{ℕ, _+_, _-_, _*_, _≤_, _<_}
 use borrow.Rule.Slice.PartMut.{putMid, post-is}
 use native.Mathlib.Omega.{arith}
-use mathlib.Core.Path.{_≡_, refl, sym, ap, ap₂, _∙_}
+use mathlib.Core.Path.{_≡_, ap, ap₂, _∙_}
 use mathlib.Core.List.{List, [], _∷_, _++_, append-assoc, append-nil}
 use mathlib.Core.Option.{Option, none, some}
 use mathlib.Core.Bool.{true, false}
-use lib.ListN.{length, take, drop, set, length-append, length-drop, drop-of-length-le}
+use lib.ListN.{length, take, drop, set, length-append, drop-of-length-le}
 use lib.Seq.{take-all}
 use Rattle.bitio.specs.Parse.{accepted, refused}
-use Rattle.bitio.specs.Lent.{pasted, placed, lent}
+use Rattle.bitio.specs.Lent.{pasted}
 use Rattle.bitio.specs.Leb.{lebBytes, framed}
 use Rattle.bitio.proofs.LebLaws.{bytes-mono}
 use Rattle.bitio.proofs.LentLaws.{pasted-more, pasted-one, pasted-set, placed-room, lent-room, placed-full, lent-full}

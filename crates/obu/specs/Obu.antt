@@ -13,8 +13,8 @@ pub record Obu : Type 0 where
   pub ext : Option ℕ
   pub payload : List ℕ
 
--- AV1 5.3.2 obu_header: forbidden bit 80, type in four bits, extension 04, size present 02, reserved 01.
--- The reserved bit is not looked at, and not kept.
+-- AV1 5.3.2 obu_header, from the top: the forbidden bit, four bits of type, a flag for the extension (4) and one for the
+-- size (2), a reserved bit, which is not looked at and not kept.
 abbrev pub flag : ℕ → ℕ → Bool
 flag w h = eqb (h / w % 2) 1
 
@@ -69,7 +69,7 @@ extBytes (some e) = e ∷ []
 abbrev pub header : ℕ → ℕ → Option ℕ → List ℕ
 header f t e = (8 * t + extFlag e + f) ∷ extBytes e
 
--- 01, written form: size present, shortest leb128, reserved bit 0
+-- 01's written form: with its size, that in as few bytes as leb128 has for it, and the reserved bit 0
 unfoldable pub obuBytes : Obu → List ℕ
 obuBytes o = header 2 (o .type) (o .ext) ++ framed (o .payload)
 

@@ -1,5 +1,5 @@
 -- The OBU at a position of lent bytes.
-use Prim.Native.Nat.{ℕ, _+_, _-_}
+use Prim.Native.Nat.{ℕ, _-_}
 use mathlib.Core.List.{List, []}
 use mathlib.Core.Option.{Option, none, some}
 use mathlib.Core.Bool.{cond as pick}
@@ -16,12 +16,12 @@ use Rattle.obu.specs.declared.reader.ObuAt.the-variants.{Found, End, Ref
 pub data Place : Type 0 where
   nothing : Place
   wrong : ℕ → Place
-  placed : (type : ℕ) (ext : Option ℕ) (start end : ℕ) → Place
+  lies : (type : ℕ) (ext : Option ℕ) (start end : ℕ) → Place
 
 -- s is the whole of the bytes
 abbrev pub placeOf : List ℕ → Head Obu → Place
 placeOf s (stop k) = wrong k
-placeOf s (item o r) = placed (o .type) (o .ext) (length s - length r - length (o .payload)) (length s - length r)
+placeOf s (item o r) = lies (o .type) (o .ext) (length s - length r - length (o .payload)) (length s - length r)
 
 unfoldable pub obuPlace : List ℕ → ℕ → Place
 obuPlace s at = pick (ltb at (length s)) (placeOf s (headObu (drop at s))) nothing
@@ -30,7 +30,7 @@ obuPlace s at = pick (ltb at (length s)) (placeOf s (headObu (drop at s))) nothi
 abbrev pub refusalOf : Place → ℕ
 refusalOf nothing = 0
 refusalOf (wrong k) = k
-refusalOf (placed t e a b) = 0
+refusalOf (lies t e a b) = 0
 
 abbrev pub extensionSays : Extension → Option ℕ
 extensionSays Absent = none
@@ -38,7 +38,7 @@ extensionSays (Byte e) = some e
 
 -- 01's number and values for each case of ObuAt
 abbrev pub obuSays : ObuAt → Place
-obuSays (Found o) = placed (o .«obu_type») (extensionSays (o .extension)) (o .start) (o .end)
+obuSays (Found o) = lies (o .«obu_type») (extensionSays (o .extension)) (o .start) (o .end)
 obuSays End = nothing
 obuSays (Refused k) = wrong k
 

@@ -1,12 +1,12 @@
 -- Questions on the OBUs of a unit.
-use Prim.Native.Nat.{ℕ, zero, suc, _-_}
+use Prim.Native.Nat.{ℕ, suc, _-_}
 use mathlib.Core.List.{List, [], _∷_}
 use mathlib.Core.Option.{Option, none, some}
 use mathlib.Core.Bool.{Bool, true, false, cond as pick, _||_}
 use lib.ListN.{length}
 use lib.Dec.{eqb}
-use Rattle.bitio.specs.Parse.{Answer, refused, accepted, answer, Head, stop, item, many}
-use Rattle.obu.specs.Obu.{Obu, headObu, obus}
+use Rattle.bitio.specs.Parse.{Answer, refused, accepted, Head, stop, item, many}
+use Rattle.obu.specs.Obu.{Obu, headObu}
 use Rattle.obu.specs.Place.{extensionSays, part}
 use Rattle.obu.specs.Write.{obu as obuOf}
 use Rattle.obu.specs.declared.reader.ObuAt.{ObuAt}
@@ -25,6 +25,13 @@ isType Frame t = eqb t 3 || eqb t 6
 
 abbrev pub isKind : Kind → Obu → Bool
 isKind k o = isType k (o .type)
+
+abbrev pub isDelimiter : Obu → Bool
+isDelimiter o = isKind TemporalDelimiter o
+
+-- a frame header or a frame
+abbrev pub isFrame : Obu → Bool
+isFrame o = isKind Frame o
 
 unfoldable pub count : (Obu → Bool) → List Obu → ℕ
 count p [] = 0
@@ -85,7 +92,7 @@ payloadFound (accepted (some l)) = l .obu .payload
 -- whether a delimiter stands anywhere but first
 abbrev pub strayIn : List Obu → Bool
 strayIn [] = false
-strayIn (o ∷ os) = has (isKind TemporalDelimiter) os
+strayIn (o ∷ os) = has isDelimiter os
 
 -- of a unit that is refused there is nothing
 abbrev pub ofUnit : {A : Type 0} → A → (List Obu → A) → Answer (List Obu) → A

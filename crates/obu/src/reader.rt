@@ -25,7 +25,7 @@ pub enum ObuAt {
     Found(Obu),
     // no bytes are left
     End,
-    // document 01's number: 1 forbidden bit, 2 type, 3 no extension byte, 4 leb128, 5 overrun
+    // document 01's number, 1 to 5
     Refused(u32),
 }
 
@@ -102,7 +102,7 @@ pub fn refusal(found: ObuAt) -> u32
     }
 }
 
-// The payload, as a part of the caller's bytes; the empty part where start and end are not within them.
+// The payload, not copied: what lies from start to end, nothing where they are not within s.
 pub fn payload(s: &[u8], start: usize, end: usize) -> &[u8]
     ensures { λ r. ⌜ now r ≡ part (now (s .entry)) start end ⌝ }
 {

@@ -1,4 +1,4 @@
-// One OBU in written form: size present, shortest leb128, reserved bit 0 (document 01).
+// One OBU in document 01's written form.
 ghost use mathlib.Core.Path.{_≡_};
 ghost use Prim.Native.Nat.{_+_, _-_, _^_, _≤_, _<_, min};
 ghost use lib.ListN.{length};

@@ -5,20 +5,18 @@ use mathlib.Core.Path.{_≡_, refl, sym, ap, _∙_}
 use mathlib.Core.List.{List, [], _∷_, _++_}
 use mathlib.Core.Bool.{true, false}
 use lib.ListN.{length, drop}
-use lib.Dec.{eqb}
-use borrow.Author.Tests.{le-leb, lt-leb, leb-true, leb-false, eq-eqb, ne-eqb}
+use borrow.Author.Tests.{le-leb, lt-leb}
 use Rattle.bitio.specs.Parse.{Answer, refused, accepted, onto}
 use Rattle.bitio.specs.Lent.{pasted}
 use Rattle.obu.specs.Obu.{Obu, obus}
-use Rattle.obu.specs.Unit.{count, has, strayIn, ofUnit}
-use Rattle.obu.proofs.UnitLaws.{has-count}
+use Rattle.obu.specs.Unit.{strayIn, ofUnit}
 use Rattle.obu.proofs.ObuLaws.{obus-item}
-use Rattle.obu.specs.Place.{Place, nothing, wrong, placed, obuPlace}
+use Rattle.obu.specs.Place.{Place, nothing, wrong, lies, obuPlace}
 use Rattle.obu.proofs.PlaceLaws.{Placed, is-placed, walk-start, walk-end, walk-stop}
-use Rattle.container.specs.Stream.{isDelimiter, others}
+use Rattle.container.specs.Stream.{others}
 use Rattle.packets.specs.Packets.{canonical, canonicalOf}
 use Rattle.bitio.specs.Limits.{limit}
-use Rattle.container.specs.Limits.{Room}
+use Rattle.container.specs.Limits.{Room, fits}
 use Rattle.container.specs.Units.{countOf, outAfter}
 use Rattle.packets.specs.Packets.{canonicalAt}
 use Rattle.container.specs.Ranges.{keptBytes, Range}
@@ -52,24 +50,17 @@ split-first s = go (obuPlace s 0) refl
     go : (x : Place) → obuPlace s 0 ≡ x → Split s (endOf x)
     go nothing e = none (accepted []) (walk-end (walk-start s) e) (λ o os q. let z : _≡_ {A = ℕ} 0 1 = cc in omega arith)
     go (wrong k) e = none (refused k) (walk-stop (walk-start s) k e) (λ o os q. let z : _≡_ {A = ℕ} 0 1 = cc in omega arith)
-    go (placed t x a b) e = split-at (is-placed s 0 e .placed)
+    go (lies t x a b) e = split-at (is-placed s 0 e .placed)
 
 -- ---- a clean unit, and one with a stray delimiter
 
-none-behind : (os : List Obu) → has isDelimiter os ≡ false → eqb (count isDelimiter os) 0 ≡ true
-none-behind os e = let k = leb-false 1 (count isDelimiter os) (has-count isDelimiter os ∙ e) in eq-eqb (count isDelimiter os) 0 (omega arith)
-
-one-behind : (os : List Obu) → has isDelimiter os ≡ true → eqb (count isDelimiter os) 0 ≡ false
-one-behind os e = let k = leb-true 1 (count isDelimiter os) (has-count isDelimiter os ∙ e) in ne-eqb (count isDelimiter os) 0 (λ z. omega arith)
-
 pub clean-same : (u : List ℕ) → ofUnit false strayIn (obus u) ≡ false → canonical u ≡ u
-unfolding canonical count
+unfolding canonical
 clean-same u e = go (obus u) e
   where
     go : (x : Answer (List Obu)) → ofUnit false strayIn x ≡ false → canonicalOf u x ≡ u
     go (refused k) e = refl
-    go (accepted []) e = refl
-    go (accepted (o ∷ os)) e = rw (none-behind os e)
+    go (accepted os) e = rw e
 
 pub record Stray (u : List ℕ) : Type 0 where
   pub o : Obu
@@ -85,37 +76,29 @@ stray u e = go (obus u) refl e
     go (refused k) p e = let z : _≡_ {A = ℕ} 0 1 = cc in absurd (omega arith)
     go (accepted []) p e = let z : _≡_ {A = ℕ} 0 1 = cc in absurd (omega arith)
     go (accepted (o ∷ os)) p e =
-        record { o = o; os = os; reads = p; same = rw (p, one-behind os e) (bytes-append (o ∷ []) (others os)) }
+        record { o = o; os = os; reads = p; same = rw (p, e) (bytes-append (o ∷ []) (others os)) }
 
 -- ---- the outcomes
 
-abbrev pub roomOf : List ℕ → Room
-roomOf d = record { bytes = length d; ends = 0 }
+abbrev pub outRoom : List ℕ → Room
+outRoom d = record { bytes = length d; ends = 0 }
 
 module _ (u d : List ℕ) where
-  pub canon-long : limit < length u → (refused 34 ≡ countOf (canonicalAt (roomOf d) u)) × (d ≡ outAfter (canonicalAt (roomOf d) u) d)
+  pub canon-long : limit < length u → (refused 34 ≡ countOf (canonicalAt (outRoom d) u)) × (d ≡ outAfter (canonicalAt (outRoom d) u) d)
   unfolding canonicalAt
   canon-long l = let e = lt-leb (length u) limit l in (rw e, rw e)
 
   module _ (short : length u ≤ limit) (bs : List ℕ) (same : canonical u ≡ bs) where
-    pub canon-large : limit < length bs → (refused 35 ≡ countOf (canonicalAt (roomOf d) u)) × (d ≡ outAfter (canonicalAt (roomOf d) u) d)
+    pub canon-roomless : fits (length bs) 0 (outRoom d) ≡ false → (refused 35 ≡ countOf (canonicalAt (outRoom d) u)) × (d ≡ outAfter (canonicalAt (outRoom d) u) d)
     unfolding canonicalAt
-    canon-large l =
-        let e = le-leb (length u) limit short in
-        let f = lt-leb (length bs) limit l in
-        (rw (e, same, f), rw (e, same, f))
+    canon-roomless f = let e = le-leb (length u) limit short in (rw (e, same, f), rw (e, same, f))
 
     module _ (fit : length bs ≤ limit) where
-      pub canon-full : length d < length bs → (refused 35 ≡ countOf (canonicalAt (roomOf d) u)) × (d ≡ outAfter (canonicalAt (roomOf d) u) d)
-      unfolding canonicalAt
-      canon-full l =
-          let e = le-leb (length u) limit short in
-          let f = le-leb (length bs) limit fit in
-          let g = lt-leb (length bs) (length d) l in
-          (rw (e, same, f, g), rw (e, same, f, g))
+      pub canon-full : length d < length bs → (refused 35 ≡ countOf (canonicalAt (outRoom d) u)) × (d ≡ outAfter (canonicalAt (outRoom d) u) d)
+      canon-full l = canon-roomless (rw (le-leb (length bs) limit fit, lt-leb (length bs) (length d) l))
 
       pub canon-there : length bs ≤ length d → {n : ℕ} {o : List ℕ} → n ≡ length bs → o ≡ pasted d 0 bs
-          → (accepted n ≡ countOf (canonicalAt (roomOf d) u)) × (o ≡ outAfter (canonicalAt (roomOf d) u) d)
+          → (accepted n ≡ countOf (canonicalAt (outRoom d) u)) × (o ≡ outAfter (canonicalAt (outRoom d) u) d)
       unfolding canonicalAt
       canon-there l q r =
           let e = le-leb (length u) limit short in

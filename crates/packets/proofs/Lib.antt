@@ -1,3 +1,4 @@
+pub mod RoomLaws
 pub mod SliceLaws
 pub mod PacketLaws
 pub mod PacketSteps

@@ -13,8 +13,9 @@ use Rattle.bitio.proofs.ParseLaws.{pick-both}
 use Rattle.bitio.specs.Every.Every.{none as nothing, also}
 use Rattle.obu.specs.Obu.{Obu}
 use Rattle.obu.specs.Place.{part}
-use Rattle.obu.specs.Unit.{count, ofUnit}
-use Rattle.container.specs.Stream.{isFrame, hasFrame}
+use Rattle.obu.specs.Unit.{isFrame, count, ofUnit}
+use Rattle.obu.proofs.UnitLaws.{has-count}
+use Rattle.container.specs.Stream.{hasFrame}
 use Rattle.container.specs.Units.{unitsFrom, unitsAt}
 use Rattle.bitio.specs.Limits.{limit}
 use Rattle.container.specs.Lists.{accepts}
@@ -114,7 +115,7 @@ closes-refused (accepted os) k e = let z : _≡_ {A = ℕ} 0 1 = cc in absurd (o
 
 pub closes-counted : (x : Answer (List Obu)) (n : ℕ) → answer (count isFrame) x ≡ accepted n → leb 1 n ≡ ofUnit true hasFrame x
 closes-counted (refused j) n e = let z : _≡_ {A = ℕ} 0 1 = cc in absurd (omega arith)
-closes-counted (accepted os) n e = let q : count isFrame os ≡ n = cc in rw (← q)
+closes-counted (accepted os) n e = let q : count isFrame os ≡ n = cc in rw (← q) (has-count isFrame os)
 
 module _ (us : List (List ℕ)) (a i : ℕ) (h : a ≤ i) (l : i < length us) where
   pub wait-more : Every Waits (slice a i us) → closes (getD us i []) ≡ false → Every Waits (slice a (i + 1) us)

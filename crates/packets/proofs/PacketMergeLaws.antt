@@ -1,50 +1,33 @@
 -- Laws of all output packets, measured and written.
-use Prim.Native.Nat.{ℕ, suc, _+_, _≤_, _<_, min}
+use Prim.Native.Nat.{ℕ, _+_, _≤_, _<_, min}
 use native.Mathlib.Omega.{arith}
 use mathlib.Core.Path.{_≡_, refl, sym, ap, ap₂, _∙_}
-use mathlib.Core.List.{List, [], _∷_, _++_, map, append-assoc, append-nil}
+use mathlib.Core.List.{List, [], _∷_, _++_, append-assoc, append-nil, map-append}
 use mathlib.Core.Bool.{Bool, true, false, cond as pick}
 use lib.ListN.{length, drop, getD, set, length-append, length-map, length-set, drop-of-length-le}
 use lib.Seq.{slice-empty}
 use lib.Dec.{ltb}
 use borrow.Author.Tests.{lt-ltb, le-ltb, ltb-true, ltb-false}
-use Rattle.bitio.specs.Lent.{pasted}
-use Rattle.bitio.proofs.LentLaws.{pasted-nil, pasted-set}
+use Rattle.bitio.specs.Lent.{pasted, Wrote}
+use Rattle.bitio.proofs.LentLaws.{pasted-nil, pasted-set, wrote-length, wrote-more}
 use Rattle.bitio.specs.Every.Every.{none as nothing, also}
 use Rattle.bitio.specs.Limits.{limit}
 use Rattle.container.specs.Stream.{flat, streamBytes}
+use Rattle.container.proofs.StreamLaws.{flat-append}
+use Rattle.container.proofs.ListLaws.{ends-length, ends-more}
 use Rattle.packets.specs.Packets.{Packet, alone, mergePackets}
-use Rattle.container.specs.Ranges.{Wrote}
 use Rattle.container.specs.Units.{endsOf}
 use Rattle.packets.specs.PacketLists.{bytesOf, timesOf}
 use Rattle.bitio.specs.Every.{Every}
-use Rattle.packets.specs.PacketRuns.{listed, piece, most, Parses, Waits, Next, Piece, PieceRoom, packetsOf, mergedOf, Totals, Closing, Roomy, Ready, Written}
+use Rattle.packets.specs.PacketRuns.{listed, piece, most, Parses, Waits, Next, Piece, PieceRoom, packetsOf, mergedOf, Totals, Closing, MergeRoom, Ready, WroteMerged}
 use Rattle.packets.proofs.PacketListLaws.{listed-length, packets-bytes, packets-times, packets-short}
 use Rattle.packets.proofs.PacketSteps.{size, step-more, step-last}
-use Rattle.packets.proofs.PacketRunLaws.{wrote-length, wrote-append}
 
 -- ---- lists of packets, one more
 
-map-append : {A B : Type 0} (f : A → B) (l m : List A) → map f (l ++ m) ≡ map f l ++ map f m
-map-append f [] m = refl
-map-append f (x ∷ l) m = rw (map-append f l m)
-
 stream-append : (us vs : List (List ℕ)) → streamBytes (us ++ vs) ≡ streamBytes us ++ streamBytes vs
-unfolding streamBytes flat
-stream-append [] vs = refl
-stream-append (u ∷ us) vs = rw (stream-append us vs, append-assoc u (flat us) (flat vs))
-
-ends-append : (at : ℕ) (us : List (List ℕ)) (u : List ℕ) → endsOf at (us ++ (u ∷ [])) ≡ endsOf at us ++ ((at + length (streamBytes us) + length u) ∷ [])
-unfolding endsOf streamBytes flat
-ends-append at [] u = let k : at + 0 + length u ≡ at + length u = omega arith in rw k
-ends-append at (x ∷ us) u =
-    let k : at + length x + length (flat us) + length u ≡ at + length (x ++ flat us) + length u = omega (arith, length-append x (flat us)) in
-    rw (ends-append (at + length x) us u, k)
-
-pub ends-length : (at : ℕ) (us : List (List ℕ)) → length (endsOf at us) ≡ length us
-unfolding endsOf
-ends-length at [] = refl
-ends-length at (u ∷ us) = ap suc (ends-length (at + length u) us)
+unfolding streamBytes
+stream-append us vs = flat-append us vs
 
 module _ (ps : List Packet) where
   pub bytes-length : length (bytesOf ps) ≡ length ps
@@ -71,8 +54,8 @@ module _ (ps : List Packet) where
     stream-length : length (streamBytes (bytesOf (ps ++ (p ∷ [])))) ≡ length (streamBytes (bytesOf ps)) + length (p .bytes)
     stream-length = ap length stream-more ∙ length-append (streamBytes (bytesOf ps)) (p .bytes)
 
-    ends-more : endsOf 0 (bytesOf (ps ++ (p ∷ []))) ≡ endsOf 0 (bytesOf ps) ++ ((0 + length (streamBytes (bytesOf ps)) + length (p .bytes)) ∷ [])
-    ends-more = ap (endsOf 0) bytes-more ∙ ends-append 0 (bytesOf ps) (p .bytes)
+    out-ends-more : endsOf 0 (bytesOf (ps ++ (p ∷ []))) ≡ endsOf 0 (bytesOf ps) ++ ((0 + length (streamBytes (bytesOf ps)) + length (p .bytes)) ∷ [])
+    out-ends-more = ap (endsOf 0) bytes-more ∙ ends-more 0 (bytesOf ps) (p .bytes)
 
 stream-split : (ps rs : List Packet) → length (streamBytes (bytesOf (ps ++ rs))) ≡ length (streamBytes (bytesOf ps)) + length (streamBytes (bytesOf rs))
 unfolding bytesOf
@@ -243,7 +226,7 @@ module _ {s es ts : List ℕ} {first at n u : ℕ} (m : Measuring s es ts first 
 
 -- lent memory was o₀, e₀ and t₀, and is o, e and t
 pub record Putting (s es ts o₀ e₀ t₀ : List ℕ) (first at w u : ℕ) (o e t : List ℕ) : Type 0 where
-  pub room : Roomy s es ts o₀ e₀ t₀
+  pub room : MergeRoom s es ts o₀ e₀ t₀
   pub done : List Packet
   pub state : Done s es ts first at done
   pub count : u ≡ length done
@@ -262,7 +245,7 @@ put-start {s} {es} {ts} {o} {e} {t} {c} k =
       done = [];
       state = done-start (k .closing);
       count = refl;
-      wrote = record { next = refl; lent = sym (pasted-nil o 0) };
+      wrote = record { next = refl; out = sym (pasted-nil o 0) };
       ends = sym (pasted-nil e 0);
       times = sym (pasted-nil t 0);
       long = refl;
@@ -271,10 +254,10 @@ put-start {s} {es} {ts} {o} {e} {t} {c} k =
     }
 
 module _ {s es ts o₀ e₀ t₀ : List ℕ} {first at w u : ℕ} {o e t : List ℕ} (m : Putting s es ts o₀ e₀ t₀ first at w u o e t) where
-  pub put-end : length ts ≤ first → Written s es ts o₀ e₀ t₀ o e t
+  pub put-end : length ts ≤ first → WroteMerged s es ts o₀ e₀ t₀ o e t
   put-end l =
       let q = done-end (m .state) l in
-      record { bytes = rw q (m .wrote .lent); ends = rw q (m .ends); times = rw q (m .times) }
+      record { bytes = rw q (m .wrote .out); ends = rw q (m .ends); times = rw q (m .times) }
 
   module _ (l : first < length ts) {d b : ℕ} (x : Next (listed s es) (at + 1) d) (f : b ≡ pick (ltb d (length ts)) (at + 1) (length ts)) where
     abbrev p : Packet
@@ -316,10 +299,10 @@ module _ {s es ts o₀ e₀ t₀ : List ℕ} {first at w u : ℕ} {o e t : List 
             done = m .done ++ (p ∷ []);
             state = done-next (m .state) l x f;
             count = omega (arith, m .count, length-append (m .done) (p ∷ []));
-            wrote = rw (stream-more (m .done) p) (wrote-append (m .wrote) y (omega arith));
+            wrote = rw (stream-more (m .done) p) (wrote-more (m .wrote) (omega arith) y);
             ends =
                 ap₂ (λ g j. set g j v) (m .ends) le ∙ pasted-set e₀ 0 es₀ v (omega (arith, slots .0, m .long-ends))
-                ∙ ap (λ k. pasted e₀ 0 (es₀ ++ (k ∷ []))) lv ∙ ap (pasted e₀ 0) (sym (ends-more (m .done) p));
+                ∙ ap (λ k. pasted e₀ 0 (es₀ ++ (k ∷ []))) lv ∙ ap (pasted e₀ 0) (sym (out-ends-more (m .done) p));
             times =
                 ap₂ (λ g j. set g j (getD ts at 0)) (m .times) lt ∙ pasted-set t₀ 0 ts₀ (getD ts at 0) (omega (arith, slots .1, m .long-times))
                 ∙ ap (pasted t₀ 0) (sym (times-more (m .done) p));

@@ -1,25 +1,27 @@
 -- Laws of merge_frameless_packets: its outcomes.
 use Prim.Native.Nat.{ℕ, _+_, _≤_, _<_, min}
 use native.Mathlib.Omega.{arith}
-use mathlib.Core.Path.{_≡_, refl, sym, ap, ap₂, _∙_}
+use mathlib.Core.Path.{_≡_, sym, ap, ap₂, _∙_}
 use mathlib.Core.List.{List, [], _∷_, append-nil}
-use mathlib.Core.Bool.{Bool, true, false, _&&_}
+use mathlib.Core.Bool.{true, false, _&&_}
 use lib.ListN.{length, getD, set}
 use lib.Dec.{leb}
-use borrow.Author.Tests.{le-leb, lt-leb, leb-true, leb-false}
+use borrow.Author.Tests.{le-leb, lt-leb, leb-true}
 use Rattle.bitio.specs.Parse.{refused, accepted, answer, andNext}
 use Rattle.bitio.proofs.LentLaws.{pasted-nil, pasted-one}
+use Rattle.bitio.proofs.ParseLaws.{and-both}
 use Rattle.obu.specs.Obu.{unitBytes}
 use Rattle.bitio.specs.Limits.{limit}
 use Rattle.container.specs.Lists.{accepts}
 use Rattle.container.specs.Stream.{flat, streamBytes}
 use Rattle.packets.specs.Packets.{Packet}
-use Rattle.container.specs.Ranges.{Wrote}
+use Rattle.bitio.specs.Lent.{Wrote}
 use Rattle.container.specs.Units.{unitsAt, endsOf, sizesOf, bytesAfter, endsAfter}
 use Rattle.packets.specs.declared.packets.Merged.{Merged}
 use Rattle.packets.specs.declared.packets.Merged.the-variants.{Packets, Refused}
-use Rattle.packets.specs.PacketLists.{packetsAt, bytesOf, timesOf, PacketRoom, roomOf, fitsPackets, fitPackets, mergedAt, timesAfter, mergedSays}
-use Rattle.packets.specs.PacketRuns.{listed, held, most, Next, Full, Run, RunRoom, packetsOf, mergedOf, Totals, Closing, Roomy, Written, Given, None, Some, Outcome}
+use Rattle.packets.specs.PacketLists.{packetsAt, bytesOf, timesOf, PacketRoom, lentRoom, fitsPackets, fitPackets, mergedAt, timesAfter, mergedSays}
+use Rattle.packets.specs.PacketRuns.{listed, allParsed, most, Next, Full, Run, RunRoom, packetsOf, mergedOf, Totals, Closing, MergeRoom, WroteMerged, Given, None, Some, Outcome}
+use Rattle.packets.proofs.RoomLaws.{fits-most}
 use Rattle.packets.proofs.SliceLaws.{slice-rest}
 use Rattle.packets.proofs.PacketListLaws.{listed-length, packets-bytes, packets-times, packets-unmatched, packets-wrong, packets-there}
 use Rattle.packets.proofs.PacketSteps.{size, alone-some, alone-none}
@@ -28,21 +30,8 @@ use Rattle.packets.proofs.PacketMergeLaws.{bytes-length, all-parse}
 
 -- ---- room
 
-fits-most : (x u : ℕ) (room : PacketRoom) → fitsPackets (min x most) u room ≡ fitsPackets x u room
-fits-most x u room = go (leb x limit) refl
-  where
-    go : (b : Bool) → leb x limit ≡ b → fitsPackets (min x most) u room ≡ fitsPackets x u room
-    go true p =
-        let k = leb-true x limit p in
-        let e : min x most ≡ x = omega arith in
-        rw e
-    go false p =
-        let k = leb-false x limit p in
-        rw (p, lt-leb (min x most) limit (omega arith))
-
-both : (a b : Bool) → (a && b) ≡ true → (a ≡ true) × (b ≡ true)
-both true b e = (refl, e)
-both false b e = let z : _≡_ {A = ℕ} 0 1 = cc in absurd (omega arith)
+packets-most : (x u : ℕ) (room : PacketRoom) → fitsPackets (min x most) u room ≡ fitsPackets x u room
+packets-most x u room = ap (λ b. b && leb u (room .times)) (fits-most x u (record { bytes = room .bytes; ends = room .ends }))
 
 record Fits (n u : ℕ) (room : PacketRoom) : Type 0 where
   small : n ≤ limit
@@ -52,9 +41,9 @@ record Fits (n u : ℕ) (room : PacketRoom) : Type 0 where
 
 fits-all : (n u : ℕ) (room : PacketRoom) → fitsPackets n u room ≡ true → Fits n u room
 fits-all n u room e =
-    let p = both (leb n limit && (leb n (room .bytes) && leb u (room .ends))) (leb u (room .times)) e in
-    let q = both (leb n limit) (leb n (room .bytes) && leb u (room .ends)) (p .0) in
-    let r = both (leb n (room .bytes)) (leb u (room .ends)) (q .1) in
+    let p = and-both (leb n limit && (leb n (room .bytes) && leb u (room .ends))) (leb u (room .times)) e in
+    let q = and-both (leb n limit) (leb n (room .bytes) && leb u (room .ends)) (p .0) in
+    let r = and-both (leb n (room .bytes)) (leb u (room .ends)) (q .1) in
     record {
       small = leb-true n limit (q .0);
       bytes = leb-true n (room .bytes) (r .0);
@@ -65,14 +54,14 @@ fits-all n u room e =
 -- ---- the outcomes
 
 module _ (s es ts o e t : List ℕ) where
-  refuse : (k : ℕ) → mergedAt (roomOf o e t) s es ts ≡ refused k → Outcome s es ts o e t (Refused k) o e t
+  refuse : (k : ℕ) → mergedAt (lentRoom o e t) s es ts ≡ refused k → Outcome s es ts o e t (Refused k) o e t
   refuse k q = record { answers = rw q; bytes = rw q; ends = rw q; times = rw q }
 
-  at-long : limit < length s → mergedAt (roomOf o e t) s es ts ≡ refused 34
+  at-long : limit < length s → mergedAt (lentRoom o e t) s es ts ≡ refused 34
   unfolding mergedAt andNext
   at-long l = rw (lt-leb (length s) limit l)
 
-  at-36 : length s ≤ limit → packetsAt s es ts ≡ refused 36 → mergedAt (roomOf o e t) s es ts ≡ refused 36
+  at-36 : length s ≤ limit → packetsAt s es ts ≡ refused 36 → mergedAt (lentRoom o e t) s es ts ≡ refused 36
   unfolding mergedAt andNext
   at-36 l q = rw (le-leb (length s) limit l, q)
 
@@ -86,7 +75,7 @@ module _ (s es ts o e t : List ℕ) where
   out-wrong l m r = refuse 36 (at-36 l (packets-wrong s es ts m r))
 
   module _ (g : Given s es ts) where
-    at-fit : mergedAt (roomOf o e t) s es ts ≡ fitPackets (roomOf o e t) (mergedOf s es ts)
+    at-fit : mergedAt (lentRoom o e t) s es ts ≡ fitPackets (lentRoom o e t) (mergedOf s es ts)
     unfolding mergedAt andNext
     at-fit = rw (le-leb (length s) limit (g .short), packets-there s es ts (g .match) (g .listed))
 
@@ -94,26 +83,26 @@ module _ (s es ts o e t : List ℕ) where
       abbrev total : ℕ
       total = length (streamBytes (bytesOf (mergedOf s es ts)))
 
-      same-fit : fitsPackets n u (roomOf o e t) ≡ fitsPackets total (length (mergedOf s es ts)) (roomOf o e t)
-      same-fit = ap₂ (λ x y. fitsPackets x y (roomOf o e t)) (z .bytes) (z .count) ∙ fits-most total (length (mergedOf s es ts)) (roomOf o e t)
+      same-fit : fitsPackets n u (lentRoom o e t) ≡ fitsPackets total (length (mergedOf s es ts)) (lentRoom o e t)
+      same-fit = ap₂ (λ x y. fitsPackets x y (lentRoom o e t)) (z .bytes) (z .count) ∙ packets-most total (length (mergedOf s es ts)) (lentRoom o e t)
 
-      pub out-full : fitsPackets n u (roomOf o e t) ≡ false → Outcome s es ts o e t (Refused 35) o e t
+      pub out-full : fitsPackets n u (lentRoom o e t) ≡ false → Outcome s es ts o e t (Refused 35) o e t
       out-full f = refuse 35 (at-fit ∙ rw (sym same-fit ∙ f))
 
-      module _ (f : fitsPackets n u (roomOf o e t) ≡ true) where
-        fit : Fits total (length (mergedOf s es ts)) (roomOf o e t)
-        fit = fits-all total (length (mergedOf s es ts)) (roomOf o e t) (sym same-fit ∙ f)
+      module _ (f : fitsPackets n u (lentRoom o e t) ≡ true) where
+        fit : Fits total (length (mergedOf s es ts)) (lentRoom o e t)
+        fit = fits-all total (length (mergedOf s es ts)) (lentRoom o e t) (sym same-fit ∙ f)
 
-        pub out-room : Roomy s es ts o e t
+        pub out-room : MergeRoom s es ts o e t
         out-room = record { small = fit .small; bytes = fit .bytes; ends = fit .ends; times = fit .times }
 
         pub out-size : n ≡ total
         out-size = omega (arith, z .bytes, fit .small)
 
-        at-there : mergedAt (roomOf o e t) s es ts ≡ accepted (mergedOf s es ts)
+        at-there : mergedAt (lentRoom o e t) s es ts ≡ accepted (mergedOf s es ts)
         at-there = at-fit ∙ rw (sym same-fit ∙ f)
 
-        pub out-there : {o′ e′ t′ : List ℕ} → Written s es ts o e t o′ e′ t′ → Outcome s es ts o e t (Packets n u) o′ e′ t′
+        pub out-there : {o′ e′ t′ : List ℕ} → WroteMerged s es ts o e t o′ e′ t′ → Outcome s es ts o e t (Packets n u) o′ e′ t′
         out-there w =
             let c : u ≡ length (bytesOf (mergedOf s es ts)) = z .count ∙ sym (bytes-length (mergedOf s es ts)) in
             record {
@@ -147,10 +136,10 @@ module _ (s es ts : List ℕ) (g : None s es ts) where
         parse = all-parse (rw (g .given .match) at (g .next .wait));
       }
 
-  whole : runBytes true (listed s es) 0 (length ts) ≡ unitBytes (held (listed s es))
+  whole : runBytes true (listed s es) 0 (length ts) ≡ unitBytes (allParsed (listed s es))
   whole =
       let k : length ts ≡ length (listed s es) = sym (listed-length 0 s es ∙ g .given .match) in
-      rw k (ap (λ l. unitBytes (held l)) (slice-rest 0 (listed s es)))
+      rw k (ap (λ l. unitBytes (allParsed l)) (slice-rest 0 (listed s es)))
 
   module _ (i : ℕ) (f : Full (listed s es) 0 (length ts) i) where
     full : Full (bytesOf qs) 0 (length (bytesOf qs)) i
@@ -163,7 +152,7 @@ module _ (s es ts : List ℕ) (g : None s es ts) where
     unfolding bytesOf streamBytes flat
     totals-none l = let m = merged-none l in record { bytes = rw m (omega arith); count = rw m }
 
-    written-none : length ts ≤ i → (o e t : List ℕ) → Written s es ts o e t o e t
+    written-none : length ts ≤ i → (o e t : List ℕ) → WroteMerged s es ts o e t o e t
     unfolding bytesOf timesOf streamBytes flat endsOf
     written-none l o e t =
         let m = merged-none l in
@@ -173,44 +162,44 @@ module _ (s es ts : List ℕ) (g : None s es ts) where
     none-fits room = rw (le-leb 0 limit (omega arith), le-leb 0 (room .bytes) (omega arith), le-leb 0 (room .ends) (omega arith), le-leb 0 (room .times) (omega arith))
 
     pub out-none : length ts ≤ i → (o e t : List ℕ) → Outcome s es ts o e t (Packets 0 0) o e t
-    out-none l o e t = out-there s es ts o e t (g .given) 0 0 (totals-none l) (none-fits (roomOf o e t)) (written-none l o e t)
+    out-none l o e t = out-there s es ts o e t (g .given) 0 0 (totals-none l) (none-fits (lentRoom o e t)) (written-none l o e t)
 
     module _ (l : i < length ts) where
       abbrev one : Packet
-      one = record { time = getD ts i 0; bytes = unitBytes (held (listed s es)) }
+      one = record { time = getD ts i 0; bytes = unitBytes (allParsed (listed s es)) }
 
       merged-one : mergedOf s es ts ≡ one ∷ []
       merged-one = rw (eb, packets-times s es ts (g .given .match)) at (alone-some qs next i full (omega (arith, size qs, long)))
 
       one-bytes : streamBytes (bytesOf (mergedOf s es ts)) ≡ runBytes true (listed s es) 0 (length ts)
       unfolding bytesOf streamBytes flat
-      one-bytes = ap (λ x. streamBytes (bytesOf x)) merged-one ∙ append-nil (unitBytes (held (listed s es))) ∙ sym whole
+      one-bytes = ap (λ x. streamBytes (bytesOf x)) merged-one ∙ append-nil (unitBytes (allParsed (listed s es))) ∙ sym whole
 
       pub one-totals : {n : ℕ} → n ≡ min (length (runBytes true (listed s es) 0 (length ts))) most → Totals s es ts n 1
       one-totals p = record { bytes = rw one-bytes p; count = rw merged-one }
 
-      pub one-room : {o e t : List ℕ} → Roomy s es ts o e t → RunRoom s es 0 (length ts) true o 0
+      pub one-room : {o e t : List ℕ} → MergeRoom s es ts o e t → RunRoom s es 0 (length ts) true o 0
       one-room r = record { run = none-run; room = omega (arith, r .bytes, ap length one-bytes) }
 
-      pub one-slots : {o e t : List ℕ} → Roomy s es ts o e t → (0 < length e) × (0 < length t)
+      pub one-slots : {o e t : List ℕ} → MergeRoom s es ts o e t → (0 < length e) × (0 < length t)
       one-slots r = let k = ap length merged-one in (omega (arith, r .ends), omega (arith, r .times))
 
       one-end : {n : ℕ} → n ≡ length (streamBytes (bytesOf (mergedOf s es ts))) → endsOf 0 (bytesOf (mergedOf s es ts)) ≡ n ∷ []
       unfolding bytesOf endsOf
       one-end {n} q =
-          let k : 0 + length (unitBytes (held (listed s es))) ≡ n = omega (arith, ap length one-bytes, ap length whole) in
+          let k : 0 + length (unitBytes (allParsed (listed s es))) ≡ n = omega (arith, ap length one-bytes, ap length whole) in
           rw (merged-one, k)
 
       one-time : timesOf (mergedOf s es ts) ≡ getD ts i 0 ∷ []
       unfolding timesOf
       one-time = rw merged-one
 
-      pub one-written : {o e t : List ℕ} → Roomy s es ts o e t → {n w : ℕ} {o′ : List ℕ} → n ≡ length (streamBytes (bytesOf (mergedOf s es ts)))
-          → Wrote o 0 (runBytes true (listed s es) 0 (length ts)) w o′ → Written s es ts o e t o′ (set e 0 n) (set t 0 (getD ts i 0))
+      pub one-written : {o e t : List ℕ} → MergeRoom s es ts o e t → {n w : ℕ} {o′ : List ℕ} → n ≡ length (streamBytes (bytesOf (mergedOf s es ts)))
+          → Wrote o 0 (runBytes true (listed s es) 0 (length ts)) w o′ → WroteMerged s es ts o e t o′ (set e 0 n) (set t 0 (getD ts i 0))
       one-written {o} {e} {t} r {n} q x =
           let k = one-slots r in
           record {
-            bytes = rw one-bytes (x .lent);
+            bytes = rw one-bytes (x .out);
             ends = rw (one-end q) (pasted-one e 0 n (k .0));
             times = rw one-time (pasted-one t 0 (getD ts i 0) (k .1));
           }
@@ -226,7 +215,7 @@ none-closes {s} {es} {ts} {c} g n l =
 
 -- an outcome, as four clauses ask for it
 pub four : {s es ts o e t o′ e′ t′ : List ℕ} {r : Merged} → Outcome s es ts o e t r o′ e′ t′
-    → (mergedSays r ≡ sizesOf (answer bytesOf (mergedAt (roomOf o e t) s es ts)))
-    × ((o′ ≡ bytesAfter (answer bytesOf (mergedAt (roomOf o e t) s es ts)) o)
-    × ((e′ ≡ endsAfter (answer bytesOf (mergedAt (roomOf o e t) s es ts)) e) × (t′ ≡ timesAfter (mergedAt (roomOf o e t) s es ts) t)))
+    → (mergedSays r ≡ sizesOf (answer bytesOf (mergedAt (lentRoom o e t) s es ts)))
+    × ((o′ ≡ bytesAfter (answer bytesOf (mergedAt (lentRoom o e t) s es ts)) o)
+    × ((e′ ≡ endsAfter (answer bytesOf (mergedAt (lentRoom o e t) s es ts)) e) × (t′ ≡ timesAfter (mergedAt (lentRoom o e t) s es ts) t)))
 four x = (x .answers, (x .bytes, (x .ends, x .times)))

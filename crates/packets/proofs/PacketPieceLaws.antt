@@ -1,27 +1,28 @@
 -- Laws of one output packet, measured and written.
 use Prim.Native.Nat.{ℕ, _+_, _≤_, _<_, min}
 use native.Mathlib.Omega.{arith}
-use mathlib.Core.Path.{_≡_, refl, sym, ap, _∙_}
+use mathlib.Core.Path.{_≡_, refl, ap, _∙_}
 use mathlib.Core.List.{List, [], _∷_, _++_}
 use mathlib.Core.Bool.{Bool, true, false}
 use lib.ListN.{length, length-append}
 use lib.Seq.{slice}
 use Rattle.bitio.specs.Parse.{Answer, refused, accepted, answer}
-use Rattle.bitio.specs.Lent.{pasted}
+use Rattle.bitio.specs.Lent.{pasted, Wrote}
 use Rattle.bitio.specs.Every.Every.{also}
-use Rattle.obu.specs.Obu.{Obu, headObuOf, obus}
+use Rattle.bitio.proofs.LentLaws.{wrote-length, wrote-more}
+use Rattle.obu.specs.Obu.{Obu, obus}
 use Rattle.obu.specs.Unit.{count, ofUnit}
 use Rattle.obu.proofs.ObuLaws.{obus-nil}
 use Rattle.bitio.specs.Limits.{limit}
 use Rattle.container.specs.Stream.{lead, others, either}
-use Rattle.container.specs.Ranges.{Range, here, more, keptBytes, Ranged, Measured, Roomy, Wrote, WroteKept}
+use Rattle.container.specs.Ranges.{Range, here, more, keptBytes, Ranged, Measured, Roomy, WroteKept}
 use Rattle.container.proofs.StreamLaws.{bytes-append}
 use Rattle.container.proofs.RangeLaws.{range-end}
-use Rattle.packets.specs.PacketRuns.{listed, unitOf, held, parsed, leadOf, piece, most, Parses, Full, Run, RunRoom, HeadAt, found, missing, LeadAt, waiting, closing, behind, parsesUnit, Piece, Joins}
+use Rattle.packets.specs.PacketRuns.{listed, unitOf, allParsed, parsed, leadOf, piece, most, Parses, Full, Run, RunRoom, HeadAt, found, missing, LeadAt, waiting, closing, behind, parsesUnit, Piece, Joins}
 use Rattle.packets.proofs.SliceLaws.{slice-at, every-join, every-or}
 use Rattle.packets.proofs.PacketListLaws.{listed-length, listed-out, listed-short}
 use Rattle.packets.proofs.PacketSteps.{first-obu, lead-found, lead-missing}
-use Rattle.packets.proofs.PacketRunLaws.{runBytes, held-append, wrote-length, wrote-append}
+use Rattle.packets.proofs.PacketRunLaws.{lead-empty, runBytes, parsed-append}
 
 -- ---- whether a unit parses
 
@@ -50,10 +51,6 @@ parses-not u e = go (obus u) refl e
 
 -- ---- the delimiter that moves to the front
 
-lead-empty : leadOf [] ≡ []
-unfolding headObuOf
-lead-empty = refl
-
 -- the head of a unit that parses
 pub lead-parsed : (u : List ℕ) → Parses u → leadOf u ≡ lead (parsed u)
 lead-parsed [] p = rw (obus-nil, lead-empty)
@@ -65,15 +62,15 @@ module _ {s es : List ℕ} {a b i : ℕ} (r : Run s es a b) (f : Full (listed s 
   inside : b ≤ length (listed s es)
   inside = omega (arith, listed-length 0 s es, r .within)
 
-  head-found : i < b → leadOf (unitOf s es i) ≡ lead (held (slice a b (listed s es)))
+  head-found : i < b → leadOf (unitOf s es i) ≡ lead (allParsed (slice a b (listed s es)))
   head-found l = lead-found (listed s es) a b i inside f l (r .parse)
 
-  head-missing : b ≤ i → leadOf (unitOf s es (length es)) ≡ lead (held (slice a b (listed s es)))
+  head-missing : b ≤ i → leadOf (unitOf s es (length es)) ≡ lead (allParsed (slice a b (listed s es)))
   head-missing l =
       let e : i ≡ b = omega (arith, f .within) in
       rw (listed-out s es (length es) (omega arith), lead-empty, lead-missing (listed s es) a b i inside f e)
 
-head-leads : {s es : List ℕ} {a b r : ℕ} → Run s es a b → HeadAt s es a b r → leadOf (unitOf s es r) ≡ lead (held (slice a b (listed s es)))
+head-leads : {s es : List ℕ} {a b r : ℕ} → Run s es a b → HeadAt s es a b r → leadOf (unitOf s es r) ≡ lead (allParsed (slice a b (listed s es)))
 head-leads x (found f l) = head-found x f l
 head-leads x (missing f l) = head-missing x f l
 
@@ -111,18 +108,18 @@ module _ {s es : List ℕ} {a c b : ℕ} (p : Piece s es a c b) where
         parse = rw whole (every-join Parses (slice a c (listed s es)) (unitOf s es c ∷ slice (c + 1) b (listed s es)) (p .front) (also m (p .back)));
       }
 
-  whole-held : held (slice a b (listed s es)) ≡ held (slice a c (listed s es)) ++ (parsed (unitOf s es c) ++ held (slice (c + 1) b (listed s es)))
-  unfolding held
-  whole-held = ap held whole ∙ held-append (slice a c (listed s es)) (unitOf s es c ∷ slice (c + 1) b (listed s es))
+  whole-held : allParsed (slice a b (listed s es)) ≡ allParsed (slice a c (listed s es)) ++ (parsed (unitOf s es c) ++ allParsed (slice (c + 1) b (listed s es)))
+  unfolding allParsed
+  whole-held = ap allParsed whole ∙ parsed-append (slice a c (listed s es)) (unitOf s es c ∷ slice (c + 1) b (listed s es))
 
   -- the packet that closes parses
   pub piece-joined : (m : Parses (unitOf s es c)) (x : List Obu)
-      → x ≡ either (lead (held (slice a c (listed s es)))) (either (lead (parsed (unitOf s es c))) (lead (held (slice (c + 1) b (listed s es)))))
+      → x ≡ either (lead (allParsed (slice a c (listed s es)))) (either (lead (parsed (unitOf s es c))) (lead (allParsed (slice (c + 1) b (listed s es)))))
       → piece (listed s es) a c b ≡ keptBytes true x ++ runBytes false (listed s es) a b
   unfolding piece
   piece-joined m x e =
-      let w = held (slice a c (listed s es)) in
-      let t = held (slice (c + 1) b (listed s es)) in
+      let w = allParsed (slice a c (listed s es)) in
+      let t = allParsed (slice (c + 1) b (listed s es)) in
       rw (e, whole-held, m .reads) (bytes-append (either (lead w) (either (lead (m .os)) (lead t))) (others (w ++ (m .os ++ t))))
 
   -- it does not
@@ -152,13 +149,13 @@ module _ (s es : List ℕ) (i : ℕ) {u : List ℕ} {e : ℕ} (short : length s 
 
 module _ (s es : List ℕ) (a c b : ℕ) (j : Joins s es a c b) where
   abbrev first : List Obu
-  first = lead (held (slice a c (listed s es)))
+  first = lead (allParsed (slice a c (listed s es)))
 
   abbrev second : List Obu
   second = lead (parsed (unitOf s es c))
 
   abbrev third : List Obu
-  third = lead (held (slice (c + 1) b (listed s es)))
+  third = lead (allParsed (slice (c + 1) b (listed s es)))
 
   either-some : (x y : List Obu) → (x ≡ [] → ⊥) → x ≡ either x y
   either-some [] y n = absurd (n refl)
@@ -199,7 +196,7 @@ module _ (s es : List ℕ) (a c b : ℕ) (j : Joins s es a c b) where
             }
 
         pub joined-wrote : {p : List ℕ} {v : ℕ} → Wrote o w (runBytes false (listed s es) a b) v p → Wrote d to (piece (listed s es) a c b) v p
-        joined-wrote y = rw split (wrote-append x y (omega arith))
+        joined-wrote y = rw split (wrote-more x (omega arith) y)
 
 -- ---- where it does not
 
@@ -237,8 +234,8 @@ module _ (s es : List ℕ) (a c b : ℕ) (j : Piece s es a c b) (k : ℕ) (bad :
             }
 
         pub apart-wrote : {f : List ℕ} {g : ℕ} → Wrote p v back g f → Wrote d to (piece (listed s es) a c b) g f
-        apart-wrote z = rw apart (wrote-append x (wrote-append y z (omega (arith, apart-mid))) (omega arith))
+        apart-wrote z = rw apart (wrote-more x (omega arith) (wrote-more y (omega (arith, apart-mid)) z))
 
 -- a copy of u, which is v
-pub copied : {u v d o : List ℕ} {to w : ℕ} → u ≡ v → w ≡ to + length u → o ≡ pasted d to u → Wrote d to v w o
-copied {u} {v} {d} {o} {to} {w} q e f = rw (← q) (record { next = e; lent = f })
+pub wrote-copy : {u v d o : List ℕ} {to w : ℕ} → u ≡ v → w ≡ to + length u → o ≡ pasted d to u → Wrote d to v w o
+wrote-copy {u} {v} {d} {o} {to} {w} q e f = rw (← q) (record { next = e; out = f })

@@ -11,7 +11,7 @@ use borrow.Author.Tests.{lt-ltb}
 use types.Run.{OneOf}
 use denote.Enum.Declared.{tagOf}
 use Rattle.bitio.specs.Parse.{accepted, Head, stop, item}
-use Rattle.bitio.specs.Lent.{pasted}
+use Rattle.bitio.specs.Lent.{pasted, Wrote}
 use Rattle.bitio.proofs.LentLaws.{pasted-nil, pasted-more, pasted-length}
 use Rattle.obu.specs.Obu.{Obu, headObuOf, headObu, obus}
 use Rattle.obu.specs.Place.{placeOf, obuPlace, obuSays}
@@ -20,13 +20,14 @@ use Rattle.obu.specs.declared.reader.ObuAt.{ObuAt}
 use Rattle.obu.specs.declared.reader.ObuAt.the-variants.{Found, End, Refused}
 use Rattle.obu.proofs.PlaceLaws.{Placed}
 use Rattle.bitio.specs.Limits.{limit}
-use Rattle.container.specs.Stream.{isDelimiter, others}
-use Rattle.container.specs.Ranges.{Range, here, keptBytes, Ranged, Measured, Roomy, Wrote, WroteKept}
+use Rattle.obu.specs.Unit.{isDelimiter}
+use Rattle.container.specs.Stream.{others}
+use Rattle.container.specs.Ranges.{Range, here, keptBytes, Ranged, Measured, Roomy, WroteKept}
 use Rattle.container.proofs.StreamLaws.{bytes-append}
 use Rattle.container.proofs.RangeLaws.{placed-step, range-one, range-whole, kept-nil}
-use Rattle.packets.specs.PacketRuns.{listed, unitOf, held, parsed, leadAt, leadOf, most, Parses, Run}
+use Rattle.packets.specs.PacketRuns.{listed, unitOf, allParsed, parsed, leadAt, leadOf, most, Parses, Run}
 use Rattle.packets.proofs.SliceLaws.{slice-more, slice-join, slice-at, every-at, every-seam}
-use Rattle.packets.proofs.PacketLaws.{others-append}
+use Rattle.container.proofs.LeadLaws.{others-append}
 use Rattle.packets.proofs.PacketListLaws.{listed-length, listed-short}
 
 -- ---- the delimiter at the head
@@ -35,7 +36,7 @@ no-found : OneOf (1 ∷ 2 ∷ []) 0 → ⊥
 no-found (inl q) = omega arith
 no-found (inr q) = omega arith
 
-lead-empty : leadOf [] ≡ []
+pub lead-empty : leadOf [] ≡ []
 unfolding headObuOf
 lead-empty = refl
 
@@ -67,32 +68,32 @@ pub kept-append : (keep : Bool) (a b : List Obu) → keptBytes keep (a ++ b) ≡
 kept-append true a b = bytes-append a b
 kept-append false a b = rw (others-append a b) (bytes-append (others a) (others b))
 
-pub held-append : (us vs : List (List ℕ)) → held (us ++ vs) ≡ held us ++ held vs
-unfolding held
-held-append [] vs = refl
-held-append (u ∷ us) vs = rw (held-append us vs, append-assoc (parsed u) (held us) (held vs))
+pub parsed-append : (us vs : List (List ℕ)) → allParsed (us ++ vs) ≡ allParsed us ++ allParsed vs
+unfolding allParsed
+parsed-append [] vs = refl
+parsed-append (u ∷ us) vs = rw (parsed-append us vs, append-assoc (parsed u) (allParsed us) (allParsed vs))
 
-pub held-one : (u : List ℕ) → held (u ∷ []) ≡ parsed u
-unfolding held
-held-one u = append-nil (parsed u)
+pub parsed-one : (u : List ℕ) → allParsed (u ∷ []) ≡ parsed u
+unfolding allParsed
+parsed-one u = append-nil (parsed u)
 
 abbrev pub runBytes : Bool → List (List ℕ) → ℕ → ℕ → List ℕ
-runBytes keep us a b = keptBytes keep (held (slice a b us))
+runBytes keep us a b = keptBytes keep (allParsed (slice a b us))
 
 module _ (keep : Bool) (us : List (List ℕ)) where
   pub run-none : (a : ℕ) → runBytes keep us a a ≡ []
-  unfolding held
+  unfolding allParsed
   run-none a = rw (slice-empty a us) (kept-nil keep)
 
   pub run-join : (a m b : ℕ) → a ≤ m → m ≤ b → b ≤ length us → runBytes keep us a b ≡ runBytes keep us a m ++ runBytes keep us m b
   run-join a m b h k n =
-      ap (λ l. keptBytes keep (held l)) (slice-join a m b us h k n) ∙ ap (keptBytes keep) (held-append (slice a m us) (slice m b us))
-      ∙ kept-append keep (held (slice a m us)) (held (slice m b us))
+      ap (λ l. keptBytes keep (allParsed l)) (slice-join a m b us h k n) ∙ ap (keptBytes keep) (parsed-append (slice a m us) (slice m b us))
+      ∙ kept-append keep (allParsed (slice a m us)) (allParsed (slice m b us))
 
   pub run-more : (a i : ℕ) (os : List Obu) → a ≤ i → i < length us → obus (getD us i []) ≡ accepted os → runBytes keep us a (i + 1) ≡ runBytes keep us a i ++ keptBytes keep os
   run-more a i os h l e =
-      ap (λ l. keptBytes keep (held l)) (slice-more a i us [] h l) ∙ ap (keptBytes keep) (held-append (slice a i us) (getD us i [] ∷ []) ∙ ap (λ x. held (slice a i us) ++ x) (held-one (getD us i [])))
-      ∙ rw e (kept-append keep (held (slice a i us)) os)
+      ap (λ l. keptBytes keep (allParsed l)) (slice-more a i us [] h l) ∙ ap (keptBytes keep) (parsed-append (slice a i us) (getD us i [] ∷ []) ∙ ap (λ x. allParsed (slice a i us) ++ x) (parsed-one (getD us i [])))
+      ∙ rw e (kept-append keep (allParsed (slice a i us)) os)
 
 -- ---- one packet of a run
 
@@ -133,7 +134,7 @@ module _ {s es : List ℕ} {a b : ℕ} (r : Run s es a b) (i : ℕ) (h : a ≤ i
           omega (arith, ap length e, length-append (runBytes keep us a (i + 1)) (runBytes keep us (i + 1) b))
 
       pub run-long : length o ≡ length d
-      run-long = ap length (x .lent) ∙ pasted-length d to (runBytes keep us a i) (omega (arith, fits, more-length keep))
+      run-long = ap length (x .out) ∙ pasted-length d to (runBytes keep us a i) (omega (arith, fits, more-length keep))
 
       pub run-roomy : Roomy u 0 (length u) keep o w
       run-roomy = record { os = run-parses .os; range = range; room = omega (arith, fits, run-long, more-length keep, x .next) }
@@ -141,22 +142,22 @@ module _ {s es : List ℕ} {a b : ℕ} (r : Run s es a b) (i : ℕ) (h : a ≤ i
       pub run-same : {v : ℕ} {p : List ℕ} → WroteKept u 0 (length u) keep o w v p → length p ≡ length d
       run-same f =
           let y = f (run-parses .os) range in
-          ap length (y .lent) ∙ pasted-length o w (keptBytes keep (run-parses .os)) (omega (arith, fits, run-long, more-length keep, x .next)) ∙ run-long
+          ap length (y .out) ∙ pasted-length o w (keptBytes keep (run-parses .os)) (omega (arith, fits, run-long, more-length keep, x .next)) ∙ run-long
 
       pub run-wrote : {v : ℕ} {p : List ℕ} → WroteKept u 0 (length u) keep o w v p → Wrote d to (runBytes keep us a (i + 1)) v p
       run-wrote {v} {p} f =
           let y = f (run-parses .os) range in
           record {
             next = omega (arith, y .next, x .next, more-length keep);
-            lent =
-                y .lent ∙ ap₂ (λ g j. pasted g j (keptBytes keep (run-parses .os))) (x .lent) (x .next)
+            out =
+                y .out ∙ ap₂ (λ g j. pasted g j (keptBytes keep (run-parses .os))) (x .out) (x .next)
                 ∙ pasted-more d to (runBytes keep us a i) (omega (arith, fits)) (keptBytes keep (run-parses .os)) ∙ ap (pasted d to) (sym (more-bytes keep));
           }
 
 -- nothing is written yet
-pub wrote-none : (keep : Bool) (us : List (List ℕ)) (a : ℕ) (d : List ℕ) (to : ℕ) → Wrote d to (runBytes keep us a a) to d
-wrote-none keep us a d to =
-    rw (run-none keep us a) (record { next = omega arith; lent = sym (pasted-nil d to) })
+pub run-start : (keep : Bool) (us : List (List ℕ)) (a : ℕ) (d : List ℕ) (to : ℕ) → Wrote d to (runBytes keep us a a) to d
+run-start keep us a d to =
+    rw (run-none keep us a) (record { next = omega arith; out = sym (pasted-nil d to) })
 
 -- all is measured, all is written
 pub run-done : (keep : Bool) (us : List (List ℕ)) (a i b : ℕ) {n : ℕ} → i ≡ b → n ≡ min (length (runBytes keep us a i)) most → n ≡ min (length (runBytes keep us a b)) most
@@ -164,15 +165,3 @@ run-done keep us a i b e p = rw (← e) p
 
 pub run-wrote-all : (keep : Bool) (us : List (List ℕ)) (a i b : ℕ) {to w : ℕ} {d o : List ℕ} → i ≡ b → Wrote d to (runBytes keep us a i) w o → Wrote d to (runBytes keep us a b) w o
 run-wrote-all keep us a i b e x = rw (← e) x
-
--- ---- what is written one behind the other
-
-pub wrote-length : {d o xs : List ℕ} {to w : ℕ} → Wrote d to xs w o → to + length xs ≤ length d → length o ≡ length d
-wrote-length {d} {o} {xs} {to} x l = ap length (x .lent) ∙ pasted-length d to xs l
-
-pub wrote-append : {d o p xs ys : List ℕ} {to w v : ℕ} → Wrote d to xs w o → Wrote o w ys v p → to ≤ length d → Wrote d to (xs ++ ys) v p
-wrote-append {d} {o} {p} {xs} {ys} {to} x y l =
-    record {
-      next = omega (arith, x .next, y .next, length-append xs ys);
-      lent = y .lent ∙ ap₂ (λ g j. pasted g j ys) (x .lent) (x .next) ∙ pasted-more d to xs l ys;
-    }

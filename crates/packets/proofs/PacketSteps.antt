@@ -9,14 +9,15 @@ use lib.ListN.{length, drop, getD, length-map, List·getD-map}
 use lib.Seq.{slice, slice-empty, drop-cons}
 use Rattle.bitio.specs.Parse.{Answer, refused, accepted, Head, stop, item, onto}
 use Rattle.bitio.specs.Every.Every.{none as nothing, also}
+use Rattle.bitio.proofs.ParseLaws.{length-none}
 use Rattle.obu.specs.Obu.{Obu, headObu, obus, unitBytes}
-use Rattle.obu.specs.Unit.{count}
+use Rattle.obu.specs.Unit.{has}
 use Rattle.obu.proofs.ObuLaws.{obus-nil, obus-item, obus-stop}
 use Rattle.container.specs.Stream.{lead}
 use Rattle.packets.specs.Packets.{Packet, alone, mergePackets}
 use Rattle.packets.specs.PacketLists.{bytesOf, timesOf}
 use Rattle.bitio.specs.Every.{Every}
-use Rattle.packets.specs.PacketRuns.{closes, held, leadOf, piece, Parses, Waits, Next, Empty, Full}
+use Rattle.packets.specs.PacketRuns.{closes, allParsed, leadOf, piece, Parses, Waits, Next, Empty, Full}
 use Rattle.packets.proofs.SliceLaws.{slice-split, slice-rest, slice-at, map-slice, every-map, every-drop, every-slice, every-at, every-seam}
 use Rattle.packets.proofs.PacketLaws.{Waiting, Short, alone-run, merge-more, merge-last}
 
@@ -41,30 +42,26 @@ first-obu u os l e = go (headObu u) refl
     go (stop k) h = let z : _≡_ {A = ℕ} 0 1 = cc (obus-stop u k l h) in absurd (omega arith)
     go (item o r) h = with-rest o r (obus r) h (sym (obus-item u o r h) ∙ e)
 
-empty-list : (u : List ℕ) → length u ≡ 0 → u ≡ []
-empty-list [] e = refl
-empty-list (b ∷ u) e = absurd (omega arith)
-
-held-empty : {us : List (List ℕ)} → Every Empty us → (vs : List (List ℕ)) → held (us ++ vs) ≡ held vs
-unfolding held
-held-empty nothing vs = refl
-held-empty (also {a = u} h hs) vs = rw (empty-list u h, obus-nil) (held-empty hs vs)
+parsed-empty : {us : List (List ℕ)} → Every Empty us → (vs : List (List ℕ)) → allParsed (us ++ vs) ≡ allParsed vs
+unfolding allParsed
+parsed-empty nothing vs = refl
+parsed-empty (also {a = u} h hs) vs = rw (length-none u h, obus-nil) (parsed-empty hs vs)
 
 -- ---- the delimiter at the head of a run
 
 module _ (us : List (List ℕ)) (a b i : ℕ) (in-us : b ≤ length us) (f : Full us a b i) where
-  pub lead-found : i < b → Every Parses (slice a b us) → leadOf (getD us i []) ≡ lead (held (slice a b us))
-  unfolding held
+  pub lead-found : i < b → Every Parses (slice a b us) → leadOf (getD us i []) ≡ lead (allParsed (slice a b us))
+  unfolding allParsed
   lead-found l ps =
       let u = getD us i [] in
       let e = slice-at a i b us [] (f .order) l in-us in
       let p : Parses u = every-seam Parses (slice a i us) u (slice (i + 1) b us) (rw e at ps) in
       let g = first-obu u (p .os) (f .full l) (p .reads) in
-      rw (e, held-empty (f .empty) (u ∷ slice (i + 1) b us), p .reads, g .list, g .head)
+      rw (e, parsed-empty (f .empty) (u ∷ slice (i + 1) b us), p .reads, g .list, g .head)
 
-  pub lead-missing : i ≡ b → held (slice a b us) ≡ []
-  unfolding held
-  lead-missing e = rw (← e) (ap held (sym (append-nil (slice a i us))) ∙ held-empty (f .empty) [])
+  pub lead-missing : i ≡ b → allParsed (slice a b us) ≡ []
+  unfolding allParsed
+  lead-missing e = rw (← e) (ap allParsed (sym (append-nil (slice a i us))) ∙ parsed-empty (f .empty) [])
 
 -- ---- the packets as a whole
 
@@ -105,7 +102,7 @@ module _ (qs : List Packet) where
 
   module _ (a c : ℕ) (n : Next (bytesOf qs) a c) (l : c < length qs) where
     pub step-more : (d : ℕ) → Next (bytesOf qs) (c + 1) d → d < length qs → mergePackets (drop a qs) ≡ made a c (c + 1) ∷ mergePackets (drop (c + 1) qs)
-    unfolding piece held
+    unfolding piece allParsed
     step-more d m k =
         let e = split (c + 1) d m k in
         rw (split a c n l, e, times-at c, bytes-at c, slice-empty (c + 1) (bytesOf qs), ← bytes-slice a c)
@@ -124,21 +121,21 @@ module _ (qs : List Packet) where
 
 -- empty packets vanish
 alone-empty : {es : List Packet} → Every (λ q. Empty (q .bytes)) es → (t : ℕ) (qs : List Packet) → (t′ : ℕ) × (alone t [] (es ++ qs) ≡ alone t′ [] qs)
-unfolding alone count
+unfolding alone has
 alone-empty nothing t qs = (t, refl)
 alone-empty (also {a = q} h hs) t qs =
     let r = alone-empty hs (q .time) qs in
-    (r .0, rw (empty-list (q .bytes) h, obus-nil) (r .1))
+    (r .0, rw (length-none (q .bytes) h, obus-nil) (r .1))
 
-packets-empty : {es : List Packet} → Every (λ q. Empty (q .bytes)) es → (qs : List Packet) → held (bytesOf (es ++ qs)) ≡ held (bytesOf qs)
-unfolding held bytesOf
+packets-empty : {es : List Packet} → Every (λ q. Empty (q .bytes)) es → (qs : List Packet) → allParsed (bytesOf (es ++ qs)) ≡ allParsed (bytesOf qs)
+unfolding allParsed bytesOf
 packets-empty nothing qs = refl
-packets-empty (also {a = q} h hs) qs = rw (empty-list (q .bytes) h, obus-nil) (packets-empty hs qs)
+packets-empty (also {a = q} h hs) qs = rw (length-none (q .bytes) h, obus-nil) (packets-empty hs qs)
 
 -- the first with bytes is q
 alone-split : {es : List Packet} → Every (λ q. Empty (q .bytes)) es → (q : Packet) → 0 < length (q .bytes) → Waits (q .bytes) → {rs : List Packet} → Waiting rs
-    → mergePackets (es ++ (q ∷ rs)) ≡ record { time = q .time; bytes = unitBytes (held (bytesOf (es ++ (q ∷ rs)))) } ∷ []
-unfolding mergePackets alone held bytesOf
+    → mergePackets (es ++ (q ∷ rs)) ≡ record { time = q .time; bytes = unitBytes (allParsed (bytesOf (es ++ (q ∷ rs)))) } ∷ []
+unfolding mergePackets alone allParsed bytesOf
 alone-split {es} em q l w {rs} ws =
     let r = alone-empty em 0 (q ∷ rs) in
     let g = first-obu (q .bytes) (w .os) l (w .reads) in
@@ -158,7 +155,7 @@ module _ (qs : List Packet) (n : Next (bytesOf qs) 0 (length (bytesOf qs))) (i :
   empties = every-map Empty (λ p. p .bytes) (slice 0 i qs) (rw (bytes-slice qs 0 i) (f .empty))
 
   -- all go out as one, with the time of the first that has bytes
-  pub alone-some : i < length qs → mergePackets qs ≡ record { time = getD (timesOf qs) i 0; bytes = unitBytes (held (bytesOf qs)) } ∷ []
+  pub alone-some : i < length qs → mergePackets qs ≡ record { time = getD (timesOf qs) i 0; bytes = unitBytes (allParsed (bytesOf qs)) } ∷ []
   alone-some l =
       let k = size qs in
       let e : qs ≡ slice 0 i qs ++ (getD qs i nil ∷ drop (i + 1) qs) =
@@ -166,7 +163,7 @@ module _ (qs : List Packet) (n : Next (bytesOf qs) 0 (length (bytesOf qs))) (i :
       let b : 0 < length ((getD qs i nil) .bytes) = rw (bytes-at qs i) at (f .full (omega arith)) in
       let ws = every-one qs all-wait in
       let p = alone-split empties (getD qs i nil) b (every-at (λ q. Waits (q .bytes)) i qs nil l ws) (every-drop (λ q. Waits (q .bytes)) (i + 1) qs ws) in
-      rw (times-at qs i) (ap mergePackets e ∙ p ∙ sym (ap (λ l. record { time = (getD qs i nil) .time; bytes = unitBytes (held (bytesOf l)) } ∷ []) e))
+      rw (times-at qs i) (ap mergePackets e ∙ p ∙ sym (ap (λ l. record { time = (getD qs i nil) .time; bytes = unitBytes (allParsed (bytesOf l)) } ∷ []) e))
 
   pub alone-none : i ≡ length qs → mergePackets qs ≡ []
   unfolding mergePackets alone

@@ -5,7 +5,7 @@ use mathlib.Core.List.{List}
 use mathlib.Core.Bool.{false}
 use lib.ListN.{length}
 use Rattle.obu.specs.Obu.{obus}
-use Rattle.obu.specs.Place.{Place, nothing, wrong, placed}
+use Rattle.obu.specs.Place.{Place, nothing, wrong, lies}
 use Rattle.obu.specs.Unit.{strayIn, ofUnit}
 use Rattle.bitio.specs.Limits.{limit}
 
@@ -13,7 +13,7 @@ use Rattle.bitio.specs.Limits.{limit}
 abbrev pub endOf : Place → ℕ
 endOf nothing = 0
 endOf (wrong k) = 0
-endOf (placed t e a b) = b
+endOf (lies t e a b) = b
 
 -- a unit that is copied
 pub record Clean (u : List ℕ) : Type 0 where

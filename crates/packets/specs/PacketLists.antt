@@ -21,7 +21,7 @@ stamped (t ∷ ts) [] = []
 stamped (t ∷ ts) (u ∷ us) = record { time = t; bytes = u } ∷ stamped ts us
 
 -- the packets of the bytes s, with the ends es and the times ts.
--- 01: 36 unless ends never fall, the last (0 if none) is the byte count and the times match in number
+-- 36: the ends are no list of units, or the times are more or fewer
 unfoldable pub packetsAt : List ℕ → List ℕ → List ℕ → Answer (List Packet)
 packetsAt s es ts = pick (eqb (length es) (length ts)) (answer (stamped ts) (unitsAt s es)) (refused 36)
 
@@ -38,8 +38,8 @@ pub record PacketRoom : Type 0 where
   pub times : ℕ
 
 -- the room of lent memory
-abbrev pub roomOf : List ℕ → List ℕ → List ℕ → PacketRoom
-roomOf o e t = record { bytes = length o; ends = length e; times = length t }
+abbrev pub lentRoom : List ℕ → List ℕ → List ℕ → PacketRoom
+lentRoom o e t = record { bytes = length o; ends = length e; times = length t }
 
 -- n bytes, and the ends and times of u packets, have room
 abbrev pub fitsPackets : ℕ → ℕ → PacketRoom → Bool

@@ -17,7 +17,7 @@ use Rattle.container.specs.Ranges.{keptBytes}
 use Rattle.packets.specs.Packets.{Packet, mergePackets}
 use Rattle.container.specs.Units.{unitsAt, endsOf, sizesOf, bytesAfter, endsAfter}
 use Rattle.container.specs.Lists.{accepts}
-use Rattle.packets.specs.PacketLists.{stamped, bytesOf, timesOf, roomOf, mergedAt, timesAfter, mergedSays}
+use Rattle.packets.specs.PacketLists.{stamped, bytesOf, timesOf, lentRoom, mergedAt, timesAfter, mergedSays}
 use Rattle.packets.specs.declared.packets.Merged.{Merged}
 
 -- the units of s whose ends are given, the first of which starts at `at`; an end that is not there gives an empty unit
@@ -39,9 +39,9 @@ closes u = ofUnit true hasFrame (obus u)
 abbrev pub parsed : List ℕ → List Obu
 parsed u = ofUnit [] (λ os. os) (obus u)
 
-unfoldable pub held : List (List ℕ) → List Obu
-held [] = []
-held (u ∷ us) = parsed u ++ held us
+unfoldable pub allParsed : List (List ℕ) → List Obu
+allParsed [] = []
+allParsed (u ∷ us) = parsed u ++ allParsed us
 
 -- the OBU at the head of a unit, if it is a delimiter
 abbrev pub leadAt : Head Obu → List Obu
@@ -58,7 +58,7 @@ pieceOf w u t (accepted os) = unitBytes (either (lead w) (either (lead os) (lead
 
 -- the same of the units us: those from a to c wait, that at c closes, those behind it up to b follow
 unfoldable pub piece : List (List ℕ) → ℕ → ℕ → ℕ → List ℕ
-piece us a c b = pieceOf (held (slice a c us)) (getD us c []) (held (slice (c + 1) b us)) (obus (getD us c []))
+piece us a c b = pieceOf (allParsed (slice a c us)) (getD us c []) (allParsed (slice (c + 1) b us)) (obus (getD us c []))
 
 -- as far as a usize counts
 abbrev pub most : ℕ
@@ -102,7 +102,7 @@ pub record Run (s es : List ℕ) (a b : ℕ) : Type 0 where
 -- and have room in d at `to`
 pub record RunRoom (s es : List ℕ) (a b : ℕ) (keep : Bool) (d : List ℕ) (to : ℕ) : Type 0 where
   pub run : Run s es a b
-  pub room : to + length (keptBytes keep (held (slice a b (listed s es)))) ≤ length d
+  pub room : to + length (keptBytes keep (allParsed (slice a b (listed s es)))) ≤ length d
 
 -- r is the packet at the head of those from a to b: the first with bytes, or the number of packets where none has any
 pub data HeadAt (s es : List ℕ) (a b : ℕ) : ℕ → Type 0 where
@@ -165,7 +165,7 @@ pub record Closing (s es ts : List ℕ) (c : ℕ) : Type 0 where
   pub some : c < length es
 
 -- what goes out has room in o, e and t
-pub record Roomy (s es ts o e t : List ℕ) : Type 0 where
+pub record MergeRoom (s es ts o e t : List ℕ) : Type 0 where
   pub small : length (streamBytes (bytesOf (mergedOf s es ts))) ≤ limit
   pub bytes : length (streamBytes (bytesOf (mergedOf s es ts))) ≤ length o
   pub ends : length (mergedOf s es ts) ≤ length e
@@ -173,10 +173,10 @@ pub record Roomy (s es ts o e t : List ℕ) : Type 0 where
 
 pub record Ready (s es ts : List ℕ) (c : ℕ) (o e t : List ℕ) : Type 0 where
   pub closing : Closing s es ts c
-  pub room : Roomy s es ts o e t
+  pub room : MergeRoom s es ts o e t
 
 -- and has been written
-pub record Written (s es ts o e t o′ e′ t′ : List ℕ) : Type 0 where
+pub record WroteMerged (s es ts o e t o′ e′ t′ : List ℕ) : Type 0 where
   pub bytes : o′ ≡ pasted o 0 (streamBytes (bytesOf (mergedOf s es ts)))
   pub ends : e′ ≡ pasted e 0 (endsOf 0 (bytesOf (mergedOf s es ts)))
   pub times : t′ ≡ pasted t 0 (timesOf (mergedOf s es ts))
@@ -198,7 +198,7 @@ pub record None (s es ts : List ℕ) : Type 0 where
 
 -- the answer, and what lent memory holds
 pub record Outcome (s es ts o e t : List ℕ) (r : Merged) (o′ e′ t′ : List ℕ) : Type 0 where
-  pub answers : mergedSays r ≡ sizesOf (answer bytesOf (mergedAt (roomOf o e t) s es ts))
-  pub bytes : o′ ≡ bytesAfter (answer bytesOf (mergedAt (roomOf o e t) s es ts)) o
-  pub ends : e′ ≡ endsAfter (answer bytesOf (mergedAt (roomOf o e t) s es ts)) e
-  pub times : t′ ≡ timesAfter (mergedAt (roomOf o e t) s es ts) t
+  pub answers : mergedSays r ≡ sizesOf (answer bytesOf (mergedAt (lentRoom o e t) s es ts))
+  pub bytes : o′ ≡ bytesAfter (answer bytesOf (mergedAt (lentRoom o e t) s es ts)) o
+  pub ends : e′ ≡ endsAfter (answer bytesOf (mergedAt (lentRoom o e t) s es ts)) e
+  pub times : t′ ≡ timesAfter (mergedAt (lentRoom o e t) s es ts) t

@@ -1,13 +1,12 @@
 -- Packets joined, and units made canonical (01, 'Units from a stream').
 use Prim.Native.Nat.{ℕ}
-use mathlib.Core.List.{List, [], _∷_, _++_, tail}
-use mathlib.Core.Bool.{Bool, true, false, cond as pick}
+use mathlib.Core.List.{List, [], _∷_, _++_}
+use mathlib.Core.Bool.{cond as pick}
 use lib.ListN.{length}
-use lib.Dec.{eqb}
 use Rattle.bitio.specs.Parse.{Answer, refused, accepted}
 use Rattle.obu.specs.Obu.{Obu, obus, unitBytes}
-use Rattle.obu.specs.Unit.{count}
-use Rattle.container.specs.Stream.{isDelimiter, hasFrame, others, join}
+use Rattle.obu.specs.Unit.{strayIn}
+use Rattle.container.specs.Stream.{hasFrame, others, join}
 use Rattle.container.specs.Limits.{Room, fitBytes}
 use Rattle.bitio.specs.Limits.{led34}
 
@@ -20,7 +19,7 @@ pub data Met : Type 0 where
   out : Packet → Met
   wait : List Obu → Met
 
--- 01: a joined packet has the later packet's time; a packet that does not parse stays as it is, after any waiting OBUs
+-- both go out with the time of q; where q does not parse, its bytes as they are, behind what waits
 abbrev pub meet : List Obu → Packet → Answer (List Obu) → Met
 meet w q (refused k) = out (record { time = q .time; bytes = unitBytes w ++ q .bytes })
 meet w q (accepted os) = pick (hasFrame os) (out (record { time = q .time; bytes = unitBytes (join w os) })) (wait (w ++ os))
@@ -52,14 +51,15 @@ alone t w (q ∷ qs) = on (meet w q (obus (q .bytes))) (λ r. behindP r [] qs) (
 unfoldable pub mergePackets : List Packet → List Packet
 mergePackets qs = alone 0 [] qs
 
--- 01, canonicalize_tu: drops delimiters after the first place; an unreadable or clean unit is copied
+-- a unit without the delimiters that are not first
 abbrev pub cleaned : List Obu → List Obu
 cleaned [] = []
 cleaned (o ∷ os) = o ∷ others os
 
+-- a unit with none of those, or one that does not parse, is left as it is
 abbrev pub canonicalOf : List ℕ → Answer (List Obu) → List ℕ
 canonicalOf u (refused k) = u
-canonicalOf u (accepted os) = pick (eqb (count isDelimiter (tail os)) 0) u (unitBytes (cleaned os))
+canonicalOf u (accepted os) = pick (strayIn os) (unitBytes (cleaned os)) u
 
 unfoldable pub canonical : List ℕ → List ℕ
 canonical u = canonicalOf u (obus u)

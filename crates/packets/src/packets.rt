@@ -2,9 +2,9 @@
 ghost use mathlib.Core.Path.{_≡_};
 ghost use lib.ListN.{length};
 ghost use Rattle.bitio.specs.Parse.{answer};
-ghost use Rattle.container.specs.Units.{sizesOf, bytesAfter, endsAfter, countOf, outAfter, joinedSays};
+ghost use Rattle.container.specs.Units.{sizesOf, bytesAfter, endsAfter, countOf, outAfter, byteCountSays};
 ghost use Rattle.packets.specs.Packets.{canonicalAt};
-ghost use Rattle.packets.specs.PacketLists.{bytesOf, roomOf, mergedAt, timesAfter, mergedSays};
+ghost use Rattle.packets.specs.PacketLists.{bytesOf, lentRoom, mergedAt, timesAfter, mergedSays};
 use crate::packets::canonical::clean_unit;
 use crate::packets::canonical::copy_unit;
 use crate::packets::lists::next_close;
@@ -12,7 +12,7 @@ use crate::packets::merge::merge_none;
 use crate::packets::merge::merge_some;
 use bitio::limits::LIMIT;
 use container::lists::check_ends;
-use container::units::Joined;
+use container::units::ByteCount;
 use obu::unit::has_stray_delimiter;
 
 mod canonical;
@@ -38,10 +38,10 @@ pub fn merge_frameless_packets(
     out_ends: &mut [u32],
     out_times: &mut [u64],
 ) -> Merged
-    ensures answer { λ r. ⌜ mergedSays r ≡ sizesOf (answer bytesOf (mergedAt (roomOf (now (out .entry)) (now («out_ends» .entry)) (now («out_times» .entry))) (now (packets .entry)) (now («packet_ends» .entry)) (now (times .entry)))) ⌝ }
-    ensures out { λ _. ⌜ now (out .exit) ≡ bytesAfter (answer bytesOf (mergedAt (roomOf (now (out .entry)) (now («out_ends» .entry)) (now («out_times» .entry))) (now (packets .entry)) (now («packet_ends» .entry)) (now (times .entry)))) (now (out .entry)) ⌝ }
-    ensures ends { λ _. ⌜ now («out_ends» .exit) ≡ endsAfter (answer bytesOf (mergedAt (roomOf (now (out .entry)) (now («out_ends» .entry)) (now («out_times» .entry))) (now (packets .entry)) (now («packet_ends» .entry)) (now (times .entry)))) (now («out_ends» .entry)) ⌝ }
-    ensures times { λ _. ⌜ now («out_times» .exit) ≡ timesAfter (mergedAt (roomOf (now (out .entry)) (now («out_ends» .entry)) (now («out_times» .entry))) (now (packets .entry)) (now («packet_ends» .entry)) (now (times .entry))) (now («out_times» .entry)) ⌝ }
+    ensures answer { λ r. ⌜ mergedSays r ≡ sizesOf (answer bytesOf (mergedAt (lentRoom (now (out .entry)) (now («out_ends» .entry)) (now («out_times» .entry))) (now (packets .entry)) (now («packet_ends» .entry)) (now (times .entry)))) ⌝ }
+    ensures out { λ _. ⌜ now (out .exit) ≡ bytesAfter (answer bytesOf (mergedAt (lentRoom (now (out .entry)) (now («out_ends» .entry)) (now («out_times» .entry))) (now (packets .entry)) (now («packet_ends» .entry)) (now (times .entry)))) (now (out .entry)) ⌝ }
+    ensures ends { λ _. ⌜ now («out_ends» .exit) ≡ endsAfter (answer bytesOf (mergedAt (lentRoom (now (out .entry)) (now («out_ends» .entry)) (now («out_times» .entry))) (now (packets .entry)) (now («packet_ends» .entry)) (now (times .entry)))) (now («out_ends» .entry)) ⌝ }
+    ensures times { λ _. ⌜ now («out_times» .exit) ≡ timesAfter (mergedAt (lentRoom (now (out .entry)) (now («out_ends» .entry)) (now («out_times» .entry))) (now (packets .entry)) (now («packet_ends» .entry)) (now (times .entry))) (now («out_times» .entry)) ⌝ }
 {
     if packets.len() > LIMIT {
         return Merged::Refused(34);
@@ -61,12 +61,12 @@ pub fn merge_frameless_packets(
 
 // A unit without the delimiters behind its first place: written anew if there is one, else copied, as is a unit that
 // does not parse. A refusal changes nothing.
-pub fn canonicalize_tu(unit: &[u8], out: &mut [u8]) -> Joined
-    ensures answer { λ r. ⌜ joinedSays r ≡ countOf (canonicalAt (record { bytes = length (now (out .entry)); ends = 0 }) (now (unit .entry))) ⌝ }
+pub fn canonicalize_tu(unit: &[u8], out: &mut [u8]) -> ByteCount
+    ensures answer { λ r. ⌜ byteCountSays r ≡ countOf (canonicalAt (record { bytes = length (now (out .entry)); ends = 0 }) (now (unit .entry))) ⌝ }
     ensures out { λ _. ⌜ now (out .exit) ≡ outAfter (canonicalAt (record { bytes = length (now (out .entry)); ends = 0 }) (now (unit .entry))) (now (out .entry)) ⌝ }
 {
     if unit.len() > LIMIT {
-        return Joined::Refused(34);
+        return ByteCount::Refused(34);
     }
     if has_stray_delimiter(unit) {
         return clean_unit(unit, out);

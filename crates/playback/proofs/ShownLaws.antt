@@ -17,7 +17,8 @@ use Rattle.bitio.proofs.LentLaws.{pasted-nil, pasted-set, pasted-length}
 use Rattle.obu.specs.Place.{part}
 use Rattle.container.specs.Units.{unitsFrom, unitsAt, countOf, outAfter}
 use Rattle.container.specs.Lists.{accepts}
-use Rattle.annexb.proofs.CutLaws.{accepted-is, refused-36}
+use Rattle.container.proofs.ListLaws.{units-refused}
+use Rattle.annexb.proofs.CutLaws.{accepted-is}
 use Rattle.player.specs.Player.{State, start, Played, play, leaves}
 use Rattle.player.specs.Code.{shows, keptBehind, stateSays, playedOn, playedBy}
 use Rattle.player.specs.declared.step.State.{State as CodeState}
@@ -221,7 +222,7 @@ module _ (s es : List ℕ) (cue : ℕ) (d : List ℕ) where
   module _ (short : length s ≤ limit) where
     pub play-none : accepts (unitsAt s es) ≡ false → Tells (refused 36) d
     unfolding playFrom andNext
-    play-none n = refuses (rw (le-leb (length s) limit short, refused-36 s es n))
+    play-none n = refuses (rw (le-leb (length s) limit short, units-refused s es n))
 
     module _ (is : accepts (unitsAt s es) ≡ true) where
       abbrev us : List (List ℕ)

@@ -14,7 +14,7 @@ use Rattle.bitio.specs.Lent.{pasted}
 use Rattle.bitio.proofs.LentLaws.{pasted-length}
 use Rattle.container.specs.Units.{countOf}
 use Rattle.container.specs.Container.{Container}
-use Rattle.annexb.proofs.SplitLaws.{and-true}
+use Rattle.bitio.proofs.ParseLaws.{and-both}
 use Rattle.pictures.specs.Segments.{Segment, segmentsOf}
 use Rattle.pictures.specs.declared.settings.Settings.{Settings}
 use Rattle.pictures.specs.Assemble.{Outcome, stopped, made, andAlso, overall, Output, Room, fits, assembled, assemble, unitsOf}
@@ -45,12 +45,12 @@ record Has (room : Room) (o : Output) : Type 0 where
 fits-has : (room : Room) (o : Output) → fits room o ≡ true → Has room o
 unfolding fits
 fits-has room o q =
-    let a = and-true _ (leb (length (o .header)) (room .header)) q in
-    let b = and-true _ (leb (length (o .shows)) (room .shows)) (a .0) in
-    let c = and-true _ (leb (length (o .ends)) (room .ends)) (b .0) in
-    let d = and-true _ (leb (length (o .picture)) (room .picture)) (c .0) in
-    let e = and-true _ (leb (length (o .cues)) (room .cues)) (d .0) in
-    let f = and-true (leb (length (o .picture) + length (o .shows) + length (o .header)) limit) (leb (length (o .list)) (room .list)) (e .0) in
+    let a = and-both _ (leb (length (o .header)) (room .header)) q in
+    let b = and-both _ (leb (length (o .shows)) (room .shows)) (a .0) in
+    let c = and-both _ (leb (length (o .ends)) (room .ends)) (b .0) in
+    let d = and-both _ (leb (length (o .picture)) (room .picture)) (c .0) in
+    let e = and-both _ (leb (length (o .cues)) (room .cues)) (d .0) in
+    let f = and-both (leb (length (o .picture) + length (o .shows) + length (o .header)) limit) (leb (length (o .list)) (room .list)) (e .0) in
     record {
       list = leb-true (length (o .list)) (room .list) (f .1);
       picture = leb-true (length (o .picture)) (room .picture) (d .1);

@@ -13,13 +13,14 @@ use Rattle.bitio.specs.Lent.{pasted}
 use Rattle.bitio.proofs.LentLaws.{pasted-take-end, pasted-length}
 use Rattle.container.specs.Stream.{streamBytes}
 use Rattle.container.specs.Limits.{Room, fits, fitBytes, fitUnits}
-use Rattle.container.specs.Units.{endsOf, Sizes, sizesOf, bytesAfter, endsAfter, splitSays, countOf, outAfter, joinedSays}
+use Rattle.container.specs.Units.{endsOf, Sizes, sizesOf, bytesAfter, endsAfter, splitSays, countOf, outAfter, byteCountSays}
 use Rattle.container.specs.Container.{Container, unitsIn, bytesIn, read, write, writeAt}
 use Rattle.container.specs.declared.units.Split.{Split}
 use Rattle.container.specs.declared.units.Split.the-variants.{Units, Refused as SplitRefused}
-use Rattle.container.specs.declared.units.Joined.{Joined}
-use Rattle.container.specs.declared.units.Joined.the-variants.{Bytes, Refused as JoinedRefused}
-use Rattle.annexb.proofs.SplitLaws.{Says, and-true}
+use Rattle.container.specs.declared.units.ByteCount.{ByteCount}
+use Rattle.container.specs.declared.units.ByteCount.the-variants.{Bytes, Refused as CountRefused}
+use Rattle.annexb.proofs.SplitLaws.{Says}
+use Rattle.bitio.proofs.ParseLaws.{and-both}
 use Rattle.playback.specs.declared.play.Shows.{Shows}
 use Rattle.playback.specs.declared.play.Shows.the-variants.{Refused as ShowsRefused}
 use Rattle.playback.specs.Lent.{Fills, Store, roomOf, storeAfter, Stores}
@@ -45,8 +46,8 @@ fit-units room (accepted vs) us q = go (fits (length (streamBytes vs)) (length v
     go false t q = absurd (none-cut q)
     go true t q =
         let e : vs ≡ us = cc in
-        let x = and-true (leb (length (streamBytes vs)) limit) (leb (length (streamBytes vs)) (room .bytes) && leb (length vs) (room .ends)) t in
-        let y = and-true (leb (length (streamBytes vs)) (room .bytes)) (leb (length vs) (room .ends)) (x .1) in
+        let x = and-both (leb (length (streamBytes vs)) limit) (leb (length (streamBytes vs)) (room .bytes) && leb (length vs) (room .ends)) t in
+        let y = and-both (leb (length (streamBytes vs)) (room .bytes)) (leb (length vs) (room .ends)) (x .1) in
         rw (← e) (record {
           small = leb-true (length (streamBytes vs)) limit (x .0);
           bytes = leb-true (length (streamBytes vs)) (room .bytes) (y .0);
@@ -61,8 +62,8 @@ fit-bytes room (accepted xs) bs q = go (fits (length xs) 0 room) refl q
     go false t q = absurd (none-cut q)
     go true t q =
         let e : xs ≡ bs = cc in
-        let x = and-true (leb (length xs) limit) (leb (length xs) (room .bytes) && leb 0 (room .ends)) t in
-        let y = and-true (leb (length xs) (room .bytes)) (leb 0 (room .ends)) (x .1) in
+        let x = and-both (leb (length xs) limit) (leb (length xs) (room .bytes) && leb 0 (room .ends)) t in
+        let y = and-both (leb (length xs) (room .bytes)) (leb 0 (room .ends)) (x .1) in
         rw (← e) (leb-true (length xs) (room .bytes) (y .0))
 
 -- 34 apart
@@ -106,15 +107,15 @@ split-none x r k q t = go x (ap splitSays (sym t) ∙ q)
     go (refused j) q = let z : j ≡ k = cc in ap refused z
     go (accepted us) q = absurd (none-cut q)
 
-joined-some : (x : Answer (List ℕ)) (r : Joined) (n : ℕ) → joinedSays r ≡ countOf x → r ≡ Bytes n → (bs : List ℕ) × (x ≡ accepted bs) × (n ≡ length bs)
-joined-some x r n q t = go x (ap joinedSays (sym t) ∙ q)
+joined-some : (x : Answer (List ℕ)) (r : ByteCount) (n : ℕ) → byteCountSays r ≡ countOf x → r ≡ Bytes n → (bs : List ℕ) × (x ≡ accepted bs) × (n ≡ length bs)
+joined-some x r n q t = go x (ap byteCountSays (sym t) ∙ q)
   where
     go : (x : Answer (List ℕ)) → accepted n ≡ countOf x → (bs : List ℕ) × (x ≡ accepted bs) × (n ≡ length bs)
     go (refused k) q = absurd (none-cut (sym q))
     go (accepted bs) q = (bs, refl, cc)
 
-joined-none : (x : Answer (List ℕ)) (r : Joined) (k : ℕ) → joinedSays r ≡ countOf x → r ≡ JoinedRefused k → x ≡ refused k
-joined-none x r k q t = go x (ap joinedSays (sym t) ∙ q)
+joined-none : (x : Answer (List ℕ)) (r : ByteCount) (k : ℕ) → byteCountSays r ≡ countOf x → r ≡ CountRefused k → x ≡ refused k
+joined-none x r k q t = go x (ap byteCountSays (sym t) ∙ q)
   where
     go : (x : Answer (List ℕ)) → refused k ≡ countOf x → x ≡ refused k
     go (refused j) q = let z : j ≡ k = cc in ap refused z
@@ -184,7 +185,7 @@ module _ (c : Container) (us : List (List ℕ)) where
     unfolding written andNext
     written-some q = rw q
 
-    pub write-stop : (k : ℕ) → r ≡ SplitRefused k → Writes c us (JoinedRefused k) (record { entry = record { units = d; out = o }; exit = record { units = d′; out = o } })
+    pub write-stop : (k : ℕ) → r ≡ SplitRefused k → Writes c us (CountRefused k) (record { entry = record { units = d; out = o }; exit = record { units = d′; out = o } })
     unfolding written andNext
     write-stop k t =
         let z : W ≡ refused k = rw (split-none (gathered us (roomOf d)) r k (w .answer) t) in
@@ -205,14 +206,14 @@ module _ (c : Container) (us : List (List ℕ)) where
           (ends-head (gathered us (roomOf d)) d (gathered-fits us (roomOf d)) r (w .answer) d′ (w .lent) n u t)
           ∙ lent-write c (bytesRoom (length o)) (z .units) ∙ written-some (z .are)
 
-      pub write-go : (o′ : List ℕ) (j : Joined)
-          → Fills (λ m. writeAt c (bytesRoom m) (take (n - 0) (drop 0 (d′ .bytes))) (take (u - 0) (drop 0 (d′ .ends)))) (joinedSays j) (record { entry = o; exit = o′ })
+      pub write-go : (o′ : List ℕ) (j : ByteCount)
+          → Fills (λ m. writeAt c (bytesRoom m) (take (n - 0) (drop 0 (d′ .bytes))) (take (u - 0) (drop 0 (d′ .ends)))) (byteCountSays j) (record { entry = o; exit = o′ })
           → Writes c us j (record { entry = record { units = d; out = o }; exit = record { units = d′; out = o′ } })
       write-go o′ j f =
           record { answer = f .answer ∙ ap (λ i. countOf i) whole; lent = ap₂ (λ i j. record { units = i; out = j }) (w .lent) (f .lent ∙ ap (λ i. outAfter i o) whole) }
 
   -- written
-  module _ (d d′ : WriteLent) (r : Joined) (w : Writes c us r (record { entry = d; exit = d′ })) (b : Store) where
+  module _ (d d′ : WriteLent) (r : ByteCount) (w : Writes c us r (record { entry = d; exit = d′ })) (b : Store) where
     abbrev R : Answer (List (List ℕ))
     R = carried c us (record { written = d; back = b })
 
@@ -220,7 +221,7 @@ module _ (c : Container) (us : List (List ℕ)) where
     unfolding carried andNext
     carried-some q = rw q
 
-    pub carry-stop : (k : ℕ) → r ≡ JoinedRefused k → Carries c us (SplitRefused k) (record { entry = record { written = d; back = b }; exit = record { written = d′; back = b } })
+    pub carry-stop : (k : ℕ) → r ≡ CountRefused k → Carries c us (SplitRefused k) (record { entry = record { written = d; back = b }; exit = record { written = d′; back = b } })
     unfolding carried andNext
     carry-stop k t =
         let z : R ≡ refused k = rw (joined-none (written c us d) r k (w .answer) t) in

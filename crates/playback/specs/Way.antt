@@ -7,9 +7,9 @@ use denote.Triple.Both.{Both}
 use Rattle.bitio.specs.Parse.{Answer, andNext}
 use Rattle.container.specs.Limits.{Room}
 use Rattle.container.specs.Container.{Container, stream, annexb, read, write}
-use Rattle.container.specs.Units.{sizesOf, splitSays, countOf, outAfter, joinedSays}
+use Rattle.container.specs.Units.{sizesOf, splitSays, countOf, outAfter, byteCountSays}
 use Rattle.container.specs.declared.units.Split.{Split}
-use Rattle.container.specs.declared.units.Joined.{Joined}
+use Rattle.container.specs.declared.units.ByteCount.{ByteCount}
 use Rattle.assemble.specs.Whole.{Slice}
 use Rattle.playback.specs.Lent.{held, joined, Does, Store, roomOf, storeAfter, store}
 use Rattle.playback.specs.Gather.{gathered}
@@ -59,8 +59,8 @@ module _ (c : Container) (us : List (List ℕ)) where
   abbrev pub writtenAfter : WriteLent → WriteLent
   writtenAfter d = record { units = storeAfter (gathered us (roomOf (d .units))) (d .units); out = outAfter (written d) (d .out) }
 
-  abbrev pub Writes : Joined → Both WriteLent WriteLent → Type 0
-  Writes r = Does (λ d. countOf (written d)) writtenAfter (joinedSays r)
+  abbrev pub Writes : ByteCount → Both WriteLent WriteLent → Type 0
+  Writes r = Does (λ d. countOf (written d)) writtenAfter (byteCountSays r)
 
   -- and read back
   unfoldable pub carried : CarryLent → Answer (List (List ℕ))

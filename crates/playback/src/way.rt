@@ -1,5 +1,5 @@
 // The way of a list's units: gathered, written in a container, read back, and played. Every buffer is the caller's.
-ghost use Rattle.container.specs.Units.{joinedSays};
+ghost use Rattle.container.specs.Units.{byteCountSays};
 ghost use Rattle.container.specs.Container.{read, writeAt};
 ghost use Rattle.playback.specs.Lent.{held, Fills, store, Stores};
 ghost use Rattle.playback.specs.Gather.{listed};
@@ -11,7 +11,7 @@ use annexb::annexb::split_annexb;
 use annexb::annexb::write_annexb;
 use container::stream::split_obu_stream;
 use container::stream::write_obu_stream;
-use container::units::Joined;
+use container::units::ByteCount;
 use container::units::Split;
 
 pub enum Form {
@@ -20,8 +20,8 @@ pub enum Form {
 }
 
 // Units, written in a container.
-fn write_in(form: Form, units: &[u8], unit_ends: &[u32], out: &mut [u8]) -> Joined
-    ensures { λ r. ⌜ Fills (λ n. writeAt (formSays form) (bytesRoom n) (now (units .entry)) (now («unit_ends» .entry))) (joinedSays r) (held out) ⌝ }
+fn write_in(form: Form, units: &[u8], unit_ends: &[u32], out: &mut [u8]) -> ByteCount
+    ensures { λ r. ⌜ Fills (λ n. writeAt (formSays form) (bytesRoom n) (now (units .entry)) (now («unit_ends» .entry))) (byteCountSays r) (held out) ⌝ }
 {
     match form {
         Form::Stream => write_obu_stream(units, unit_ends, out),
@@ -49,11 +49,11 @@ pub fn write_list<'a>(
     units: &mut [u8],
     unit_ends: &mut [u32],
     out: &mut [u8],
-) -> Joined
+) -> ByteCount
     ensures { λ r. ⌜ Writes (formSays form) (listed (now (list .entry)) (now (pictures .entry)) (now (ends .entry)) (now (shows .entry))) r (writeLent units «unit_ends» out) ⌝ }
 {
     match gather_units(units, unit_ends, list, pictures, ends, shows) {
-        Split::Refused(k) => Joined::Refused(k),
+        Split::Refused(k) => ByteCount::Refused(k),
         Split::Units(n, u) => write_in(form, &units[0..n], &unit_ends[0..u], out),
     }
 }
@@ -74,8 +74,8 @@ pub fn carry_list<'a>(
     ensures { λ r. ⌜ Carries (formSays form) (listed (now (list .entry)) (now (pictures .entry)) (now (ends .entry)) (now (shows .entry))) r (carryLent units «unit_ends» out back «back_ends») ⌝ }
 {
     match write_list(form, list, pictures, ends, shows, units, unit_ends, out) {
-        Joined::Refused(k) => Split::Refused(k),
-        Joined::Bytes(n) => read_in(form, &out[0..n], back, back_ends),
+        ByteCount::Refused(k) => Split::Refused(k),
+        ByteCount::Bytes(n) => read_in(form, &out[0..n], back, back_ends),
     }
 }
 

@@ -3,7 +3,7 @@ use annexb::annexb::split_annexb;
 use annexb::annexb::write_annexb;
 use container::stream::split_obu_stream;
 use container::stream::write_obu_stream;
-use container::units::Joined;
+use container::units::ByteCount;
 use container::units::Split;
 use packets::packets::Merged;
 use packets::packets::canonicalize_tu;
@@ -19,10 +19,10 @@ fn of_split(answer: Split) -> Answer {
     }
 }
 
-fn of_joined(answer: Joined) -> Answer {
+fn of_joined(answer: ByteCount) -> Answer {
     match answer {
-        Joined::Bytes(n) => parts(n, 0),
-        Joined::Refused(k) => refused(k),
+        ByteCount::Bytes(n) => parts(n, 0),
+        ByteCount::Refused(k) => refused(k),
     }
 }
 

@@ -9,11 +9,11 @@ ghost use Rattle.obu.specs.Obu.{obus};
 ghost use Rattle.obu.specs.Place.{extensionSays};
 ghost use Rattle.container.specs.AnnexB.{innerBytes, annexbBytes};
 ghost use Rattle.bitio.specs.Limits.{limit};
-ghost use Rattle.container.specs.Units.{unitsAt, countOf, joinedSays};
-ghost use Rattle.annexb.specs.Fill.{held};
+ghost use Rattle.container.specs.Units.{unitsAt, countOf, byteCountSays};
+ghost use Rattle.annexb.specs.Fill.{readOf};
 ghost use Rattle.container.specs.Lists.{accepts};
 ghost use Rattle.annexb.specs.Join.{atMost, innerLength, framedLength};
-use container::units::Joined;
+use container::units::ByteCount;
 use obu::reader::Extension;
 use obu::reader::ObuAt;
 
@@ -34,29 +34,29 @@ pub(crate) fn inner_len(extension: Extension, size: usize) -> usize
 }
 
 // How many bytes the OBUs of a unit have in Annex B: at most twelve for each byte.
-pub(crate) fn count_inner(u: &[u8]) -> Joined
+pub(crate) fn count_inner(u: &[u8]) -> ByteCount
     requires { ⌜ length (now u) ≤ limit ⌝ }
-    ensures { λ r. ⌜ joinedSays r ≡ answer (λ os. length (flatMap innerBytes os)) (obus (now (u .entry))) ⌝ }
-    ensures { λ r. ⌜ atMost (12 * length (now (u .entry))) (joinedSays r) ⌝ }
+    ensures { λ r. ⌜ byteCountSays r ≡ answer (λ os. length (flatMap innerBytes os)) (obus (now (u .entry))) ⌝ }
+    ensures { λ r. ⌜ atMost (12 * length (now (u .entry))) (byteCountSays r) ⌝ }
 {
     let mut at: usize = 0;
     let mut n: usize = 0;
     while at < u.len() {
         let found = obu::reader::obu_at(u, at);
         let ObuAt::Found(o) = found else {
-            return Joined::Refused(obu::reader::refusal(found));
+            return ByteCount::Refused(obu::reader::refusal(found));
         };
         let extension = o.extension;
         n += framed_len(inner_len(extension, o.end - o.start));
         at = o.end;
     }
-    Joined::Bytes(n)
+    ByteCount::Bytes(n)
 }
 
 // How many bytes all units have in Annex B, or the refusal of the first that does not parse.
-pub(crate) fn count_units(units: &[u8], unit_ends: &[u32]) -> Joined
+pub(crate) fn count_units(units: &[u8], unit_ends: &[u32]) -> ByteCount
     requires { ⌜ (length (now units) ≤ limit) × (accepts (unitsAt (now units) (now «unit_ends»)) ≡ true) ⌝ }
-    ensures { λ r. ⌜ joinedSays r ≡ countOf (annexbBytes (held (unitsAt (now (units .entry)) (now («unit_ends» .entry))))) ⌝ }
+    ensures { λ r. ⌜ byteCountSays r ≡ countOf (annexbBytes (readOf (unitsAt (now (units .entry)) (now («unit_ends» .entry))))) ⌝ }
 {
     let mut at: usize = 0;
     let mut i: usize = 0;
@@ -64,12 +64,12 @@ pub(crate) fn count_units(units: &[u8], unit_ends: &[u32]) -> Joined
     while i < unit_ends.len() {
         let end = unit_ends[i] as usize;
         let found = count_inner(&units[at..end]);
-        let Joined::Bytes(n) = found else {
+        let ByteCount::Bytes(n) = found else {
             return found;
         };
         total += framed_len(framed_len(n));
         at = end;
         i += 1;
     }
-    Joined::Bytes(total)
+    ByteCount::Bytes(total)
 }

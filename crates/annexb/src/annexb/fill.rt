@@ -10,7 +10,8 @@ ghost use Rattle.obu.specs.Write.{obuLength, obu};
 ghost use Rattle.container.specs.Stream.{flat};
 ghost use Rattle.container.specs.AnnexB.{lengthObu, frameUnit};
 ghost use Rattle.annexb.specs.Spans.{span};
-ghost use Rattle.annexb.specs.Fill.{Laid, held, Filling, Measured, Wrote};
+ghost use Rattle.annexb.specs.Fill.{readOf, Filling, UnitsRoom, Filled};
+ghost use Rattle.bitio.specs.Lent.{Wrote};
 use crate::annexb::part::InnerAt;
 use crate::annexb::part::PartAt;
 use crate::annexb::part::length_obu_at;
@@ -21,7 +22,7 @@ use obu::reader::Obu;
 fn put_inner(data: &[u8], o: Obu, out: &mut [u8], w: usize) -> usize
     requires { ⌜ (o .start ≤ o .end) × (o .end ≤ length (now «data»)) ⌝ }
     requires { ⌜ (passes (o .«obu_type») ≡ true) × (w + obuLength (extensionSays (o .extension)) (o .end - o .start) ≤ length (now out)) ⌝ }
-    ensures { λ r. ⌜ Laid (now (out .entry)) w (obuBytes (obu (o .«obu_type») (extensionSays (o .extension)) (span (now («data» .entry)) (o .start) (o .end)))) (now (out .exit)) r ⌝ }
+    ensures { λ r. ⌜ Wrote (now (out .entry)) w (obuBytes (obu (o .«obu_type») (extensionSays (o .extension)) (span (now («data» .entry)) (o .start) (o .end)))) r (now (out .exit)) ⌝ }
 {
     let extension = o.extension;
     let start = o.start;
@@ -33,7 +34,7 @@ fn put_inner(data: &[u8], o: Obu, out: &mut [u8], w: usize) -> usize
 fn fill_frame(data: &[u8], start: usize, end: usize, out: &mut [u8], place: usize) -> usize
     requires { ⌜ (start ≤ end) × (end ≤ length (now «data»)) ⌝ }
     requires { ⌜ Filling (many lengthObu (span (now «data») start end)) (now out) place ⌝ }
-    ensures { λ r. ⌜ Laid (now (out .entry)) place (unitBytes (held (many lengthObu (span (now («data» .entry)) start end)))) (now (out .exit)) r ⌝ }
+    ensures { λ r. ⌜ Wrote (now (out .entry)) place (unitBytes (readOf (many lengthObu (span (now («data» .entry)) start end)))) r (now (out .exit)) ⌝ }
 {
     let mut at = start;
     let mut w = place;
@@ -51,7 +52,7 @@ fn fill_frame(data: &[u8], start: usize, end: usize, out: &mut [u8], place: usiz
 fn fill_unit(data: &[u8], start: usize, end: usize, out: &mut [u8], place: usize) -> usize
     requires { ⌜ (start ≤ end) × (end ≤ length (now «data»)) ⌝ }
     requires { ⌜ Filling (answer flat (many frameUnit (span (now «data») start end))) (now out) place ⌝ }
-    ensures { λ r. ⌜ Laid (now (out .entry)) place (unitBytes (held (answer flat (many frameUnit (span (now («data» .entry)) start end))))) (now (out .exit)) r ⌝ }
+    ensures { λ r. ⌜ Wrote (now (out .entry)) place (unitBytes (readOf (answer flat (many frameUnit (span (now («data» .entry)) start end))))) r (now (out .exit)) ⌝ }
 {
     let mut at = start;
     let mut w = place;
@@ -67,8 +68,8 @@ fn fill_unit(data: &[u8], start: usize, end: usize, out: &mut [u8], place: usize
 
 // All units, and the end of each.
 pub(crate) fn fill(data: &[u8], out: &mut [u8], ends: &mut [u32])
-    requires { ⌜ Measured (now «data») (now out) (now ends) ⌝ }
-    ensures { λ _. ⌜ Wrote (now («data» .entry)) (now (out .entry)) (now (ends .entry)) (now (out .exit)) (now (ends .exit)) ⌝ }
+    requires { ⌜ UnitsRoom (now «data») (now out) (now ends) ⌝ }
+    ensures { λ _. ⌜ Filled (now («data» .entry)) (now (out .entry)) (now (ends .entry)) (now (out .exit)) (now (ends .exit)) ⌝ }
 {
     let len = data.len();
     let mut at: usize = 0;

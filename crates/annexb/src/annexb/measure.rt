@@ -28,7 +28,7 @@ fn measured(faulty: bool, fault: u32, bytes: usize, units: usize) -> Split
     Split::Units(bytes, units)
 }
 
-// All three lengths are left together at the first fault, before `at` has moved on.
+// One label leaves all three loops at the first fault, before `at` has moved on.
 pub(crate) fn measure(data: &[u8]) -> Split
     requires { ⌜ length (now «data») ≤ limit ⌝ }
     ensures { λ r. ⌜ splitSays r ≡ sizesOf (answer (map unitBytes) (many temporalUnit (now («data» .entry)))) ⌝ }

@@ -7,7 +7,7 @@ ghost use lib.ListN.{length};
 ghost use Rattle.bitio.specs.Parse.{before};
 ghost use Rattle.bitio.specs.Leb.{readLeb, lebAnswer, sized};
 ghost use Rattle.obu.specs.Obu.{passes, obuType};
-ghost use Rattle.obu.specs.Place.{wrong, placed, refusalOf, extensionSays};
+ghost use Rattle.obu.specs.Place.{wrong, lies, refusalOf, extensionSays};
 ghost use Rattle.obu.specs.Write.{obuLength};
 ghost use Rattle.container.specs.AnnexB.{innerObu, lengthObu};
 ghost use Rattle.annexb.specs.Spans.{span, spotOf, partSays, spotRefusal, placeTo, innerSays};
@@ -68,7 +68,7 @@ pub(crate) fn part_refusal(found: PartAt) -> u32
 
 // The OBU with header byte h, if its type passes.
 fn typed_obu(h: u8, extension: Extension, start: usize, end: usize) -> InnerAt
-    ensures { λ r. ⌜ innerSays r ≡ pick (passes (obuType h)) (placed (obuType h) (extensionSays extension) start end) (wrong 2) ⌝ }
+    ensures { λ r. ⌜ innerSays r ≡ pick (passes (obuType h)) (lies (obuType h) (extensionSays extension) start end) (wrong 2) ⌝ }
 {
     let obu_type = h / 8 % 16;
     if !obu::reader::is_known_type(obu_type) {

@@ -11,13 +11,14 @@ ghost use Rattle.container.specs.AnnexB.{innerBytes, annexbUnit, annexbBytes};
 ghost use Rattle.bitio.specs.Limits.{limit};
 ghost use Rattle.container.specs.Units.{unitsAt, outAfter};
 ghost use Rattle.annexb.specs.Spans.{span};
-ghost use Rattle.annexb.specs.Fill.{Laid, held};
+ghost use Rattle.annexb.specs.Fill.{readOf};
+ghost use Rattle.bitio.specs.Lent.{Wrote};
 ghost use Rattle.annexb.specs.Join.{innerLength, framedLength, Putting, Writing};
 use crate::annexb::count::count_inner;
 use crate::annexb::count::framed_len;
 use crate::annexb::count::inner_len;
 use bitio::leb128::put_leb128;
-use container::units::Joined;
+use container::units::ByteCount;
 use obu::reader::Obu;
 use obu::reader::ObuAt;
 use obu::reader::obu_at;
@@ -28,7 +29,7 @@ use obu::writer::put_header;
 fn put_length_obu(u: &[u8], o: Obu, out: &mut [u8], w: usize) -> usize
     requires { ⌜ (length (now u) ≤ limit) × (o .start ≤ o .end) × (o .end ≤ length (now u)) ⌝ }
     requires { ⌜ (passes (o .«obu_type») ≡ true) × (w + framedLength (innerLength (extensionSays (o .extension)) (o .end - o .start)) ≤ length (now out)) ⌝ }
-    ensures { λ r. ⌜ Laid (now (out .entry)) w (innerBytes (obu (o .«obu_type») (extensionSays (o .extension)) (span (now (u .entry)) (o .start) (o .end)))) (now (out .exit)) r ⌝ }
+    ensures { λ r. ⌜ Wrote (now (out .entry)) w (innerBytes (obu (o .«obu_type») (extensionSays (o .extension)) (span (now (u .entry)) (o .start) (o .end)))) r (now (out .exit)) ⌝ }
 {
     let extension = o.extension;
     let start = o.start;
@@ -42,7 +43,7 @@ fn put_length_obu(u: &[u8], o: Obu, out: &mut [u8], w: usize) -> usize
 fn put_inner_obus(u: &[u8], out: &mut [u8], place: usize) -> usize
     requires { ⌜ length (now u) ≤ limit ⌝ }
     requires { ⌜ Putting (now u) (flatMap innerBytes) (now out) place ⌝ }
-    ensures { λ r. ⌜ Laid (now (out .entry)) place (flatMap innerBytes (held (obus (now (u .entry))))) (now (out .exit)) r ⌝ }
+    ensures { λ r. ⌜ Wrote (now (out .entry)) place (flatMap innerBytes (readOf (obus (now (u .entry))))) r (now (out .exit)) ⌝ }
 {
     let mut at: usize = 0;
     let mut w = place;
@@ -60,9 +61,9 @@ fn put_inner_obus(u: &[u8], out: &mut [u8], place: usize) -> usize
 fn put_unit(u: &[u8], out: &mut [u8], w: usize) -> usize
     requires { ⌜ length (now u) ≤ limit ⌝ }
     requires { ⌜ Putting (now u) annexbUnit (now out) w ⌝ }
-    ensures { λ r. ⌜ Laid (now (out .entry)) w (annexbUnit (held (obus (now (u .entry))))) (now (out .exit)) r ⌝ }
+    ensures { λ r. ⌜ Wrote (now (out .entry)) w (annexbUnit (readOf (obus (now (u .entry))))) r (now (out .exit)) ⌝ }
 {
-    let Joined::Bytes(n) = count_inner(u) else {
+    let ByteCount::Bytes(n) = count_inner(u) else {
         return w;
     };
     let p = put_leb128(out, w, framed_len(n) as u64);
@@ -74,7 +75,7 @@ fn put_unit(u: &[u8], out: &mut [u8], w: usize) -> usize
 pub(crate) fn put_units(units: &[u8], unit_ends: &[u32], out: &mut [u8])
     requires { ⌜ length (now units) ≤ limit ⌝ }
     requires { ⌜ Writing (now units) (now «unit_ends») (now out) ⌝ }
-    ensures { λ _. ⌜ now (out .exit) ≡ outAfter (annexbBytes (held (unitsAt (now (units .entry)) (now («unit_ends» .entry))))) (now (out .entry)) ⌝ }
+    ensures { λ _. ⌜ now (out .exit) ≡ outAfter (annexbBytes (readOf (unitsAt (now (units .entry)) (now («unit_ends» .entry))))) (now (out .entry)) ⌝ }
 {
     let mut at: usize = 0;
     let mut i: usize = 0;

@@ -2,7 +2,7 @@
 ghost use Prim.Native.Nat.{_+_, _≤_};
 ghost use lib.ListN.{length};
 ghost use Rattle.bitio.specs.Bits.{bitsIn};
-ghost use Rattle.emit.specs.Wrote.{Wrote};
+ghost use Rattle.emit.specs.WroteBits.{WroteBits};
 ghost use Rattle.emittable.specs.PutSequence.{putSize, putIds, putTools, putScreen, putFilters, putColor, putSampling, putCoding};
 use crate::seq_header::emit_fields::put_bits;
 use crate::seq_header::emit_fields::put_bits_or;
@@ -21,7 +21,7 @@ use header::seq_header::Tools;
 // The largest frame.
 fn put_size(w: BitWriter, out: &mut [u8], z: FrameSize) -> BitWriter
     requires { ⌜ (w .pos + 40 ≤ bitsIn (length (now out))) × (z .«frame_width_bits_minus_1» ≤ 15) × (z .«frame_height_bits_minus_1» ≤ 15) ⌝ }
-    ensures { λ r. ⌜ Wrote (now (out .entry)) (w .pos) (now (out .exit)) (r .pos) 40 (putSize z) ⌝ }
+    ensures { λ r. ⌜ WroteBits (now (out .entry)) (w .pos) (now (out .exit)) (r .pos) 40 (putSize z) ⌝ }
 {
     let w = put_bits(w, out, 4, z.frame_width_bits_minus_1);
     let w = put_bits(w, out, 4, z.frame_height_bits_minus_1);
@@ -42,7 +42,7 @@ fn put_size(w: BitWriter, out: &mut [u8], z: FrameSize) -> BitWriter
 // The widths of frame ids.
 fn put_ids(w: BitWriter, out: &mut [u8], full: bool, i: FrameIds) -> BitWriter
     requires { ⌜ w .pos + 8 ≤ bitsIn (length (now out)) ⌝ }
-    ensures { λ r. ⌜ Wrote (now (out .entry)) (w .pos) (now (out .exit)) (r .pos) 8 (putIds full i) ⌝ }
+    ensures { λ r. ⌜ WroteBits (now (out .entry)) (w .pos) (now (out .exit)) (r .pos) 8 (putIds full i) ⌝ }
 {
     let w = put_flag_or(w, out, full, i.frame_id_numbers_present);
     let w = put_bits_or(
@@ -64,7 +64,7 @@ fn put_ids(w: BitWriter, out: &mut [u8], full: bool, i: FrameIds) -> BitWriter
 // use_128x128_superblock to enable_ref_frame_mvs.
 fn put_tools(w: BitWriter, out: &mut [u8], full: bool, t: Tools) -> BitWriter
     requires { ⌜ w .pos + 10 ≤ bitsIn (length (now out)) ⌝ }
-    ensures { λ r. ⌜ Wrote (now (out .entry)) (w .pos) (now (out .exit)) (r .pos) 10 (putTools full t) ⌝ }
+    ensures { λ r. ⌜ WroteBits (now (out .entry)) (w .pos) (now (out .exit)) (r .pos) 10 (putTools full t) ⌝ }
 {
     let w = put_flag(w, out, t.use_128x128_superblock);
     let w = put_flag(w, out, t.enable_filter_intra);
@@ -81,7 +81,7 @@ fn put_tools(w: BitWriter, out: &mut [u8], full: bool, t: Tools) -> BitWriter
 // Screen content tools, integer motion vectors, and the order hint's width.
 fn put_screen(w: BitWriter, out: &mut [u8], full: bool, hint: bool, t: ScreenTools) -> BitWriter
     requires { ⌜ w .pos + 7 ≤ bitsIn (length (now out)) ⌝ }
-    ensures { λ r. ⌜ Wrote (now (out .entry)) (w .pos) (now (out .exit)) (r .pos) 7 (putScreen full hint t) ⌝ }
+    ensures { λ r. ⌜ WroteBits (now (out .entry)) (w .pos) (now (out .exit)) (r .pos) 7 (putScreen full hint t) ⌝ }
 {
     let forced = full & !t.seq_choose_screen_content_tools;
     let tools = full & (0 < t.seq_force_screen_content_tools);
@@ -101,7 +101,7 @@ fn put_screen(w: BitWriter, out: &mut [u8], full: bool, hint: bool, t: ScreenToo
 // enable_superres to enable_restoration.
 fn put_filters(w: BitWriter, out: &mut [u8], f: Filters) -> BitWriter
     requires { ⌜ w .pos + 3 ≤ bitsIn (length (now out)) ⌝ }
-    ensures { λ r. ⌜ Wrote (now (out .entry)) (w .pos) (now (out .exit)) (r .pos) 3 (putFilters f) ⌝ }
+    ensures { λ r. ⌜ WroteBits (now (out .entry)) (w .pos) (now (out .exit)) (r .pos) 3 (putFilters f) ⌝ }
 {
     let w = put_flag(w, out, f.enable_superres);
     let w = put_flag(w, out, f.enable_cdef);
@@ -111,7 +111,7 @@ fn put_filters(w: BitWriter, out: &mut [u8], f: Filters) -> BitWriter
 // color_config up to the matrix coefficients.
 fn put_color(w: BitWriter, out: &mut [u8], profile: u64, c: ColorDescription) -> BitWriter
     requires { ⌜ w .pos + 28 ≤ bitsIn (length (now out)) ⌝ }
-    ensures { λ r. ⌜ Wrote (now (out .entry)) (w .pos) (now (out .exit)) (r .pos) 28 (putColor profile c) ⌝ }
+    ensures { λ r. ⌜ WroteBits (now (out .entry)) (w .pos) (now (out .exit)) (r .pos) 28 (putColor profile c) ⌝ }
 {
     let w = put_flag(w, out, c.high_bitdepth);
     let w = put_flag_or(w, out, (profile == 2) & c.high_bitdepth, c.twelve_bit);
@@ -143,7 +143,7 @@ fn put_sampling(
     m: ColorSampling,
 ) -> BitWriter
     requires { ⌜ w .pos + 6 ≤ bitsIn (length (now out)) ⌝ }
-    ensures { λ r. ⌜ Wrote (now (out .entry)) (w .pos) (now (out .exit)) (r .pos) 6 (putSampling profile c m) ⌝ }
+    ensures { λ r. ⌜ WroteBits (now (out .entry)) (w .pos) (now (out .exit)) (r .pos) 6 (putSampling profile c m) ⌝ }
 {
     let srgb = (c.color_primaries == 1)
         & (c.transfer_characteristics == 13)
@@ -172,7 +172,7 @@ pub(crate) fn put_coding(
     c: Coding,
 ) -> BitWriter
     requires { ⌜ (w .pos + 103 ≤ bitsIn (length (now out))) × (c .size .«frame_width_bits_minus_1» ≤ 15) × (c .size .«frame_height_bits_minus_1» ≤ 15) ⌝ }
-    ensures { λ r. ⌜ Wrote (now (out .entry)) (w .pos) (now (out .exit)) (r .pos) 103 (putCoding profile full c) ⌝ }
+    ensures { λ r. ⌜ WroteBits (now (out .entry)) (w .pos) (now (out .exit)) (r .pos) 103 (putCoding profile full c) ⌝ }
 {
     let w = put_size(w, out, c.size);
     let w = put_ids(w, out, full, c.ids);

@@ -2,7 +2,7 @@
 ghost use Prim.Native.Nat.{_+_, _^_, _≤_, _<_};
 ghost use lib.ListN.{length, take};
 ghost use Rattle.bitio.specs.Bits.{bitsIn};
-ghost use Rattle.emit.specs.Wrote.{Wrote};
+ghost use Rattle.emit.specs.WroteBits.{WroteBits};
 ghost use Rattle.emittable.specs.PutSequence.{putTiming, putModel, putOpening, putPoint, putPoints};
 ghost use Rattle.header.specs.SequencePoints.{delayBits};
 use crate::seq_header::emit_fields::put_bits;
@@ -19,7 +19,7 @@ use header::seq_header::TimingInfo;
 // timing_info
 fn put_timing(w: BitWriter, out: &mut [u8], full: bool, t: TimingInfo) -> BitWriter
     requires { ⌜ (w .pos + 131 ≤ bitsIn (length (now out))) × (t .«num_ticks_per_picture_minus_1» < 2 ^ 32) ⌝ }
-    ensures { λ r. ⌜ Wrote (now (out .entry)) (w .pos) (now (out .exit)) (r .pos) 131 (putTiming full t) ⌝ }
+    ensures { λ r. ⌜ WroteBits (now (out .entry)) (w .pos) (now (out .exit)) (r .pos) 131 (putTiming full t) ⌝ }
 {
     let w = put_flag_or(w, out, full, t.timing_info_present);
     let w = put_bits_or(
@@ -42,7 +42,7 @@ fn put_timing(w: BitWriter, out: &mut [u8], full: bool, t: TimingInfo) -> BitWri
 // decoder_model_info
 fn put_model(w: BitWriter, out: &mut [u8], timed: bool, m: DecoderModelInfo) -> BitWriter
     requires { ⌜ w .pos + 48 ≤ bitsIn (length (now out)) ⌝ }
-    ensures { λ r. ⌜ Wrote (now (out .entry)) (w .pos) (now (out .exit)) (r .pos) 48 (putModel timed m) ⌝ }
+    ensures { λ r. ⌜ WroteBits (now (out .entry)) (w .pos) (now (out .exit)) (r .pos) 48 (putModel timed m) ⌝ }
 {
     let w = put_flag_or(w, out, timed, m.decoder_model_info_present);
     let w = put_bits_or(
@@ -78,7 +78,7 @@ fn put_model(w: BitWriter, out: &mut [u8], timed: bool, m: DecoderModelInfo) -> 
 // Up to operating_points_cnt_minus_1.
 pub(crate) fn put_opening(w: BitWriter, out: &mut [u8], o: Opening) -> BitWriter
     requires { ⌜ (w .pos + 190 ≤ bitsIn (length (now out))) × (o .timing .«num_ticks_per_picture_minus_1» < 2 ^ 32) ⌝ }
-    ensures { λ r. ⌜ Wrote (now (out .entry)) (w .pos) (now (out .exit)) (r .pos) 190 (putOpening o) ⌝ }
+    ensures { λ r. ⌜ WroteBits (now (out .entry)) (w .pos) (now (out .exit)) (r .pos) 190 (putOpening o) ⌝ }
 {
     let full = !o.reduced_still_picture_header;
     let w = put_bits(w, out, 3, o.seq_profile);
@@ -93,7 +93,7 @@ pub(crate) fn put_opening(w: BitWriter, out: &mut [u8], o: Opening) -> BitWriter
 // One operating point.
 fn put_point(w: BitWriter, out: &mut [u8], o: Opening, x: OperatingPoint) -> BitWriter
     requires { ⌜ (w .pos + 89 ≤ bitsIn (length (now out))) × (delayBits o ≤ 32) ⌝ }
-    ensures { λ r. ⌜ Wrote (now (out .entry)) (w .pos) (now (out .exit)) (r .pos) 89 (putPoint o x) ⌝ }
+    ensures { λ r. ⌜ WroteBits (now (out .entry)) (w .pos) (now (out .exit)) (r .pos) 89 (putPoint o x) ⌝ }
 {
     let full = !o.reduced_still_picture_header;
     let n = o.model.buffer_delay_length_minus_1 as usize + 1;
@@ -133,7 +133,7 @@ pub(crate) fn put_points(
     count: usize,
 ) -> BitWriter
     requires { ⌜ (w .pos + 2848 ≤ bitsIn (length (now out))) × (delayBits o ≤ 32) × (count ≤ 32) ⌝ }
-    ensures { λ r. ⌜ Wrote (now (out .entry)) (w .pos) (now (out .exit)) (r .pos) 2848 (putPoints o (take count points)) ⌝ }
+    ensures { λ r. ⌜ WroteBits (now (out .entry)) (w .pos) (now (out .exit)) (r .pos) 2848 (putPoints o (take count points)) ⌝ }
 {
     let mut at = w;
     let mut i: usize = 0;

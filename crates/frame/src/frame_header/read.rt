@@ -5,7 +5,7 @@ ghost use Rattle.bitio.specs.Limits.{limited};
 ghost use Rattle.header.specs.Sequence.{sequenceOf};
 ghost use Rattle.header.specs.Support.{hasPointInfo};
 ghost use Rattle.frame.specs.Frame.{modelled, showExisting, frameInfo, frameBits, parseFrame, parseFrameFrom, frameSays};
-ghost use Rattle.frame.specs.FrameSays.{existing, framed};
+ghost use Rattle.frame.specs.FrameSays.{existing, asFrame};
 use crate::frame_header::FrameAnswer;
 use crate::frame_header::FrameHeaderInfo;
 use crate::frame_header::FrameInfo;
@@ -50,7 +50,7 @@ fn frame_info(
     header: SequenceHeader,
     points: [OperatingPoint; 32],
 ) -> FrameAnswer
-    ensures { λ r. ⌜ frameSays r ≡ framed (frameInfo modelled (now (s .entry)) (b .pos) (sequenceOf header points)) ⌝ }
+    ensures { λ r. ⌜ frameSays r ≡ asFrame (frameInfo modelled (now (s .entry)) (b .pos) (sequenceOf header points)) ⌝ }
 {
     let opening = header.opening;
     match sections::frame_start(b, s, has_point_info(opening)) {

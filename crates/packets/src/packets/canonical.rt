@@ -7,14 +7,14 @@ ghost use Rattle.obu.specs.Obu.{obus};
 ghost use Rattle.obu.specs.Place.{obuPlace};
 ghost use Rattle.obu.specs.Unit.{strayIn, ofUnit};
 ghost use Rattle.bitio.specs.Limits.{limit};
-ghost use Rattle.container.specs.Units.{countOf, outAfter, joinedSays};
+ghost use Rattle.container.specs.Units.{countOf, outAfter, byteCountSays};
 ghost use Rattle.packets.specs.Packets.{canonicalAt};
 ghost use Rattle.packets.specs.Canonical.{endOf, Clean};
-use bitio::limits::LIMIT;
 use bitio::numbers::plus;
 use container::ranges::put_written;
 use container::ranges::written_len;
-use container::units::Joined;
+use container::room::has_room;
+use container::units::ByteCount;
 use obu::reader::ObuAt;
 use obu::reader::obu_at;
 use obu::writer::put_bytes;
@@ -31,21 +31,21 @@ fn first_end(s: &[u8]) -> usize
 }
 
 // The unit as it is, if it has room.
-pub(crate) fn copy_unit(unit: &[u8], out: &mut [u8]) -> Joined
+pub(crate) fn copy_unit(unit: &[u8], out: &mut [u8]) -> ByteCount
     requires { ⌜ Clean (now unit) ⌝ }
-    ensures answer { λ r. ⌜ joinedSays r ≡ countOf (canonicalAt (record { bytes = length (now (out .entry)); ends = 0 }) (now (unit .entry))) ⌝ }
+    ensures answer { λ r. ⌜ byteCountSays r ≡ countOf (canonicalAt (record { bytes = length (now (out .entry)); ends = 0 }) (now (unit .entry))) ⌝ }
     ensures out { λ _. ⌜ now (out .exit) ≡ outAfter (canonicalAt (record { bytes = length (now (out .entry)); ends = 0 }) (now (unit .entry))) (now (out .entry)) ⌝ }
 {
     if unit.len() > out.len() {
-        return Joined::Refused(35);
+        return ByteCount::Refused(35);
     }
-    Joined::Bytes(put_bytes(out, 0, unit))
+    ByteCount::Bytes(put_bytes(out, 0, unit))
 }
 
 // The unit written anew, if it has room.
-pub(crate) fn clean_unit(unit: &[u8], out: &mut [u8]) -> Joined
+pub(crate) fn clean_unit(unit: &[u8], out: &mut [u8]) -> ByteCount
     requires { ⌜ (length (now unit) ≤ limit) × (ofUnit false strayIn (obus (now unit)) ≡ true) ⌝ }
-    ensures answer { λ r. ⌜ joinedSays r ≡ countOf (canonicalAt (record { bytes = length (now (out .entry)); ends = 0 }) (now (unit .entry))) ⌝ }
+    ensures answer { λ r. ⌜ byteCountSays r ≡ countOf (canonicalAt (record { bytes = length (now (out .entry)); ends = 0 }) (now (unit .entry))) ⌝ }
     ensures out { λ _. ⌜ now (out .exit) ≡ outAfter (canonicalAt (record { bytes = length (now (out .entry)); ends = 0 }) (now (unit .entry))) (now (out .entry)) ⌝ }
 {
     let mid = first_end(unit);
@@ -54,12 +54,9 @@ pub(crate) fn clean_unit(unit: &[u8], out: &mut [u8]) -> Joined
         written_len(unit, 0, mid, true),
         written_len(unit, mid, end, false),
     );
-    if len > LIMIT {
-        return Joined::Refused(35);
-    }
-    if len > out.len() {
-        return Joined::Refused(35);
+    if !has_room(len, 0, out.len(), 0) {
+        return ByteCount::Refused(35);
     }
     let next = put_written(unit, 0, mid, true, out, 0);
-    Joined::Bytes(put_written(unit, mid, end, false, out, next))
+    ByteCount::Bytes(put_written(unit, mid, end, false, out, next))
 }

@@ -8,7 +8,7 @@ use obu::unit::Counted;
 use obu::unit::Kind;
 use obu::unit::count_obus;
 
-// Packet i, as a part of the caller's bytes; the empty part where there is none.
+// Packet i, not copied; nothing where there is none.
 pub(crate) fn packet<'a>(packets: &'a [u8], ends: &[u32], i: usize) -> &'a [u8]
     ensures { λ r. ⌜ now r ≡ unitOf (now (packets .entry)) (now (ends .entry)) i ⌝ }
 {

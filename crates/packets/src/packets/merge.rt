@@ -4,7 +4,7 @@ ghost use mathlib.Core.Bool.{cond as pick};
 ghost use Prim.Native.Nat.{_+_, _<_};
 ghost use lib.Dec.{ltb};
 ghost use Rattle.packets.specs.PacketLists.{fitsPackets};
-ghost use Rattle.packets.specs.PacketRuns.{Totals, Closing, Ready, Written, Some, None, Outcome};
+ghost use Rattle.packets.specs.PacketRuns.{Totals, Closing, Ready, WroteMerged, Some, None, Outcome};
 use crate::packets::Merged;
 use crate::packets::lists::first_full;
 use crate::packets::lists::next_close;
@@ -73,7 +73,7 @@ fn write(
     out_times: &mut [u64],
 )
     requires { ⌜ Ready (now packets) (now ends) (now times) c (now out) (now «out_ends») (now «out_times») ⌝ }
-    ensures { λ _. ⌜ Written (now (packets .entry)) (now (ends .entry)) (now (times .entry)) (now (out .entry)) (now («out_ends» .entry)) (now («out_times» .entry)) (now (out .exit)) (now («out_ends» .exit)) (now («out_times» .exit)) ⌝ }
+    ensures { λ _. ⌜ WroteMerged (now (packets .entry)) (now (ends .entry)) (now (times .entry)) (now (out .entry)) (now («out_ends» .entry)) (now («out_times» .entry)) (now (out .exit)) (now («out_ends» .exit)) (now («out_times» .exit)) ⌝ }
 {
     let n = times.len();
     let mut first: usize = 0;

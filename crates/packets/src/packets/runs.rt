@@ -3,8 +3,9 @@ ghost use mathlib.Core.Path.{_≡_};
 ghost use Prim.Native.Nat.{min};
 ghost use lib.ListN.{length};
 ghost use lib.Seq.{slice};
-ghost use Rattle.container.specs.Ranges.{keptBytes, Range, Wrote};
-ghost use Rattle.packets.specs.PacketRuns.{listed, held, leadOf, most, Run, RunRoom};
+ghost use Rattle.bitio.specs.Lent.{Wrote};
+ghost use Rattle.container.specs.Ranges.{keptBytes, Range};
+ghost use Rattle.packets.specs.PacketRuns.{listed, allParsed, leadOf, most, Run, RunRoom};
 use crate::packets::lists::packet;
 use bitio::numbers::plus;
 use container::ranges::put_written;
@@ -30,7 +31,7 @@ pub(crate) fn lead_end(s: &[u8]) -> usize
 // How many bytes the OBUs of the packets from a to b have, written.
 pub(crate) fn run_len(packets: &[u8], ends: &[u32], a: usize, b: usize, keep: bool) -> usize
     requires { ⌜ Run (now packets) (now ends) a b ⌝ }
-    ensures { λ r. ⌜ r ≡ min (length (keptBytes keep (held (slice a b (listed (now (packets .entry)) (now (ends .entry))))))) most ⌝ }
+    ensures { λ r. ⌜ r ≡ min (length (keptBytes keep (allParsed (slice a b (listed (now (packets .entry)) (now (ends .entry))))))) most ⌝ }
 {
     let mut i = a;
     let mut n: usize = 0;
@@ -53,7 +54,7 @@ pub(crate) fn put_run(
     to: usize,
 ) -> usize
     requires { ⌜ RunRoom (now packets) (now ends) a b keep (now out) to ⌝ }
-    ensures { λ r. ⌜ Wrote (now (out .entry)) to (keptBytes keep (held (slice a b (listed (now (packets .entry)) (now (ends .entry)))))) r (now (out .exit)) ⌝ }
+    ensures { λ r. ⌜ Wrote (now (out .entry)) to (keptBytes keep (allParsed (slice a b (listed (now (packets .entry)) (now (ends .entry)))))) r (now (out .exit)) ⌝ }
 {
     let mut i = a;
     let mut w = to;

@@ -38,13 +38,13 @@ returns c =
     let a = b .before .before .before .before in
     let w = rw (m .before .payload .ensures) at (m .put-measured .ensures) in
     let e = some-kept b in
-    record { next = w .0 ∙ omega (arith, ap length e, obu-length (there a)); lent = w .1 ∙ ap (pasted _ _) (sym e) }
+    record { next = w .0 ∙ omega (arith, ap length e, obu-length (there a)); out = w .1 ∙ ap (pasted _ _) (sym e) }
 
 returns-2 : tie.Need-returns-2
 returns-2 c =
     let a = c .before .before .before .before in
     let e = kept-none (a .args .keep) (there a) (sym (c .before .is-kept .ensures) ∙ c .if1 .left) in
-    rw e (record { next = omega arith; lent = sym (pasted-nil _ _) })
+    rw e (record { next = omega arith; out = sym (pasted-nil _ _) })
 
 pub put-kept-spec : {M : Type 1} → statement M
 put-kept-spec =

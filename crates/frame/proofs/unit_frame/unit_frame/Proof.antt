@@ -1,5 +1,4 @@
 use borrow.Author.Needs.{needs}
-use native.Mathlib.Omega.{arith}
 use mathlib.Core.Path.{sym, ap, _∙_}
 use Rattle.obu.specs.Unit.{countedSays}
 use Rattle.frame.proofs.UnitFrameLaws.{frame-refused, frame-none, frame-many, frame-read}

@@ -1,14 +1,13 @@
 use borrow.Author.Needs.{needs}
 use native.Mathlib.Omega.{arith}
-use mathlib.Core.Path.{_≡_, refl, sym, _∙_, ap}
+use mathlib.Core.Path.{_≡_, sym, _∙_, ap}
 use mathlib.Core.List.{List}
 use Prim.Native.Nat.{ℕ, _+_, _-_, _≤_}
 use denote.Ref.{now}
 use lib.ListN.{length, take, drop, length-drop}
 use lib.Seq.{take-all, drop-drop}
 use Rattle.bitio.specs.Leb.{readLeb, number, lebAnswer}
-use Rattle.bitio.specs.declared.leb128.Leb.the-variants.{Value, Bad}
-use Rattle.bitio.specs.Leb.Number.{none as noNumber}
+use Rattle.bitio.specs.declared.leb128.Leb.the-variants.{Value}
 use Rattle.bitio.proofs.LebLaws.{is-number, is-bad}
 use Rattle.obu.proofs.PlaceLaws.{body-rest, body-none, body-over, body-got}
 use Rattle.obu.proofs.reader.body_at.Statement.{statement}

@@ -1,16 +1,15 @@
 use borrow.Author.Needs.{needs}
 use native.Mathlib.Omega.{arith}
 use mathlib.Core.Path.{_≡_, refl, sym, ap, _∙_}
-use mathlib.Core.Bool.{Bool, true, false, cond as pick}
+use mathlib.Core.Bool.{true, false}
 use mathlib.Core.List.{List, [], _∷_, _++_}
-use mathlib.Core.Option.{Option}
-use Prim.Native.Nat.{ℕ, suc, _+_, _-_, _≤_, _<_}
+use Prim.Native.Nat.{suc, _-_, _≤_}
 use native.Mathlib.Numerals.{add-one}
 use denote.Ref.{now}
 use lib.ListN.{length}
-use Rattle.bitio.specs.Parse.{Answer, refused, accepted, answer}
-use Rattle.obu.specs.Obu.{Obu, obus}
-use Rattle.obu.specs.Place.{placed, obuPlace, obuSays, extensionSays}
+use Rattle.bitio.specs.Parse.{accepted}
+use Rattle.obu.specs.Obu.{Obu}
+use Rattle.obu.specs.Place.{obuSays, extensionSays}
 use Rattle.obu.specs.Unit.{isType, isKind, count}
 use Rattle.obu.proofs.PlaceLaws.{IsPlaced, is-placed, at-end, Walked, walk-start, walk-next, walk-end, walk-stop, not-found}
 use Rattle.obu.proofs.UnitLaws.{count-next}

@@ -2,16 +2,16 @@ use borrow.Author.Needs.{needs}
 use native.Mathlib.Omega.{arith}
 use mathlib.Core.Path.{_≡_, refl, sym, ap, ap₂, _∙_}
 use mathlib.Core.Logic.{⊎-elim}
-use mathlib.Core.Bool.{Bool, true, false, cond as pick, not, _||_, _&&_}
+use mathlib.Core.Bool.{Bool, _||_}
 use mathlib.Core.Option.{some}
 use Rattle.obu.specs.Obu.{Obu}
 use mathlib.Core.List.{List, [], _∷_, _++_}
-use Prim.Native.Nat.{ℕ, _-_}
+use Prim.Native.Nat.{_-_}
 use denote.Ref.{now}
 use lib.ListN.{length}
-use Rattle.bitio.specs.Parse.{accepted, answer}
+use Rattle.bitio.specs.Parse.{accepted}
 use Rattle.obu.specs.Place.{obuSays, extensionSays}
-use Rattle.obu.specs.Unit.{isType, isKind, Located, locatedObus, sought, foundSays}
+use Rattle.obu.specs.Unit.{isType, isKind, Located, sought, foundSays}
 use Rattle.obu.proofs.PlaceLaws.{IsPlaced, is-placed, placed-obu}
 use Rattle.obu.proofs.UnitLaws.{isSome, Searched, search-start, search-next, search-end, search-stop, sought-next, seen-next}
 use Rattle.obu.proofs.unit.find_obu.Statement.{statement}

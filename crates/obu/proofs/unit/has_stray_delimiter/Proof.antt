@@ -1,7 +1,5 @@
 use borrow.Author.Needs.{needs}
-use native.Mathlib.Omega.{arith}
 use mathlib.Core.Path.{_≡_, sym, ap, _∙_}
-use mathlib.Core.Bool.{Bool}
 use denote.Ref.{now}
 use Rattle.bitio.specs.Parse.{accepted, answer}
 use Rattle.obu.specs.Obu.{obus}

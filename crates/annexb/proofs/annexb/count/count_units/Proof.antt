@@ -6,7 +6,7 @@ use Prim.Native.Nat.{ℕ, _+_, _-_, _*_, _≤_}
 use denote.Ref.{now}
 use lib.ListN.{length, getD}
 use Rattle.bitio.specs.Parse.{accepted}
-use Rattle.container.specs.Units.{joinedSays}
+use Rattle.container.specs.Units.{byteCountSays}
 use Rattle.annexb.specs.Spans.{span}
 use Rattle.annexb.specs.Join.{atMost, framedLength}
 use Rattle.annexb.proofs.SpanLaws.{span-length}
@@ -40,7 +40,7 @@ bytes-of c = span (now (begin (c .before) .args .units)) (c .before .loop .at) (
 -- what was counted of it
 counted : (c : tie.After-found Inv-loop μ-loop) → counts (bytes-of (turn (c .before .before))) ≡ accepted (c .found .given .0 .0)
 unfolding span
-counted c = sym (c .before .before .count-inner .ensures .0) ∙ ap joinedSays (c .found .given .1)
+counted c = sym (c .before .before .count-inner .ensures .0) ∙ ap byteCountSays (c .found .given .1)
 
 few : (c : tie.After-found Inv-loop μ-loop) → (let l = turn (c .before .before) .before in c .found .given .0 .0 ≤ 12 * (end-of l - l .loop .at))
 unfolding span

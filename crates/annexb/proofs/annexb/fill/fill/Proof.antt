@@ -10,7 +10,7 @@ use Rattle.obu.specs.Obu.{Obu, unitBytes}
 use Rattle.container.specs.Stream.{flat}
 use Rattle.container.specs.AnnexB.{frameUnit, temporalUnit}
 use Rattle.annexb.specs.Spans.{span, partSays}
-use Rattle.annexb.specs.Fill.{Laid}
+use Rattle.bitio.specs.Lent.{Wrote}
 use Rattle.bitio.specs.Limits.{limit}
 use Rattle.container.proofs.AnnexBLaws.{temporal-shrinks}
 use Rattle.annexb.proofs.PartLaws.{IsPart, is-part, not-part}
@@ -56,7 +56,7 @@ found c = c .before .before .before .before .before
 -- what fill_unit left
 wrote : (c : tie.After-slice-known3 Inv-loop μ-loop)
     → (let l = at-loop (found c) in
-    Laid (l .loop .out) (l .loop .w) (unitBytes (obus (found c) .0)) (c .before .before .fill-unit .last .1 .1 .1 .0) (c .before .before .fill-unit .result))
+    Wrote (l .loop .out) (l .loop .w) (unitBytes (obus (found c) .0)) (c .before .before .fill-unit .result) (c .before .before .fill-unit .last .1 .1 .1 .0))
 wrote c = held-is (obus (found c) .1) (c .before .before .fill-unit .ensures)
 
 small : (c : tie.After-slice-known3 Inv-loop μ-loop) → c .before .before .fill-unit .result ≤ limit

@@ -10,7 +10,7 @@ use Rattle.bitio.specs.Parse.{refused}
 use Rattle.obu.specs.Place.{extensionSays}
 use Rattle.annexb.specs.Spans.{partSays, innerSays}
 use Rattle.annexb.proofs.PartLaws.{IsPart, is-part, not-part, IsObuAt, is-obu-at, not-obu}
-use Rattle.annexb.proofs.MeasureLaws.{Units, Frames, Obus, Left, ended, faulted, units-start, frames-start, obus-start, obus-next, obus-end, frames-end, units-stop, frames-stop, obus-stop, last-in, left-answer}
+use Rattle.annexb.proofs.MeasureLaws.{UnitsDone, FramesDone, Obus, Left, ended, faulted, units-start, frames-start, obus-start, obus-next, obus-end, frames-end, units-stop, frames-stop, obus-stop, last-in, left-answer}
 use Rattle.annexb.proofs.annexb.measure.measure.Statement.{statement}
 use Rattle.annexb.proofs.annexb.measure.measure.Tie as tie
 
@@ -21,13 +21,13 @@ abbrev μ-loop2 : tie.MeasureT-loop2
 μ-loop2 «data» len at bytes₀ units fault₀ start unit-end p first frame-end q₀ bytes fault q = frame-end - q
 
 abbrev Inv-loop : tie.InvT-loop
-Inv-loop «data» len at bytes₀ units fault₀ start unit-end p₀ bytes fault p = Frames «data» at start unit-end p bytes units
+Inv-loop «data» len at bytes₀ units fault₀ start unit-end p₀ bytes fault p = FramesDone «data» at start unit-end p bytes units
 
 abbrev μ-loop : tie.MeasureT-loop
 μ-loop «data» len at bytes₀ units fault₀ start unit-end p₀ bytes fault p = unit-end - p
 
 abbrev Inv-all : tie.InvT-all
-Inv-all «data» len at₀ bytes₀ units₀ fault₀ at bytes units fault = Units «data» at bytes units
+Inv-all «data» len at₀ bytes₀ units₀ fault₀ at bytes units fault = UnitsDone «data» at bytes units
 
 abbrev μ-all : tie.MeasureT-all
 μ-all «data» len at₀ bytes₀ units₀ fault₀ at bytes units fault = length «data» - at

@@ -8,7 +8,7 @@ use Rattle.bitio.specs.Leb.{lebBytes}
 use Rattle.obu.specs.Place.{extensionSays}
 use Rattle.obu.proofs.ObuLaws.{passes-small}
 use Rattle.annexb.specs.Spans.{span}
-use Rattle.annexb.specs.Fill.{Laid}
+use Rattle.bitio.specs.Lent.{Wrote}
 use Rattle.annexb.specs.Join.{innerLength}
 use Rattle.annexb.proofs.SpanLaws.{span-length}
 use Rattle.annexb.proofs.JoinLaws.{inner-laid}
@@ -23,7 +23,7 @@ size c = span-length (now (c .args .u)) (c .args .o .start) (c .args .o .end) (c
 wrote : (c : tie.After-put-leb128)
     → (let b = c .before .before .before .before .before in
     let o = b .args .o in
-    Laid (now (b .args .out)) (b .args .w) (lebBytes (innerLength (extensionSays (o .extension)) (length (span (now (b .args .u)) (o .start) (o .end))))) (c .put-leb128 .last .0) (c .put-leb128 .result))
+    Wrote (now (b .args .out)) (b .args .w) (lebBytes (innerLength (extensionSays (o .extension)) (length (span (now (b .args .u)) (o .start) (o .end))))) (c .put-leb128 .result) (c .put-leb128 .last .0))
 wrote c =
     let b = c .before .before .before .before .before in
     let o = b .args .o in

@@ -8,8 +8,8 @@ use lib.ListN.{length}
 use Rattle.bitio.specs.Parse.{accepted}
 use Rattle.bitio.specs.Leb.{lebBytes}
 use Rattle.container.specs.AnnexB.{innerBytes, annexbUnit}
-use Rattle.container.specs.Units.{joinedSays}
-use Rattle.annexb.specs.Fill.{Laid, held}
+use Rattle.container.specs.Units.{byteCountSays}
+use Rattle.bitio.specs.Lent.{Wrote}
 use Rattle.annexb.specs.Join.{atMost, framedLength}
 use Rattle.annexb.proofs.JoinLaws.{counts-held, counts-refused, unit-size, unit-laid}
 use Rattle.annexb.proofs.WriteLaws.{not-bytes}
@@ -21,7 +21,7 @@ begin c = c .before .before .before .before .before
 
 -- what was counted: the length of the OBUs
 inner : (c : tie.After-n) → c .n .given .0 .0 ≡ length (flatMap innerBytes (begin c .pre .1 .held))
-inner c = counts-held (now (begin c .args .u)) (begin c .pre .1 .reads) (sym (c .before .before .count-inner .ensures .0) ∙ ap joinedSays (c .n .given .1))
+inner c = counts-held (now (begin c .args .u)) (begin c .pre .1 .reads) (sym (c .before .before .count-inner .ensures .0) ∙ ap byteCountSays (c .n .given .1))
 
 few : (c : tie.After-n) → c .n .given .0 .0 ≤ 12 * length (now (begin c .args .u))
 few c =
@@ -49,7 +49,7 @@ room-2 c = omega (arith, room (c .before .before .before .before), c .put-leb128
 -- the two sizes that were written
 unit-written : (c : tie.After-put-leb128)
     → (let b = begin (c .before .before .before .before) in
-    Laid (now (b .args .out)) (b .args .w) (lebBytes (framedLength (length (flatMap innerBytes (b .pre .1 .held))))) (c .put-leb128 .last .0) (c .put-leb128 .result))
+    Wrote (now (b .args .out)) (b .args .w) (lebBytes (framedLength (length (flatMap innerBytes (b .pre .1 .held))))) (c .put-leb128 .result) (c .put-leb128 .last .0))
 unit-written c =
     let f = c .before .before .before .before in
     let n : c .before .framed-len .result ≡ framedLength (length (flatMap innerBytes (begin f .pre .1 .held))) = c .before .framed-len .ensures ∙ ap framedLength (inner f) in
@@ -59,7 +59,7 @@ unit-written c =
 frame-written : (c : tie.After-put-leb1282)
     → (let l = c .before .before .before .before in
     let b = begin (l .before .before .before .before) in
-    Laid (l .put-leb128 .last .0) (l .put-leb128 .result) (lebBytes (length (flatMap innerBytes (b .pre .1 .held)))) (c .put-leb1282 .last .0) (c .put-leb1282 .result))
+    Wrote (l .put-leb128 .last .0) (l .put-leb128 .result) (lebBytes (length (flatMap innerBytes (b .pre .1 .held)))) (c .put-leb1282 .result) (c .put-leb1282 .last .0))
 frame-written c =
     let f = c .before .before .before .before .before .before .before .before in
     let e = c .put-leb1282 .ensures in

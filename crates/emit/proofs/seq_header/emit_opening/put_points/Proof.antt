@@ -5,11 +5,11 @@ use Rattle.emit.proofs.seq_header.emit_opening.put_points.Tie as tie
 use Prim.Native.Nat.{_≤_, _*_, _-_}
 use lib.ListN.{take}
 use Rattle.emittable.specs.PutSequence.{putPoints}
-use Rattle.emit.specs.Wrote.{Wrote}
+use Rattle.emit.specs.WroteBits.{WroteBits}
 use Rattle.emit.proofs.WroteLaws.{wrote-first, wrote-point, wrote-points}
 
 abbrev Inv-loop : tie.InvT-loop
-Inv-loop out₀ o count points at₀ i₀ out at i = (i ≤ count) × Wrote out₀ (at₀ .pos) out (at .pos) (89 * i) (putPoints o (take i points))
+Inv-loop out₀ o count points at₀ i₀ out at i = (i ≤ count) × WroteBits out₀ (at₀ .pos) out (at .pos) (89 * i) (putPoints o (take i points))
 
 abbrev μ-loop : tie.MeasureT-loop
 μ-loop out₀ o count points at₀ i₀ out at i = count - i

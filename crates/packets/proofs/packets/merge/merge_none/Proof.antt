@@ -6,8 +6,8 @@ use mathlib.Core.Bool.{true}
 use Prim.Native.Nat.{_<_}
 use denote.Ref.{now}
 use lib.ListN.{length}
-use Rattle.packets.specs.PacketRuns.{Totals, Roomy}
-use Rattle.packets.specs.PacketLists.{fitsPackets, roomOf}
+use Rattle.packets.specs.PacketRuns.{Totals, MergeRoom}
+use Rattle.packets.specs.PacketLists.{fitsPackets, lentRoom}
 use Rattle.packets.proofs.PacketOutcomeLaws.{none-run, out-none, out-full, out-room, out-size, out-there, one-totals, one-room, one-slots, one-written}
 use Rattle.packets.proofs.packets.merge.merge_none.Statement.{statement}
 use Rattle.packets.proofs.packets.merge.merge_none.Tie as tie
@@ -23,10 +23,10 @@ totals c =
     one-totals (now (a .packets)) (now (a .ends)) (now (a .times)) (s .pre) _ (c .before .before .first-full .ensures) (some (c .before)) (c .run-len .ensures)
 
 -- it has room
-fits : (c : tie.Else2) → (let a = c .before .before .before .before .before .before .before .before .before .before .before .args in fitsPackets (c .before .before .run-len .result) 1 (roomOf (now (a .out)) (now (a .out-ends)) (now (a .out-times))) ≡ true)
+fits : (c : tie.Else2) → (let a = c .before .before .before .before .before .before .before .before .before .before .before .args in fitsPackets (c .before .before .run-len .result) 1 (lentRoom (now (a .out)) (now (a .out-ends)) (now (a .out-times))) ≡ true)
 fits c = sym (c .before .has-packet-room .ensures) ∙ not-false _ (c .if2 .left)
 
-room : (c : tie.Else2) → (let a = c .before .before .before .before .before .before .before .before .before .before .before .args in Roomy (now (a .packets)) (now (a .ends)) (now (a .times)) (now (a .out)) (now (a .out-ends)) (now (a .out-times)))
+room : (c : tie.Else2) → (let a = c .before .before .before .before .before .before .before .before .before .before .before .args in MergeRoom (now (a .packets)) (now (a .ends)) (now (a .times)) (now (a .out)) (now (a .out-ends)) (now (a .out-times)))
 room c =
     let s = c .before .before .before .before .before .before .before .before .before .before .before in
     let a = s .args in

@@ -7,7 +7,7 @@ use lib.ListN.{length}
 use Rattle.bitio.specs.Parse.{refused}
 use Rattle.obu.specs.Obu.{obus}
 use Rattle.packets.specs.PacketRuns.{unitOf, parsesUnit}
-use Rattle.packets.proofs.PacketPieceLaws.{parses-is, parses-not, copied, apart-front, apart-mid, apart-back, apart-wrote}
+use Rattle.packets.proofs.PacketPieceLaws.{parses-is, parses-not, wrote-copy, apart-front, apart-mid, apart-back, apart-wrote}
 use Rattle.packets.proofs.packets.pieces.put_piece.Statement.{statement}
 use Rattle.packets.proofs.packets.pieces.put_piece.Tie as tie
 
@@ -44,7 +44,7 @@ put-run-requires-2 c κs =
     let s = e .before .before .before .before .before .before in
     let a = s .args in
     apart-back (now (a .packets)) (now (a .ends)) (a .a) (a .c) (a .b) (s .pre .all) (bad e .0) (bad e .1) (s .pre .room) (r .put-run .ensures)
-    (copied (e .before .before .packet .ensures) (y .put-bytes .ensures .0) (y .put-bytes .ensures .1))
+    (wrote-copy (e .before .before .packet .ensures) (y .put-bytes .ensures .0) (y .put-bytes .ensures .1))
 
 returns-2 : tie.Need-returns-2
 returns-2 c =
@@ -54,7 +54,7 @@ returns-2 c =
     let s = e .before .before .before .before .before .before in
     let a = s .args in
     apart-wrote (now (a .packets)) (now (a .ends)) (a .a) (a .c) (a .b) (s .pre .all) (bad e .0) (bad e .1) (s .pre .room) (r .put-run .ensures)
-    (copied (e .before .before .packet .ensures) (y .put-bytes .ensures .0) (y .put-bytes .ensures .1)) (c .before .before .put-run2 .ensures)
+    (wrote-copy (e .before .before .packet .ensures) (y .put-bytes .ensures .0) (y .put-bytes .ensures .1)) (c .before .before .put-run2 .ensures)
 
 pub put-piece-spec : {M : Type 1} → statement M
 put-piece-spec =

@@ -4,9 +4,9 @@ use mathlib.Core.Path.{_≡_, refl}
 use Prim.Native.Nat.{_-_, _≤_}
 use denote.Ref.{now}
 use lib.ListN.{length}
-use Rattle.container.specs.Ranges.{Wrote}
+use Rattle.bitio.specs.Lent.{Wrote}
 use Rattle.packets.specs.PacketRuns.{listed}
-use Rattle.packets.proofs.PacketRunLaws.{runBytes, wrote-none, run-roomy, run-same, run-wrote, run-wrote-all}
+use Rattle.packets.proofs.PacketRunLaws.{runBytes, run-start, run-roomy, run-same, run-wrote, run-wrote-all}
 use Rattle.packets.proofs.packets.runs.put_run.Statement.{statement}
 use Rattle.packets.proofs.packets.runs.put_run.Tie as tie
 
@@ -20,7 +20,7 @@ loop-holds : tie.Need-loop-holds Inv-loop μ-loop
 loop-holds c =
     let s = c .before .before .before in
     let a = s .args in
-    (omega arith, s .pre .run .order, refl, wrote-none (a .keep) (listed (now (a .packets)) (now (a .ends))) (a .a) _ _)
+    (omega arith, s .pre .run .order, refl, run-start (a .keep) (listed (now (a .packets)) (now (a .ends))) (a .a) _ _)
 
 put-written-requires : tie.Need-put-written-requires Inv-loop μ-loop
 put-written-requires c κs =

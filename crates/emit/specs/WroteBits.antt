@@ -6,7 +6,7 @@ use lib.ListN.{length, take, drop}
 use Rattle.bitio.specs.Write.{unpack}
 
 -- from position p in d to position q in e: the bits before p, then those of f, at most n, and behind them those of d
-pub record Wrote (d : List ℕ) (p : ℕ) (e : List ℕ) (q n : ℕ) (f : List ℕ → List ℕ) : Type 0 where
+pub record WroteBits (d : List ℕ) (p : ℕ) (e : List ℕ) (q n : ℕ) (f : List ℕ → List ℕ) : Type 0 where
   pub len : length e ≡ length d
   pub on : p ≤ q
   pub near : q ≤ p + n
