@@ -1,4 +1,6 @@
 pub mod TextLaws
 pub mod DecodeLaws
 pub mod MarkedLaws
+pub mod AnswerLaws
+pub mod MemoryLaws
 pub mod RoundTrip

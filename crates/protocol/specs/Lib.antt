@@ -1,3 +1,5 @@
 pub mod Text
 pub mod Says
 pub mod Marked
+pub mod Answers
+pub mod Memory

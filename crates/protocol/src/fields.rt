@@ -150,13 +150,13 @@ pub fn read_fields(
     fields
 }
 
-pub struct NumberField {
+pub(crate) struct NumberField {
     pub value: u64,
     pub next: usize,
 }
 
 // A number wherever it stands, and where the next field starts.
-pub fn number(line: &[u8], from: usize) -> NumberField {
+pub(crate) fn number(line: &[u8], from: usize) -> NumberField {
     if from > line.len() {
         return NumberField {
             value: 0,

@@ -2,11 +2,11 @@
 // before it: 0 a space, 1 a colon, 2 a comma. The kinds of a line are one number, the first kind lowest.
 
 // A byte string; of an answer its next part.
-pub const BYTES: u64 = 1;
+pub(crate) const BYTES: u64 = 1;
 
 pub const NUMBER: u64 = 2;
 
-pub const NUMBER_32: u64 = 3;
+pub(crate) const NUMBER_32: u64 = 3;
 
 // 4 is a number up to 255, and this the same, or `-` for none.
 pub const OPTIONAL_BYTE: u64 = 5;
@@ -15,7 +15,7 @@ pub const OPTIONAL_BYTE: u64 = 5;
 pub const NO_BYTE: u64 = 256;
 
 // Of answers alone: how many parts there are,
-pub const COUNT: u64 = 6;
+pub(crate) const COUNT: u64 = 6;
 
 // the part that a number names,
 pub const NAMED: u64 = 7;
@@ -24,13 +24,13 @@ pub const NAMED: u64 = 7;
 pub const REFUSED: u64 = 8;
 
 // and an item whose kind stands among the numbers, before it.
-pub const TOLD: u64 = 9;
+pub(crate) const TOLD: u64 = 9;
 
 // Put to a kind: a comma stands before it.
 pub const COMMA: u64 = 0x20;
 
 // What stands before an item of the first of these kinds.
-pub fn separator(kinds: u64) -> u8 {
+pub(crate) fn separator(kinds: u64) -> u8 {
     match kinds / 16 % 16 {
         1 => b':',
         2 => b',',
@@ -46,7 +46,7 @@ pub struct Format {
 
 impl Format {
     // With a kind at its head, if any may follow.
-    pub fn refilled(self) -> Format {
+    pub(crate) fn refilled(self) -> Format {
         let mut format = self;
         if format.kinds == 0 {
             format.kinds = format.repeated;
@@ -55,7 +55,7 @@ impl Format {
     }
 
     // Behind the kind at its head.
-    pub fn rest(self) -> Format {
+    pub(crate) fn rest(self) -> Format {
         let mut format = self;
         format.kinds = format.kinds / 256;
         format

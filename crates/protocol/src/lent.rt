@@ -104,7 +104,7 @@ impl Lent {
     }
 }
 
-pub fn mark(memory: &mut [u8])
+fn mark(memory: &mut [u8])
     ensures { λ _. ⌜ now (memory .exit) ≡ replicate (length (now (memory .entry))) 0xa5 ⌝ }
 {
     let mut i: usize = 0;
@@ -177,7 +177,7 @@ fn are_numbers_marked(numbers: &[u64], from: usize) -> bool {
 }
 
 // Whether the call has left all memory as it was that its answer does not account for.
-pub fn is_clean(
+pub(crate) fn is_clean(
     is_own: bool,
     answer: Answer,
     memory: &[u8],

@@ -17,7 +17,7 @@ pub fn flush(out: &[u8], at: usize) {
     }
 }
 
-pub fn put_text(out: &mut Buffer, at: usize, text: &[u8]) -> usize {
+pub(crate) fn put_text(out: &mut Buffer, at: usize, text: &[u8]) -> usize {
     let mut to = at;
     let mut i: usize = 0;
     while i < text.len() {
@@ -32,7 +32,7 @@ pub fn put_text(out: &mut Buffer, at: usize, text: &[u8]) -> usize {
     to
 }
 
-pub fn put_number(out: &mut Buffer, at: usize, v: u64) -> usize {
+pub(crate) fn put_number(out: &mut Buffer, at: usize, v: u64) -> usize {
     let mut digits = [0u8; 20];
     let n = io::decimal(v, &mut digits);
     put_text(out, at, &digits[..n])
@@ -47,7 +47,7 @@ fn put_hex_part(out: &mut Buffer, at: usize, s: &[u8]) -> usize
 }
 
 // Bytes in hexadecimal, `-` for none.
-pub fn put_hex(out: &mut Buffer, at: usize, s: &[u8]) -> usize {
+pub(crate) fn put_hex(out: &mut Buffer, at: usize, s: &[u8]) -> usize {
     if s.len() == 0 {
         return put_text(out, at, b"-");
     }
