@@ -1,3 +1,4 @@
+pub mod ToldLaws
 pub mod TextLaws
 pub mod DecodeLaws
 pub mod MarkedLaws
