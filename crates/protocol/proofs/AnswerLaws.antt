@@ -1,6 +1,5 @@
 -- Laws of what an answer tells in lent memory.
 use mathlib.Core.Path.{_≡_, refl, ap₂, _∙_}
-use mathlib.Core.Bool.{true, false}
 use mathlib.Core.List.{List, [], _∷_, _++_, append-nil}
 use Prim.Native.Nat.{ℕ, _+_, _-_, _≤_, _<_}
 use native.Mathlib.Omega.{arith}
@@ -10,7 +9,7 @@ use lib.Seq.{drop-cons, take-all, length-take-le}
 use borrow.Rule.Slice.PartMut.{putMid, post-is}
 use borrow.Author.Tests.{lt-ltb, le-ltb, le-leb, lt-leb}
 use Rattle.bitio.specs.Lent.{pasted, hasRoom}
-use Rattle.protocol.specs.Answers.{Numbered, numbered, storedNumber, withNumber, withNumbers, Parted, parted, storedPart, withPart, withParts}
+use Rattle.protocol.specs.Answers.{Numbered, storedNumber, withNumber, withNumbers, Parted, storedPart, withPart, withParts}
 
 -- ---- numbers
 

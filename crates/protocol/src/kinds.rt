@@ -1,5 +1,7 @@
 // Kinds of fields and of printed items, two hexadecimal digits each. The low one says what it is, the high one what stands
 // before it: 0 a space, 1 a colon, 2 a comma. The kinds of a line are one number, the first kind lowest.
+ghost use mathlib.Core.Path.{_≡_};
+ghost use Rattle.protocol.specs.Kinds.{separatorOf, refilledOf, restOf};
 
 // A byte string; of an answer its next part.
 pub(crate) const BYTES: u64 = 1;
@@ -30,7 +32,9 @@ pub(crate) const TOLD: u64 = 9;
 pub const COMMA: u64 = 0x20;
 
 // What stands before an item of the first of these kinds.
-pub(crate) fn separator(kinds: u64) -> u8 {
+pub(crate) fn separator(kinds: u64) -> u8
+    ensures { λ r. ⌜ r ≡ separatorOf kinds ⌝ }
+{
     match kinds / 16 % 16 {
         1 => b':',
         2 => b',',
@@ -46,16 +50,22 @@ pub struct Format {
 
 impl Format {
     // With a kind at its head, if any may follow.
-    pub(crate) fn refilled(self) -> Format {
-        let mut format = self;
-        if format.kinds == 0 {
-            format.kinds = format.repeated;
+    pub(crate) fn refilled(self) -> Format
+        ensures { λ r. ⌜ r ≡ refilledOf self ⌝ }
+    {
+        if self.kinds == 0 {
+            return Format {
+                kinds: self.repeated,
+                repeated: self.repeated,
+            };
         }
-        format
+        self
     }
 
     // Behind the kind at its head.
-    pub(crate) fn rest(self) -> Format {
+    pub(crate) fn rest(self) -> Format
+        ensures { λ r. ⌜ r ≡ restOf self ⌝ }
+    {
         let mut format = self;
         format.kinds = format.kinds / 256;
         format
