@@ -1,4 +1,12 @@
+pub mod ToldLaws
 pub mod TextLaws
 pub mod DecodeLaws
 pub mod MarkedLaws
+pub mod RoomLaws
+pub mod FieldLaws
+pub mod TypedLaws
+pub mod LineLaws
+pub mod PrintLaws
+pub mod AnswerLaws
+pub mod MemoryLaws
 pub mod RoundTrip

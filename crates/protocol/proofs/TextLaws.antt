@@ -1,14 +1,14 @@
 -- Laws of the text of the line protocol.
-use mathlib.Core.Path.{_≡_, refl}
+use mathlib.Core.Path.{_≡_, refl, ap}
 use mathlib.Core.List.{List, [], _∷_}
 use mathlib.Core.Bool.{Bool, true, false, cond as pick}
 use Prim.Native.Nat.{ℕ, zero, suc, _+_, _-_, _*_, _/_, _%_, _^_, _≤_, _<_}
 use native.Mathlib.Omega.{arith}
 use native.Mathlib.Numerals.{add-one}
-use lib.ListN.{length, getD, drop, length-drop, drop-of-length-le}
+use lib.ListN.{length, getD, take, drop, length-drop, drop-of-length-le}
 use lib.Pow.{pow-add}
 use lib.Seq.{drop-cons}
-use lib.Dec.{ltb}
+use lib.Dec.{ltb, eqb}
 use borrow.Author.Tests.{lt-ltb, le-ltb, le-leb, lt-leb, eq-eqb, ne-eqb, ltb-true}
 use Rattle.protocol.specs.Text.{none, spells, hexDigit, hexValue, allHex, hexText, hexBytes, pairs, byteString, numberFrom, readNumber, word, keyFrom, wordKey}
 
@@ -213,6 +213,22 @@ module _ (e : ℕ) (s : List ℕ) (i : ℕ) where
   pub word-more : i < length s → (getD s i 0 ≡ e → ⊥) → length (word e (drop i s)) ≡ suc (length (word e (drop (i + 1) s)))
   unfolding word
   word-more h q = rw (add-one i, drop-cons s i 0 h, ne-eqb (getD s i 0) e q)
+
+-- as many characters as the word has are the word
+pub word-take : (e : ℕ) (s : List ℕ) → take (length (word e s)) s ≡ word e s
+unfolding word
+word-take e [] = refl
+word-take e (c ∷ s) = go (eqb c e) (ap (λ (l : List ℕ). c ∷ l) (word-take e s))
+  where
+    go : (t : Bool) → c ∷ take (length (word e s)) s ≡ c ∷ word e s → take (length (pick t [] (c ∷ word e s))) (c ∷ s) ≡ pick t [] (c ∷ word e s)
+    go true q = refl
+    go false q = q
+
+-- the characters from i to the word's end are the word
+pub word-between : (e : ℕ) (s : List ℕ) (i : ℕ) {j : ℕ} → j ≡ i + length (word e (drop i s)) → take (j - i) (drop i s) ≡ word e (drop i s)
+word-between e s i {j} h =
+    let k : j - i ≡ length (word e (drop i s)) = omega arith in
+    rw k (word-take e (drop i s))
 
 -- ---- keys
 

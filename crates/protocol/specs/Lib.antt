@@ -1,3 +1,12 @@
+pub mod Told
 pub mod Text
 pub mod Says
 pub mod Marked
+pub mod Room
+pub mod Kinds
+pub mod Fields
+pub mod Lines
+pub mod Typed
+pub mod Printed
+pub mod Answers
+pub mod Memory

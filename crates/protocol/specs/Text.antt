@@ -2,7 +2,7 @@
 use Prim.Native.Nat.{ℕ, _+_, _-_, _*_, _/_, _%_, _^_}
 use mathlib.Core.List.{List, [], _∷_}
 use mathlib.Core.Bool.{Bool, true, false, cond as pick}
-use lib.ListN.{length}
+use lib.ListN.{length, drop}
 use lib.Dec.{leb, ltb, eqb}
 
 -- what a text comes to: nothing, or what it spells
@@ -57,6 +57,10 @@ readNumber (c ∷ s) = numberFrom 0 (c ∷ s)
 unfoldable pub word : ℕ → List ℕ → List ℕ
 word e [] = []
 word e (c ∷ s) = pick (eqb c e) [] (c ∷ word e s)
+
+-- the word that starts at i
+abbrev pub wordAt : ℕ → List ℕ → ℕ → List ℕ
+wordAt e s i = word e (drop i s)
 
 -- a number whose bytes up to here came to k
 unfoldable pub keyFrom : ℕ → List ℕ → ℕ

@@ -1,4 +1,7 @@
 // What a request is answered: a refusal, or so much of the memory lent to it. What has no room there is left out.
+ghost use mathlib.Core.Path.{_≡_};
+ghost use mathlib.Core.List.{[], _∷_};
+ghost use Rattle.protocol.specs.Answers.{partsOf, refusedWith, numbered, withNumbers, parted, withParts};
 
 pub struct Answer {
     // document 01's number, 0 for no refusal
@@ -12,7 +15,9 @@ pub struct Answer {
 }
 
 // So many bytes, in so many parts.
-pub fn parts(bytes: usize, ends: usize) -> Answer {
+pub fn parts(bytes: usize, ends: usize) -> Answer
+    ensures { λ r. ⌜ r ≡ partsOf bytes ends ⌝ }
+{
     Answer {
         refusal: 0,
         bytes,
@@ -22,11 +27,15 @@ pub fn parts(bytes: usize, ends: usize) -> Answer {
     }
 }
 
-pub fn done() -> Answer {
+pub fn done() -> Answer
+    ensures { λ r. ⌜ r ≡ partsOf 0 0 ⌝ }
+{
     parts(0, 0)
 }
 
-pub fn refused(number: u32) -> Answer {
+pub fn refused(number: u32) -> Answer
+    ensures { λ r. ⌜ r ≡ refusedWith number ⌝ }
+{
     let mut answer = done();
     answer.refusal = number;
     answer
@@ -34,7 +43,9 @@ pub fn refused(number: u32) -> Answer {
 
 impl Answer {
     // With one more number.
-    pub fn number(self, v: u64, numbers: &mut [u64]) -> Answer {
+    pub fn number(self, v: u64, numbers: &mut [u64]) -> Answer
+        ensures { λ r. ⌜ numbered r (now (numbers .exit)) ≡ withNumbers (numbered self (now (numbers .entry))) (v ∷ []) ⌝ }
+    {
         let i = self.numbers;
         let mut answer = self;
         if i < numbers.len() {
@@ -44,11 +55,15 @@ impl Answer {
         answer
     }
 
-    pub fn pair(self, a: u64, b: u64, numbers: &mut [u64]) -> Answer {
+    pub fn pair(self, a: u64, b: u64, numbers: &mut [u64]) -> Answer
+        ensures { λ r. ⌜ numbered r (now (numbers .exit)) ≡ withNumbers (numbered self (now (numbers .entry))) (a ∷ b ∷ []) ⌝ }
+    {
         self.number(a, numbers).number(b, numbers)
     }
 
-    pub fn list(self, list: &[u64], numbers: &mut [u64]) -> Answer {
+    pub fn list(self, list: &[u64], numbers: &mut [u64]) -> Answer
+        ensures { λ r. ⌜ numbered r (now (numbers .exit)) ≡ withNumbers (numbered self (now (numbers .entry))) (now (list .entry)) ⌝ }
+    {
         let mut answer = self;
         let mut i: usize = 0;
         while i < list.len() {
@@ -59,7 +74,9 @@ impl Answer {
     }
 
     // With one more part.
-    pub fn part(self, src: &[u8], memory: &mut [u8], ends: &mut [u32]) -> Answer {
+    pub fn part(self, src: &[u8], memory: &mut [u8], ends: &mut [u32]) -> Answer
+        ensures { λ r. ⌜ parted r (now (memory .exit)) (now (ends .exit)) ≡ withParts (parted self (now (memory .entry)) (now (ends .entry))) (now (src .entry) ∷ []) ⌝ }
+    {
         let at = self.bytes;
         let i = self.ends;
         if i >= ends.len() {

@@ -1,5 +1,11 @@
 // The fields of a line, each of the kind that its request asks for. Byte strings go into `decoded`, one behind the other,
 // and the end of each into `ends`; numbers go into `numbers`.
+ghost use mathlib.Core.Path.{_≡_};
+ghost use mathlib.Core.List.{List};
+ghost use Prim.Native.Nat.{ℕ};
+ghost use Rattle.protocol.specs.Says.{decimalSays};
+ghost use Rattle.protocol.specs.Room.{numberField};
+ghost use Rattle.protocol.specs.Fields.{reading, spoiledOf, bytesField, largestOf, isDash, valueOf, valueField, fieldOf, fieldsOf, isAllOf};
 use crate::kinds::BYTES;
 use crate::kinds::Format;
 use crate::kinds::NO_BYTE;
@@ -26,20 +32,26 @@ pub struct Fields {
 }
 
 impl Fields {
-    fn spoiled(self) -> Fields {
+    fn spoiled(self) -> Fields
+        ensures { λ r. ⌜ r ≡ spoiledOf self ⌝ }
+    {
         let mut fields = self;
         fields.next = usize::MAX;
         fields
     }
 
     // Whether every field of the line was read and was good, and none is missing.
-    pub fn is_all(self, line: &[u8]) -> bool {
+    pub fn is_all(self, line: &[u8]) -> bool
+        ensures { λ r. ⌜ r ≡ isAllOf self (now (line .entry)) ⌝ }
+    {
         let format = self.format;
         (self.next == line.len() + 1) & (format.kinds == 0)
     }
 }
 
-fn read_bytes(word: &[u8], decoded: &mut [u8], ends: &mut [u32], so_far: Fields) -> Fields {
+fn read_bytes(word: &[u8], decoded: &mut [u8], ends: &mut [u32], so_far: Fields) -> Fields
+    ensures { λ r. ⌜ ((ns : List ℕ) → reading r (now (decoded .exit)) (now (ends .exit)) ns ≡ bytesField (reading «so_far» (now (decoded .entry)) (now (ends .entry)) ns) (now (word .entry))) ⌝ }
+{
     let i = so_far.ends;
     let Decoded::End(end) = decode(word, decoded, so_far.bytes) else {
         return so_far.spoiled();
@@ -54,7 +66,9 @@ fn read_bytes(word: &[u8], decoded: &mut [u8], ends: &mut [u32], so_far: Fields)
     fields
 }
 
-fn largest(kind: u64) -> u64 {
+fn largest(kind: u64) -> u64
+    ensures { λ r. ⌜ r ≡ largestOf kind ⌝ }
+{
     match kind {
         NUMBER => u64::MAX,
         NUMBER_32 => 0xffff_ffff,
@@ -62,21 +76,23 @@ fn largest(kind: u64) -> u64 {
     }
 }
 
-fn is_dash(word: &[u8]) -> bool {
+fn is_dash(word: &[u8]) -> bool
+    ensures { λ r. ⌜ r ≡ isDash (now (word .entry)) ⌝ }
+{
     if word.len() == 1 {
         return word[0] == b'-';
     }
     false
 }
 
-fn value(kind: u64, word: &[u8]) -> Decimal {
-    if kind < NUMBER || kind > OPTIONAL_BYTE {
+fn value(kind: u64, word: &[u8]) -> Decimal
+    ensures { λ r. ⌜ decimalSays r ≡ valueOf kind (now (word .entry)) ⌝ }
+{
+    if (kind < NUMBER) | (kind > OPTIONAL_BYTE) {
         return Decimal::Bad;
     }
-    if kind == OPTIONAL_BYTE {
-        if is_dash(word) {
-            return Decimal::Value(NO_BYTE);
-        }
+    if (kind == OPTIONAL_BYTE) & is_dash(word) {
+        return Decimal::Value(NO_BYTE);
     }
     let Decimal::Value(v) = read_decimal(word) else {
         return Decimal::Bad;
@@ -87,7 +103,9 @@ fn value(kind: u64, word: &[u8]) -> Decimal {
     Decimal::Value(v)
 }
 
-fn read_number(kind: u64, word: &[u8], numbers: &mut [u64], so_far: Fields) -> Fields {
+fn read_number(kind: u64, word: &[u8], numbers: &mut [u64], so_far: Fields) -> Fields
+    ensures { λ r. ⌜ ((d es : List ℕ) → reading r d es (now (numbers .exit)) ≡ valueField (reading «so_far» d es (now (numbers .entry))) kind (now (word .entry))) ⌝ }
+{
     let i = so_far.numbers;
     let Decimal::Value(v) = value(kind, word) else {
         return so_far.spoiled();
@@ -108,7 +126,9 @@ fn read_field(
     ends: &mut [u32],
     numbers: &mut [u64],
     so_far: Fields,
-) -> Fields {
+) -> Fields
+    ensures { λ r. ⌜ reading r (now (decoded .exit)) (now (ends .exit)) (now (numbers .exit)) ≡ fieldOf (now (line .entry)) (reading «so_far» (now (decoded .entry)) (now (ends .entry)) (now (numbers .entry))) ⌝ }
+{
     let from = so_far.next;
     if from > line.len() {
         return so_far;
@@ -134,7 +154,9 @@ pub fn read_fields(
     decoded: &mut [u8],
     ends: &mut [u32],
     numbers: &mut [u64],
-) -> Fields {
+) -> Fields
+    ensures { λ r. ⌜ reading r (now (decoded .exit)) (now (ends .exit)) (now (numbers .exit)) ≡ fieldsOf (now (line .entry)) next format (now (decoded .entry)) (now (ends .entry)) (now (numbers .entry)) ⌝ }
+{
     let mut fields = Fields {
         next,
         format,
@@ -150,13 +172,15 @@ pub fn read_fields(
     fields
 }
 
-pub struct NumberField {
+pub(crate) struct NumberField {
     pub value: u64,
     pub next: usize,
 }
 
 // A number wherever it stands, and where the next field starts.
-pub fn number(line: &[u8], from: usize) -> NumberField {
+pub(crate) fn number(line: &[u8], from: usize) -> NumberField
+    ensures { λ r. ⌜ r ≡ numberField (now (line .entry)) from ⌝ }
+{
     if from > line.len() {
         return NumberField {
             value: 0,

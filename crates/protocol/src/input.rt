@@ -1,4 +1,11 @@
 // Lines of standard input, taken from pieces that are read as they come.
+ghost use mathlib.Core.Path.{_≡_};
+ghost use mathlib.Core.Bool.{cond as pick};
+ghost use mathlib.Core.List.{List};
+ghost use Prim.Native.Nat.{ℕ, _+_};
+ghost use lib.ListN.{length, set};
+ghost use lib.Dec.{ltb};
+ghost use Rattle.protocol.specs.Lines.{startInput, isLine, Kept};
 use crate::output::Buffer;
 
 // How far the input has been read.
@@ -13,7 +20,9 @@ pub struct Input {
     pub is_over: bool,
 }
 
-pub fn start() -> Input {
+pub fn start() -> Input
+    ensures { λ r. ⌜ r ≡ startInput ⌝ }
+{
     Input {
         from: 0,
         to: 0,
@@ -25,12 +34,16 @@ pub fn start() -> Input {
 
 impl Input {
     // Whether there is a line to answer: none lies behind the last line end.
-    pub fn is_line(self) -> bool {
+    pub fn is_line(self) -> bool
+        ensures { λ r. ⌜ r ≡ isLine self ⌝ }
+    {
         !self.is_over | (self.len > 0)
     }
 }
 
-fn read_piece(piece: &mut [u8], input: Input) -> Input {
+fn read_piece(piece: &mut [u8], input: Input) -> Input
+    ensures { λ r. ⌜ r .len ≡ input .len ⌝ }
+{
     let mut next = input;
     let got = libc::read(0, piece);
     if got <= 0 {
@@ -42,7 +55,10 @@ fn read_piece(piece: &mut [u8], input: Input) -> Input {
     next
 }
 
-fn keep(line: &mut [u8], len: usize, c: u8) -> usize {
+fn keep(line: &mut [u8], len: usize, c: u8) -> usize
+    ensures { λ r. ⌜ r ≡ pick (ltb len (length (now (line .entry)))) (len + 1) (length (now (line .entry)) + 1) ⌝ }
+    ensures { λ _. ⌜ now (line .exit) ≡ set (now (line .entry)) len c ⌝ }
+{
     if len < line.len() {
         line[len] = c;
         return len + 1;
@@ -50,31 +66,41 @@ fn keep(line: &mut [u8], len: usize, c: u8) -> usize {
     line.len() + 1
 }
 
-fn take(piece: &[u8], line: &mut [u8], input: Input) -> Input {
+fn take(piece: &[u8], line: &mut [u8], input: Input) -> Input
+    ensures { λ r. ⌜ ((d : List ℕ) → Kept d (now (line .entry)) (input .len) → Kept d (now (line .exit)) (r .len)) ⌝ }
+{
     let from = input.from;
-    let mut next = input;
-    if from < piece.len() {
-        let c = piece[from];
-        next.from = from + 1;
-        if c == b'\n' {
-            next.is_whole = true;
-        } else {
-            next.len = keep(line, input.len, c);
-        }
+    if from >= piece.len() {
+        return input;
     }
+    let c = piece[from];
+    let mut next = input;
+    next.from = from + 1;
+    if c == b'\n' {
+        next.is_whole = true;
+        return next;
+    }
+    next.len = keep(line, input.len, c);
     next
 }
 
 // One more character, or piece.
-fn advance(piece: &mut [u8], line: &mut [u8], input: Input) -> Input {
+fn advance(piece: &mut [u8], line: &mut [u8], input: Input) -> Input
+    ensures { λ r. ⌜ ((d : List ℕ) → Kept d (now (line .entry)) (input .len) → Kept d (now (line .exit)) (r .len)) ⌝ }
+{
     if input.from < input.to {
         return take(piece, line, input);
     }
     read_piece(piece, input)
 }
 
-// The next line. Nothing says that one ends, so the turns are counted down from a number that no run uses up.
-pub fn read_line(piece: &mut Buffer, line: &mut Buffer, so_far: Input) -> Input {
+// The next line. Nothing says that one ends, so the turns are counted down from a number that no run uses up. Nor is it
+// known what `libc::read` puts into `piece`, so the contract fixes of `piece` its length alone, and of `line` what holds
+// whatever came: its kept characters are no line ends, and what stands behind them is as it was.
+pub fn read_line(piece: &mut Buffer, line: &mut Buffer, so_far: Input) -> Input
+    ensures { λ r. ⌜ Kept (now (line .entry)) (now (line .exit)) (r .len) ⌝ }
+    ensures { λ _. ⌜ length (now (piece .exit)) ≡ length (now (piece .entry)) ⌝ }
+{
     let mut input = so_far;
     input.len = 0;
     input.is_whole = false;

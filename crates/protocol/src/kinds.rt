@@ -1,12 +1,14 @@
 // Kinds of fields and of printed items, two hexadecimal digits each. The low one says what it is, the high one what stands
 // before it: 0 a space, 1 a colon, 2 a comma. The kinds of a line are one number, the first kind lowest.
+ghost use mathlib.Core.Path.{_≡_};
+ghost use Rattle.protocol.specs.Kinds.{separatorOf, refilledOf, restOf};
 
 // A byte string; of an answer its next part.
-pub const BYTES: u64 = 1;
+pub(crate) const BYTES: u64 = 1;
 
 pub const NUMBER: u64 = 2;
 
-pub const NUMBER_32: u64 = 3;
+pub(crate) const NUMBER_32: u64 = 3;
 
 // 4 is a number up to 255, and this the same, or `-` for none.
 pub const OPTIONAL_BYTE: u64 = 5;
@@ -15,7 +17,7 @@ pub const OPTIONAL_BYTE: u64 = 5;
 pub const NO_BYTE: u64 = 256;
 
 // Of answers alone: how many parts there are,
-pub const COUNT: u64 = 6;
+pub(crate) const COUNT: u64 = 6;
 
 // the part that a number names,
 pub const NAMED: u64 = 7;
@@ -24,13 +26,15 @@ pub const NAMED: u64 = 7;
 pub const REFUSED: u64 = 8;
 
 // and an item whose kind stands among the numbers, before it.
-pub const TOLD: u64 = 9;
+pub(crate) const TOLD: u64 = 9;
 
 // Put to a kind: a comma stands before it.
 pub const COMMA: u64 = 0x20;
 
 // What stands before an item of the first of these kinds.
-pub fn separator(kinds: u64) -> u8 {
+pub(crate) fn separator(kinds: u64) -> u8
+    ensures { λ r. ⌜ r ≡ separatorOf kinds ⌝ }
+{
     match kinds / 16 % 16 {
         1 => b':',
         2 => b',',
@@ -46,16 +50,22 @@ pub struct Format {
 
 impl Format {
     // With a kind at its head, if any may follow.
-    pub fn refilled(self) -> Format {
-        let mut format = self;
-        if format.kinds == 0 {
-            format.kinds = format.repeated;
+    pub(crate) fn refilled(self) -> Format
+        ensures { λ r. ⌜ r ≡ refilledOf self ⌝ }
+    {
+        if self.kinds == 0 {
+            return Format {
+                kinds: self.repeated,
+                repeated: self.repeated,
+            };
         }
-        format
+        self
     }
 
     // Behind the kind at its head.
-    pub fn rest(self) -> Format {
+    pub(crate) fn rest(self) -> Format
+        ensures { λ r. ⌜ r ≡ restOf self ⌝ }
+    {
         let mut format = self;
         format.kinds = format.kinds / 256;
         format

@@ -1,7 +1,8 @@
 // Memory that a request is lent: marked before the call, and looked at after it.
 ghost use mathlib.Core.Path.{_≡_};
 ghost use lib.ListN.{length, drop, replicate};
-ghost use Rattle.protocol.specs.Marked.{isMarked};
+ghost use Rattle.protocol.specs.Marked.{byteMark, endMark, numberMark, markedFor, isMarked, isClean};
+ghost use Rattle.protocol.specs.Room.{roomPrefix, sizeLent, lentBy, isThere, lentWithin};
 use crate::answer::Answer;
 use crate::fields::number;
 use crate::text::word_end;
@@ -30,7 +31,9 @@ pub struct Room {
     pub next: usize,
 }
 
-pub fn room_prefix(line: &[u8]) -> Room {
+pub fn room_prefix(line: &[u8]) -> Room
+    ensures { λ r. ⌜ r ≡ roomPrefix (now (line .entry)) ⌝ }
+{
     let end = word_end(line, 0, b' ');
     if word_key(&line[0..end]) != ROOM {
         return Room {
@@ -64,7 +67,9 @@ pub struct Lent {
 
 impl Room {
     // As the prefix says, or ample: all there is (1), or 512 (2). Or none (0).
-    fn size(self, kind: u64, given: u64, most: usize) -> usize {
+    fn size(self, kind: u64, given: u64, most: usize) -> usize
+        ensures { λ r. ⌜ r ≡ sizeLent self kind given most ⌝ }
+    {
         if kind == 0 {
             return 0;
         }
@@ -75,7 +80,9 @@ impl Room {
     }
 
     // A digit each for bytes, ends and numbers, then 1 for memory of its own.
-    pub fn lent(self, kinds: u64) -> Lent {
+    pub fn lent(self, kinds: u64) -> Lent
+        ensures { λ r. ⌜ r ≡ lentBy self kinds ⌝ }
+    {
         Lent {
             is_own: kinds / 0x1000 == 1,
             bytes: self.size(kinds % 16, self.bytes, BYTES_LENT),
@@ -86,12 +93,16 @@ impl Room {
 }
 
 impl Lent {
-    pub fn is_there(self) -> bool {
+    pub fn is_there(self) -> bool
+        ensures { λ r. ⌜ r ≡ isThere self ⌝ }
+    {
         (self.bytes <= BYTES_LENT) & (self.ends <= ENDS_LENT) & (self.numbers <= ENDS_LENT)
     }
 
     // How much of the program's memory, so large, a request may fill.
-    pub fn within(self, bytes: usize, ends: usize, numbers: usize) -> Lent {
+    pub fn within(self, bytes: usize, ends: usize, numbers: usize) -> Lent
+        ensures { λ r. ⌜ r ≡ lentWithin self bytes ends numbers ⌝ }
+    {
         if self.is_own {
             return Lent {
                 is_own: true,
@@ -104,8 +115,8 @@ impl Lent {
     }
 }
 
-pub fn mark(memory: &mut [u8])
-    ensures { λ _. ⌜ now (memory .exit) ≡ replicate (length (now (memory .entry))) 0xa5 ⌝ }
+fn mark(memory: &mut [u8])
+    ensures { λ _. ⌜ now (memory .exit) ≡ replicate (length (now (memory .entry))) byteMark ⌝ }
 {
     let mut i: usize = 0;
     while i < memory.len() {
@@ -114,7 +125,9 @@ pub fn mark(memory: &mut [u8])
     }
 }
 
-fn mark_ends(ends: &mut [u32]) {
+fn mark_ends(ends: &mut [u32])
+    ensures { λ _. ⌜ now (ends .exit) ≡ replicate (length (now (ends .entry))) endMark ⌝ }
+{
     let mut i: usize = 0;
     while i < ends.len() {
         ends[i] = END_MARK;
@@ -122,7 +135,9 @@ fn mark_ends(ends: &mut [u32]) {
     }
 }
 
-fn mark_numbers(numbers: &mut [u64]) {
+fn mark_numbers(numbers: &mut [u64])
+    ensures { λ _. ⌜ now (numbers .exit) ≡ replicate (length (now (numbers .entry))) numberMark ⌝ }
+{
     let mut i: usize = 0;
     while i < numbers.len() {
         numbers[i] = NUMBER_MARK;
@@ -131,7 +146,11 @@ fn mark_numbers(numbers: &mut [u64]) {
 }
 
 // Marks what is lent to a call.
-pub fn mark_lent(is_own: bool, memory: &mut [u8], ends: &mut [u32], numbers: &mut [u64]) {
+pub fn mark_lent(is_own: bool, memory: &mut [u8], ends: &mut [u32], numbers: &mut [u64])
+    ensures { λ _. ⌜ now (memory .exit) ≡ markedFor «is_own» byteMark (now (memory .entry)) ⌝ }
+    ensures { λ _. ⌜ now (ends .exit) ≡ markedFor «is_own» endMark (now (ends .entry)) ⌝ }
+    ensures { λ _. ⌜ now (numbers .exit) ≡ markedFor «is_own» numberMark (now (numbers .entry)) ⌝ }
+{
     if is_own {
         return;
     }
@@ -142,7 +161,7 @@ pub fn mark_lent(is_own: bool, memory: &mut [u8], ends: &mut [u32], numbers: &mu
 
 // Whether every byte from `from` on is as it was marked.
 pub fn is_marked(memory: &[u8], from: usize) -> bool
-    ensures { λ r. ⌜ r ≡ isMarked (drop from (now (memory .entry))) ⌝ }
+    ensures { λ r. ⌜ r ≡ isMarked byteMark (drop from (now (memory .entry))) ⌝ }
 {
     let mut i = from;
     while i < memory.len() {
@@ -154,7 +173,9 @@ pub fn is_marked(memory: &[u8], from: usize) -> bool
     true
 }
 
-pub fn are_ends_marked(ends: &[u32], from: usize) -> bool {
+pub fn are_ends_marked(ends: &[u32], from: usize) -> bool
+    ensures { λ r. ⌜ r ≡ isMarked endMark (drop from (now (ends .entry))) ⌝ }
+{
     let mut i = from;
     while i < ends.len() {
         if ends[i] != END_MARK {
@@ -165,7 +186,9 @@ pub fn are_ends_marked(ends: &[u32], from: usize) -> bool {
     true
 }
 
-fn are_numbers_marked(numbers: &[u64], from: usize) -> bool {
+fn are_numbers_marked(numbers: &[u64], from: usize) -> bool
+    ensures { λ r. ⌜ r ≡ isMarked numberMark (drop from (now (numbers .entry))) ⌝ }
+{
     let mut i = from;
     while i < numbers.len() {
         if numbers[i] != NUMBER_MARK {
@@ -177,13 +200,15 @@ fn are_numbers_marked(numbers: &[u64], from: usize) -> bool {
 }
 
 // Whether the call has left all memory as it was that its answer does not account for.
-pub fn is_clean(
+pub(crate) fn is_clean(
     is_own: bool,
     answer: Answer,
     memory: &[u8],
     ends: &[u32],
     numbers: &[u64],
-) -> bool {
+) -> bool
+    ensures { λ r. ⌜ r ≡ isClean «is_own» answer (now (memory .entry)) (now (ends .entry)) (now (numbers .entry)) ⌝ }
+{
     if is_own {
         return !answer.is_dirty;
     }

@@ -1,7 +1,11 @@
-// Answers as text, in a buffer that is written out whenever it is full. Each function takes the
-// place where its text goes and returns the place behind it.
-ghost use Prim.Native.Nat.{_≤_};
+// Answers as text, in a buffer that is written out whenever it is full. Each function takes the place where its text goes
+// and returns the place behind it. The contracts give the place and the buffer; what has reached standard output is the
+// world's, and no contract can speak of it.
+ghost use mathlib.Core.Path.{_≡_};
+ghost use Prim.Native.Nat.{_≤_, _<_};
 ghost use lib.ListN.{length};
+ghost use Rattle.protocol.specs.Text.{hexText};
+ghost use Rattle.protocol.specs.Typed.{typing, placeOf, typed, decimalText, bytesText};
 use crate::text::encode_hex;
 use bitio::numbers::least;
 
@@ -17,14 +21,24 @@ pub fn flush(out: &[u8], at: usize) {
     }
 }
 
-pub fn put_text(out: &mut Buffer, at: usize, text: &[u8]) -> usize {
+// Where the next character goes.
+fn place(out: &[u8], at: usize) -> usize
+    ensures { λ r. ⌜ (r ≡ placeOf at) × (r < 65536) ⌝ }
+{
+    if at >= SIZE {
+        flush(out, at);
+        return 0;
+    }
+    at
+}
+
+pub(crate) fn put_text(out: &mut Buffer, at: usize, text: &[u8]) -> usize
+    ensures { λ r. ⌜ typing r (now (out .exit)) ≡ typed (typing at (now (out .entry))) (now (text .entry)) ⌝ }
+{
     let mut to = at;
     let mut i: usize = 0;
     while i < text.len() {
-        if to >= SIZE {
-            flush(out, to);
-            to = 0;
-        }
+        to = place(out, to);
         out[to] = text[i];
         to += 1;
         i += 1;
@@ -32,7 +46,9 @@ pub fn put_text(out: &mut Buffer, at: usize, text: &[u8]) -> usize {
     to
 }
 
-pub fn put_number(out: &mut Buffer, at: usize, v: u64) -> usize {
+pub(crate) fn put_number(out: &mut Buffer, at: usize, v: u64) -> usize
+    ensures { λ r. ⌜ typing r (now (out .exit)) ≡ typed (typing at (now (out .entry))) (decimalText v) ⌝ }
+{
     let mut digits = [0u8; 20];
     let n = io::decimal(v, &mut digits);
     put_text(out, at, &digits[..n])
@@ -40,6 +56,7 @@ pub fn put_number(out: &mut Buffer, at: usize, v: u64) -> usize {
 
 fn put_hex_part(out: &mut Buffer, at: usize, s: &[u8]) -> usize
     requires { ⌜ length (now s) ≤ 64 ⌝ }
+    ensures { λ r. ⌜ typing r (now (out .exit)) ≡ typed (typing at (now (out .entry))) (hexText (now (s .entry))) ⌝ }
 {
     let mut digits = [0u8; 128];
     let n = encode_hex(s, &mut digits);
@@ -47,7 +64,9 @@ fn put_hex_part(out: &mut Buffer, at: usize, s: &[u8]) -> usize
 }
 
 // Bytes in hexadecimal, `-` for none.
-pub fn put_hex(out: &mut Buffer, at: usize, s: &[u8]) -> usize {
+pub(crate) fn put_hex(out: &mut Buffer, at: usize, s: &[u8]) -> usize
+    ensures { λ r. ⌜ typing r (now (out .exit)) ≡ typed (typing at (now (out .entry))) (bytesText (now (s .entry))) ⌝ }
+{
     if s.len() == 0 {
         return put_text(out, at, b"-");
     }

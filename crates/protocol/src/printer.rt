@@ -1,4 +1,8 @@
 // Answers as lines, by a format, from the memory that they account for.
+ghost use mathlib.Core.Path.{_≡_};
+ghost use Prim.Native.Nat.{_-_, _^_};
+ghost use Rattle.protocol.specs.Typed.{typing, typed};
+ghost use Rattle.protocol.specs.Printed.{left, partEnd, partStart, partText, valueText, itemText, isPrinted, openedOf, pastOf, itemsText, firstOf, formatOf, headText, answerText, badLine};
 use crate::answer::Answer;
 use crate::kinds::BYTES;
 use crate::kinds::COUNT;
@@ -17,11 +21,10 @@ use crate::output::Buffer;
 use crate::output::put_hex;
 use crate::output::put_number;
 use crate::output::put_text;
+use bitio::numbers::plus;
 
 // How far an answer has been printed.
 struct Printed {
-    // where its text goes on
-    at: usize,
     // the kind of the item that comes, and those that follow
     kind: u64,
     format: Format,
@@ -30,13 +33,11 @@ struct Printed {
     numbers: usize,
 }
 
-fn after(i: usize) -> usize {
-    if i < usize::MAX { i + 1 } else { i }
-}
-
 impl Printed {
     // Repeated kinds end where there is no more for the first of them.
-    fn is_all(self, answer: Answer) -> bool {
+    fn is_all(self, answer: Answer) -> bool
+        ensures { λ r. ⌜ r ≡ isPrinted answer self ⌝ }
+    {
         let format = self.format;
         if format.repeated % 16 == BYTES {
             return (format.kinds == 0) & (self.parts >= answer.ends);
@@ -46,42 +47,59 @@ impl Printed {
     }
 
     // At the next item.
-    fn opened(self, numbers: &[u64]) -> Printed {
+    fn opened(self, numbers: &[u64]) -> Printed
+        ensures { λ r. ⌜ r ≡ openedOf (now (numbers .entry)) self ⌝ }
+    {
         let format = self.format.refilled();
+        let rest = format.rest();
         let kind = format.kinds % 256;
-        let mut next = self;
-        next.format = format.rest();
-        next.kind = kind;
         if kind == TOLD {
-            next.kind = number_at(numbers, self.numbers);
-            next.numbers = after(self.numbers);
+            return Printed {
+                kind: number_at(numbers, self.numbers),
+                format: rest,
+                parts: self.parts,
+                numbers: plus(self.numbers, 1),
+            };
         }
-        next
+        Printed {
+            kind,
+            format: rest,
+            parts: self.parts,
+            numbers: self.numbers,
+        }
     }
 
     // Behind an item that took a part or a number.
-    fn past(self, at: usize) -> Printed {
-        let mut next = self;
-        next.at = at;
+    fn past(self) -> Printed
+        ensures { λ r. ⌜ r ≡ pastOf self ⌝ }
+    {
         let kind = self.kind % 16;
+        let mut next = self;
         if kind == BYTES {
-            next.parts = after(self.parts);
-        } else if kind != COUNT {
-            next.numbers = after(self.numbers);
+            next.parts = plus(self.parts, 1);
+            return next;
         }
+        if kind == COUNT {
+            return self;
+        }
+        next.numbers = plus(self.numbers, 1);
         next
     }
 }
 
 // Where part i of an answer ends: the last one with all its bytes.
-fn part_end(answer: Answer, ends: &[u32], i: usize) -> usize {
+fn part_end(answer: Answer, ends: &[u32], i: usize) -> usize
+    ensures { λ r. ⌜ r ≡ partEnd answer (now (ends .entry)) i ⌝ }
+{
     if i < answer.ends {
         return end_of(ends, i);
     }
     answer.bytes
 }
 
-fn part_start(answer: Answer, ends: &[u32], i: usize) -> usize {
+fn part_start(answer: Answer, ends: &[u32], i: usize) -> usize
+    ensures { λ r. ⌜ r ≡ partStart answer (now (ends .entry)) i ⌝ }
+{
     if i == 0 {
         return 0;
     }
@@ -95,17 +113,21 @@ fn put_part(
     i: usize,
     out: &mut Buffer,
     at: usize,
-) -> usize {
+) -> usize
+    ensures { λ r. ⌜ typing r (now (out .exit)) ≡ typed (typing at (now (out .entry))) (partText answer (now (memory .entry)) (now (ends .entry)) i) ⌝ }
+{
     let start = part_start(answer, ends, i);
     let end = part_end(answer, ends, i);
-    if start <= end && end <= memory.len() {
+    if (start <= end) & (end <= memory.len()) {
         return put_hex(out, at, &memory[start..end]);
     }
     put_text(out, at, b"dirty")
 }
 
-fn put_value(kind: u64, v: u64, out: &mut Buffer, at: usize) -> usize {
-    if kind == OPTIONAL_BYTE && v == NO_BYTE {
+fn put_value(kind: u64, v: u64, out: &mut Buffer, at: usize) -> usize
+    ensures { λ r. ⌜ typing r (now (out .exit)) ≡ typed (typing at (now (out .entry))) (valueText kind v) ⌝ }
+{
+    if (kind == OPTIONAL_BYTE) & (v == NO_BYTE) {
         return put_text(out, at, b"-");
     }
     if kind == REFUSED {
@@ -122,10 +144,13 @@ fn put_item(
     ends: &[u32],
     numbers: &[u64],
     out: &mut Buffer,
+    at: usize,
     item: Printed,
-) -> usize {
+) -> usize
+    ensures { λ r. ⌜ typing r (now (out .exit)) ≡ typed (typing at (now (out .entry))) (itemText (left answer (now (memory .entry)) (now (ends .entry)) (now (numbers .entry))) item) ⌝ }
+{
     let before = [separator(item.kind)];
-    let to = put_text(out, item.at, &before);
+    let to = put_text(out, at, &before);
     let v = number_at(numbers, item.numbers);
     let kind = item.kind % 16;
     match kind {
@@ -136,6 +161,7 @@ fn put_item(
     }
 }
 
+// All items. Nothing says that kinds which take nothing end, so the turns are counted down from a number that no run uses up.
 fn put_items(
     answer: Answer,
     format: Format,
@@ -144,26 +170,30 @@ fn put_items(
     numbers: &[u64],
     out: &mut Buffer,
     at: usize,
-) -> usize {
+) -> usize
+    ensures { λ r. ⌜ typing r (now (out .exit)) ≡ typed (typing at (now (out .entry))) (itemsText (2 ^ 64 - 1) (left answer (now (memory .entry)) (now (ends .entry)) (now (numbers .entry))) (firstOf format)) ⌝ }
+{
     let mut printed = Printed {
-        at,
         kind: 0,
         format,
         parts: 0,
         numbers: 0,
     };
+    let mut to = at;
     let mut turns = u64::MAX;
     while turns > 0 && !printed.is_all(answer) {
         let item = printed.opened(numbers);
-        let to = put_item(answer, memory, ends, numbers, out, item);
-        printed = item.past(to);
+        to = put_item(answer, memory, ends, numbers, out, to, item);
+        printed = item.past();
         turns -= 1;
     }
-    printed.at
+    to
 }
 
 // A refusal's line has its number, and what numbers come with it.
-fn format_of(answer: Answer, format: Format) -> Format {
+fn format_of(answer: Answer, format: Format) -> Format
+    ensures { λ r. ⌜ r ≡ formatOf answer format ⌝ }
+{
     if answer.refusal > 0 {
         return Format {
             kinds: 0,
@@ -173,7 +203,9 @@ fn format_of(answer: Answer, format: Format) -> Format {
     format
 }
 
-fn put_head(answer: Answer, out: &mut Buffer, at: usize) -> usize {
+fn put_head(answer: Answer, out: &mut Buffer, at: usize) -> usize
+    ensures { λ r. ⌜ typing r (now (out .exit)) ≡ typed (typing at (now (out .entry))) (headText answer) ⌝ }
+{
     if answer.refusal > 0 {
         return put_value(REFUSED, answer.refusal as u64, out, at);
     }
@@ -190,7 +222,9 @@ pub fn put_answer(
     numbers: &[u64],
     out: &mut Buffer,
     at: usize,
-) -> usize {
+) -> usize
+    ensures { λ r. ⌜ typing r (now (out .exit)) ≡ typed (typing at (now (out .entry))) (answerText (left answer (now (memory .entry)) (now (ends .entry)) (now (numbers .entry))) format «is_own») ⌝ }
+{
     let form = format_of(answer, format);
     let to = put_head(answer, out, at);
     let to = put_items(answer, form, memory, ends, numbers, out, to);
@@ -200,6 +234,8 @@ pub fn put_answer(
     put_text(out, to, b" dirty\n")
 }
 
-pub fn bad_line(out: &mut Buffer, at: usize) -> usize {
+pub fn bad_line(out: &mut Buffer, at: usize) -> usize
+    ensures { λ r. ⌜ typing r (now (out .exit)) ≡ typed (typing at (now (out .entry))) badLine ⌝ }
+{
     put_text(out, at, b"bad line\n")
 }

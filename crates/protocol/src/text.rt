@@ -7,14 +7,14 @@ ghost use Rattle.bitio.specs.Lent.{pasted};
 ghost use Rattle.protocol.specs.Text.{hexDigit, hexValue, allHex, hexText, hexBytes, byteString, readNumber, word, wordKey};
 ghost use Rattle.protocol.specs.Says.{decodedSays, decodedTo, decodedIn, decimalSays};
 
-pub enum Decimal {
+pub(crate) enum Decimal {
     Value(u64),
     // no number, or one past the largest u64
     Bad,
 }
 
 // What putting the bytes of a text into memory answers.
-pub enum Decoded {
+pub(crate) enum Decoded {
     // the place behind the bytes
     End(usize),
     // no byte string, or no room for its bytes
@@ -44,7 +44,7 @@ fn hex_value(c: u8) -> u8
 }
 
 // Writes two digits a byte, and returns how many.
-pub fn encode_hex(s: &[u8], out: &mut [u8]) -> usize
+pub(crate) fn encode_hex(s: &[u8], out: &mut [u8]) -> usize
     requires { ⌜ 2 * length (now s) ≤ length (now out) ⌝ }
     ensures { λ r. ⌜ r ≡ 2 * length (now (s .entry)) ⌝ }
     ensures { λ r. ⌜ now (out .exit) ≡ pasted (now (out .entry)) 0 (hexText (now (s .entry))) ⌝ }
@@ -87,7 +87,7 @@ fn decode_hex(text: &[u8], out: &mut [u8], at: usize)
 }
 
 // Writes the bytes of a byte string at `at`, or nothing if it is none or has no room there.
-pub fn decode(text: &[u8], out: &mut [u8], at: usize) -> Decoded
+pub(crate) fn decode(text: &[u8], out: &mut [u8], at: usize) -> Decoded
     ensures { λ r. ⌜ decodedSays r ≡ decodedTo (now (out .entry)) at (byteString (now (text .entry))) ⌝ }
     ensures { λ _. ⌜ now (out .exit) ≡ decodedIn (now (out .entry)) at (byteString (now (text .entry))) ⌝ }
 {
@@ -118,7 +118,7 @@ pub fn decode(text: &[u8], out: &mut [u8], at: usize) -> Decoded
     Decoded::End(at + n / 2)
 }
 
-pub fn read_decimal(text: &[u8]) -> Decimal
+pub(crate) fn read_decimal(text: &[u8]) -> Decimal
     ensures { λ r. ⌜ decimalSays r ≡ readNumber (now (text .entry)) ⌝ }
 {
     if text.len() == 0 {

@@ -1,4 +1,12 @@
 // The operations of the crate bitio.
+ghost use mathlib.Core.Path.{_≡_};
+ghost use Rattle.bitio.specs.Bits.{readBits};
+ghost use Rattle.bitio.specs.Uvlc.{readUvlc};
+ghost use Rattle.bitio.specs.Leb.{readLeb, lebAnswer, lebBytes};
+ghost use Rattle.bitio.specs.Lent.{placed, lent};
+ghost use Rattle.protocol.specs.Answers.{numbered};
+ghost use Rattle.protocol.specs.Told.{countTold, numbersBy};
+ghost use Rattle.replay_headers.specs.Headers.{readingAnswer, lebSays};
 use bitio::leb128::Leb;
 use bitio::leb128::Put;
 use bitio::leb128::leb128;
@@ -12,7 +20,9 @@ use protocol::answer::parts;
 use protocol::answer::refused;
 
 // bits DATA POS N
-pub fn bits(s: &[u8], pos: u64, n: u64, numbers: &mut [u64]) -> Answer {
+pub fn bits(s: &[u8], pos: u64, n: u64, numbers: &mut [u64]) -> Answer
+    ensures { λ r. ⌜ numbered r (now (numbers .exit)) ≡ numbersBy (λ l. l) (readingAnswer (readBits (now (s .entry)) pos n)) (now (numbers .entry)) ⌝ }
+{
     let reader = BitReader { pos: pos as usize };
     match reader.f(s, n as usize) {
         Bits::Value(v, next) => done().pair(v, next.pos as u64, numbers),
@@ -21,7 +31,9 @@ pub fn bits(s: &[u8], pos: u64, n: u64, numbers: &mut [u64]) -> Answer {
 }
 
 // uvlc DATA POS
-pub fn uvlc(s: &[u8], pos: u64, numbers: &mut [u64]) -> Answer {
+pub fn uvlc(s: &[u8], pos: u64, numbers: &mut [u64]) -> Answer
+    ensures { λ r. ⌜ numbered r (now (numbers .exit)) ≡ numbersBy (λ l. l) (readingAnswer (readUvlc (now (s .entry)) pos)) (now (numbers .entry)) ⌝ }
+{
     let reader = BitReader { pos: pos as usize };
     match reader.uvlc(s) {
         Uvlc::Value(v, next) => done().pair(v, next.pos as u64, numbers),
@@ -31,7 +43,9 @@ pub fn uvlc(s: &[u8], pos: u64, numbers: &mut [u64]) -> Answer {
 }
 
 // leb DATA
-pub fn leb(s: &[u8], numbers: &mut [u64]) -> Answer {
+pub fn leb(s: &[u8], numbers: &mut [u64]) -> Answer
+    ensures { λ r. ⌜ numbered r (now (numbers .exit)) ≡ numbersBy (λ l. l) (lebSays (lebAnswer (now (s .entry)) (readLeb (now (s .entry))))) (now (numbers .entry)) ⌝ }
+{
     match leb128(s) {
         Leb::Value(v, n) => done().pair(v, n as u64, numbers),
         Leb::Bad => refused(4),
@@ -39,7 +53,10 @@ pub fn leb(s: &[u8], numbers: &mut [u64]) -> Answer {
 }
 
 // lebput V
-pub fn lebput(v: u64, memory: &mut [u8]) -> Answer {
+pub fn lebput(v: u64, memory: &mut [u8]) -> Answer
+    ensures { λ r. ⌜ r ≡ countTold (placed (now (memory .entry)) 0 (lebBytes v)) ⌝ }
+    ensures { λ _. ⌜ now (memory .exit) ≡ lent (now (memory .entry)) 0 (lebBytes v) ⌝ }
+{
     match leb128_encode(memory, 0, v) {
         Put::Next(n) => parts(n, 0),
         Put::Full => refused(35),

@@ -1,4 +1,18 @@
 // The operations of the crate header.
+ghost use mathlib.Core.Path.{_≡_};
+ghost use Prim.Native.Nat.{_%_, _^_};
+ghost use Rattle.bitio.specs.Parse.{accepted, andNext};
+ghost use Rattle.bitio.specs.Limits.{limited};
+ghost use Rattle.header.specs.Sequence.{sequenceOf, sequenceSays};
+ghost use Rattle.header.specs.Support.{support as supportIn};
+ghost use Rattle.header.specs.Timed.{timed};
+ghost use Rattle.emit.specs.Emit.{emitPlaced, emitLent};
+ghost use Rattle.frame.specs.Frame.{parseFrameFrom};
+ghost use Rattle.frame.specs.declared.frame_header.FrameHeaderInfo.the-variants.{Frame};
+ghost use Rattle.protocol.specs.Answers.{partsOf, numbered, withNumbers};
+ghost use Rattle.protocol.specs.Told.{toldBy, countTold, numbersBy};
+ghost use Rattle.replay_headers.specs.Fields.{sequenceFields};
+ghost use Rattle.replay_headers.specs.Headers.{headerOf, supportOf, timedIf, emittedOf, emitAnswer, emitAfter, frameFields};
 use crate::sequence_fields::put_sequence;
 use emit::seq_header::emit::emit_sequence_header;
 use frame::frame_header::FrameAnswer;
@@ -19,7 +33,9 @@ use protocol::answer::parts;
 use protocol::answer::refused;
 
 // seq PAYLOAD
-pub fn seq(s: &[u8], numbers: &mut [u64]) -> Answer {
+pub fn seq(s: &[u8], numbers: &mut [u64]) -> Answer
+    ensures { λ r. ⌜ numbered r (now (numbers .exit)) ≡ numbersBy sequenceFields (headerOf (now (s .entry))) (now (numbers .entry)) ⌝ }
+{
     let read = parse_sequence_header(s);
     let answer = read.answer;
     let points = read.operating_points;
@@ -29,7 +45,9 @@ pub fn seq(s: &[u8], numbers: &mut [u64]) -> Answer {
     }
 }
 
-fn support_of(h: SequenceHeader) -> Answer {
+fn support_of(h: SequenceHeader) -> Answer
+    ensures { λ r. ⌜ r ≡ toldBy (λ _. partsOf 0 0) (supportIn h) ⌝ }
+{
     match check_supported(h) {
         Support::Supported => done(),
         Support::Refused(k) => refused(k),
@@ -37,7 +55,9 @@ fn support_of(h: SequenceHeader) -> Answer {
 }
 
 // support PAYLOAD
-pub fn support(s: &[u8]) -> Answer {
+pub fn support(s: &[u8]) -> Answer
+    ensures { λ r. ⌜ r ≡ toldBy (λ _. partsOf 0 0) (supportOf (now (s .entry))) ⌝ }
+{
     let read = parse_sequence_header(s);
     let answer = read.answer;
     match answer {
@@ -46,7 +66,10 @@ pub fn support(s: &[u8]) -> Answer {
     }
 }
 
-fn emit_into(h: SequenceHeader, points: [OperatingPoint; 32], memory: &mut [u8]) -> Answer {
+fn emit_into(h: SequenceHeader, points: [OperatingPoint; 32], memory: &mut [u8]) -> Answer
+    ensures { λ r. ⌜ r ≡ countTold (emitPlaced (now (memory .entry)) 0 (sequenceOf h points)) ⌝ }
+    ensures { λ _. ⌜ now (memory .exit) ≡ emitLent (now (memory .entry)) 0 (sequenceOf h points) ⌝ }
+{
     match emit_sequence_header(h, points, memory, 0) {
         Emitted::Next(n) => parts(n, 0),
         Emitted::Unreadable => refused(36),
@@ -55,7 +78,9 @@ fn emit_into(h: SequenceHeader, points: [OperatingPoint; 32], memory: &mut [u8])
 }
 
 // The header as it was read, or timed.
-fn retimed(answer: SequenceAnswer, is_timed: bool, num: u32, den: u32) -> SequenceAnswer {
+fn retimed(answer: SequenceAnswer, is_timed: bool, num: u32, den: u32) -> SequenceAnswer
+    ensures { λ r. ⌜ sequenceSays r ≡ andNext (sequenceSays answer) (timedIf «is_timed» num den) ⌝ }
+{
     if is_timed {
         if let SequenceAnswer::Header(h) = answer {
             return with_timing_info_rate(h, num, den);
@@ -65,7 +90,10 @@ fn retimed(answer: SequenceAnswer, is_timed: bool, num: u32, den: u32) -> Sequen
 }
 
 // emit PAYLOAD, timed PAYLOAD NUM DEN
-pub fn emit(s: &[u8], is_timed: bool, num: u64, den: u64, memory: &mut [u8]) -> Answer {
+pub fn emit(s: &[u8], is_timed: bool, num: u64, den: u64, memory: &mut [u8]) -> Answer
+    ensures { λ r. ⌜ r ≡ countTold (emitAnswer (now (memory .entry)) (emittedOf «is_timed» (num % 2 ^ 32) (den % 2 ^ 32) (now (s .entry)))) ⌝ }
+    ensures { λ _. ⌜ now (memory .exit) ≡ emitAfter (emittedOf «is_timed» (num % 2 ^ 32) (den % 2 ^ 32) (now (s .entry))) (now (memory .entry)) ⌝ }
+{
     let read = parse_sequence_header(s);
     let points = read.operating_points;
     let answer = read.answer;
@@ -77,7 +105,9 @@ pub fn emit(s: &[u8], is_timed: bool, num: u64, den: u64, memory: &mut [u8]) -> 
     }
 }
 
-fn frame_info(x: FrameInfo, numbers: &mut [u64]) -> Answer {
+fn frame_info(x: FrameInfo, numbers: &mut [u64]) -> Answer
+    ensures { λ r. ⌜ numbered r (now (numbers .exit)) ≡ withNumbers (numbered (partsOf 0 0) (now (numbers .entry))) (frameFields (Frame x)) ⌝ }
+{
     let fields = [
         0,
         x.frame_type,
@@ -89,7 +119,9 @@ fn frame_info(x: FrameInfo, numbers: &mut [u64]) -> Answer {
     done().list(&fields, numbers)
 }
 
-fn header_info(x: FrameHeaderInfo, numbers: &mut [u64]) -> Answer {
+fn header_info(x: FrameHeaderInfo, numbers: &mut [u64]) -> Answer
+    ensures { λ r. ⌜ numbered r (now (numbers .exit)) ≡ withNumbers (numbered (partsOf 0 0) (now (numbers .entry))) (frameFields x) ⌝ }
+{
     match x {
         FrameHeaderInfo::Existing(slot) => done().pair(1, slot, numbers),
         FrameHeaderInfo::Frame(f) => frame_info(f, numbers),
@@ -97,7 +129,9 @@ fn header_info(x: FrameHeaderInfo, numbers: &mut [u64]) -> Answer {
 }
 
 // frame SEQPAYLOAD FRAMEPAYLOAD
-pub fn frame(sequence: &[u8], payload: &[u8], numbers: &mut [u64]) -> Answer {
+pub fn frame(sequence: &[u8], payload: &[u8], numbers: &mut [u64]) -> Answer
+    ensures { λ r. ⌜ numbered r (now (numbers .exit)) ≡ numbersBy frameFields (limited (now (payload .entry)) (limited (now (sequence .entry)) (parseFrameFrom (now (sequence .entry)) (now (payload .entry))))) (now (numbers .entry)) ⌝ }
+{
     match parse_frame_header_info(payload, sequence) {
         FrameAnswer::Header(x) => header_info(x, numbers),
         FrameAnswer::Refused(k) => refused(k),

@@ -2,4 +2,4 @@
 pub mod bitio_ops;
 pub mod header_ops;
 pub mod obu_ops;
-pub mod sequence_fields;
+mod sequence_fields;

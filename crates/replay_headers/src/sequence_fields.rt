@@ -1,5 +1,10 @@
 // A sequence header's fields, in the protocol's order.
-ghost use Prim.Native.Nat.{_≤_};
+ghost use mathlib.Core.Path.{_≡_};
+ghost use Prim.Native.Nat.{_+_, min};
+ghost use lib.ListN.{take};
+ghost use Rattle.header.specs.Sequence.{sequenceOf};
+ghost use Rattle.protocol.specs.Answers.{partsOf, numbered, withNumbers};
+ghost use Rattle.replay_headers.specs.Fields.{timingFields, modelFields, openingFields, sizeFields, idFields, toolFields, hintBits, screenFields, filterFields, colorFields, rangeField, samplingFields, frameToolFields, codingFields, pointFields, pointsFields, sequenceFields};
 use header::seq_header::Coding;
 use header::seq_header::ColorDescription;
 use header::seq_header::ColorSampling;
@@ -16,7 +21,9 @@ use header::seq_header::Tools;
 use protocol::answer::Answer;
 use protocol::answer::done;
 
-fn put_timing(x: TimingInfo, so_far: Answer, numbers: &mut [u64]) -> Answer {
+fn put_timing(x: TimingInfo, so_far: Answer, numbers: &mut [u64]) -> Answer
+    ensures { λ r. ⌜ numbered r (now (numbers .exit)) ≡ withNumbers (numbered «so_far» (now (numbers .entry))) (timingFields x) ⌝ }
+{
     let fields = [
         x.timing_info_present as u64,
         x.num_units_in_display_tick,
@@ -27,7 +34,9 @@ fn put_timing(x: TimingInfo, so_far: Answer, numbers: &mut [u64]) -> Answer {
     so_far.list(&fields, numbers)
 }
 
-fn put_model(x: DecoderModelInfo, so_far: Answer, numbers: &mut [u64]) -> Answer {
+fn put_model(x: DecoderModelInfo, so_far: Answer, numbers: &mut [u64]) -> Answer
+    ensures { λ r. ⌜ numbered r (now (numbers .exit)) ≡ withNumbers (numbered «so_far» (now (numbers .entry))) (modelFields x) ⌝ }
+{
     let fields = [
         x.decoder_model_info_present as u64,
         x.buffer_delay_length_minus_1,
@@ -38,7 +47,9 @@ fn put_model(x: DecoderModelInfo, so_far: Answer, numbers: &mut [u64]) -> Answer
     so_far.list(&fields, numbers)
 }
 
-fn put_opening(x: Opening, so_far: Answer, numbers: &mut [u64]) -> Answer {
+fn put_opening(x: Opening, so_far: Answer, numbers: &mut [u64]) -> Answer
+    ensures { λ r. ⌜ numbered r (now (numbers .exit)) ≡ withNumbers (numbered «so_far» (now (numbers .entry))) (openingFields x) ⌝ }
+{
     let timing = x.timing;
     let model = x.model;
     let flags = [
@@ -52,7 +63,9 @@ fn put_opening(x: Opening, so_far: Answer, numbers: &mut [u64]) -> Answer {
     answer.number(x.initial_display_delay_present as u64, numbers)
 }
 
-fn put_size(x: FrameSize, so_far: Answer, numbers: &mut [u64]) -> Answer {
+fn put_size(x: FrameSize, so_far: Answer, numbers: &mut [u64]) -> Answer
+    ensures { λ r. ⌜ numbered r (now (numbers .exit)) ≡ withNumbers (numbered «so_far» (now (numbers .entry))) (sizeFields x) ⌝ }
+{
     let fields = [
         x.frame_width_bits_minus_1,
         x.frame_height_bits_minus_1,
@@ -62,7 +75,9 @@ fn put_size(x: FrameSize, so_far: Answer, numbers: &mut [u64]) -> Answer {
     so_far.list(&fields, numbers)
 }
 
-fn put_ids(x: FrameIds, so_far: Answer, numbers: &mut [u64]) -> Answer {
+fn put_ids(x: FrameIds, so_far: Answer, numbers: &mut [u64]) -> Answer
+    ensures { λ r. ⌜ numbered r (now (numbers .exit)) ≡ withNumbers (numbered «so_far» (now (numbers .entry))) (idFields x) ⌝ }
+{
     let fields = [
         x.frame_id_numbers_present as u64,
         x.delta_frame_id_length_minus_2,
@@ -71,7 +86,9 @@ fn put_ids(x: FrameIds, so_far: Answer, numbers: &mut [u64]) -> Answer {
     so_far.list(&fields, numbers)
 }
 
-fn put_tools(x: Tools, so_far: Answer, numbers: &mut [u64]) -> Answer {
+fn put_tools(x: Tools, so_far: Answer, numbers: &mut [u64]) -> Answer
+    ensures { λ r. ⌜ numbered r (now (numbers .exit)) ≡ withNumbers (numbered «so_far» (now (numbers .entry))) (toolFields x) ⌝ }
+{
     let fields = [
         x.use_128x128_superblock as u64,
         x.enable_filter_intra as u64,
@@ -88,7 +105,9 @@ fn put_tools(x: Tools, so_far: Answer, numbers: &mut [u64]) -> Answer {
 }
 
 // order_hint_bits is 0 without an order hint.
-fn hint_bits(x: ScreenTools, has_hint: bool) -> u64 {
+fn hint_bits(x: ScreenTools, has_hint: bool) -> u64
+    ensures { λ r. ⌜ r ≡ hintBits x «has_hint» ⌝ }
+{
     if has_hint {
         x.order_hint_bits_minus_1 % 8 + 1
     } else {
@@ -96,7 +115,9 @@ fn hint_bits(x: ScreenTools, has_hint: bool) -> u64 {
     }
 }
 
-fn put_screen(x: ScreenTools, has_hint: bool, so_far: Answer, numbers: &mut [u64]) -> Answer {
+fn put_screen(x: ScreenTools, has_hint: bool, so_far: Answer, numbers: &mut [u64]) -> Answer
+    ensures { λ r. ⌜ numbered r (now (numbers .exit)) ≡ withNumbers (numbered «so_far» (now (numbers .entry))) (screenFields x «has_hint») ⌝ }
+{
     let fields = [
         x.seq_choose_screen_content_tools as u64,
         x.seq_force_screen_content_tools,
@@ -107,7 +128,9 @@ fn put_screen(x: ScreenTools, has_hint: bool, so_far: Answer, numbers: &mut [u64
     so_far.list(&fields, numbers)
 }
 
-fn put_filters(x: Filters, so_far: Answer, numbers: &mut [u64]) -> Answer {
+fn put_filters(x: Filters, so_far: Answer, numbers: &mut [u64]) -> Answer
+    ensures { λ r. ⌜ numbered r (now (numbers .exit)) ≡ withNumbers (numbered «so_far» (now (numbers .entry))) (filterFields x) ⌝ }
+{
     let fields = [
         x.enable_superres as u64,
         x.enable_cdef as u64,
@@ -116,7 +139,9 @@ fn put_filters(x: Filters, so_far: Answer, numbers: &mut [u64]) -> Answer {
     so_far.list(&fields, numbers)
 }
 
-fn put_color(x: ColorDescription, so_far: Answer, numbers: &mut [u64]) -> Answer {
+fn put_color(x: ColorDescription, so_far: Answer, numbers: &mut [u64]) -> Answer
+    ensures { λ r. ⌜ numbered r (now (numbers .exit)) ≡ withNumbers (numbered «so_far» (now (numbers .entry))) (colorFields x) ⌝ }
+{
     let fields = [
         x.high_bitdepth as u64,
         x.twelve_bit as u64,
@@ -130,7 +155,9 @@ fn put_color(x: ColorDescription, so_far: Answer, numbers: &mut [u64]) -> Answer
 }
 
 // sRGB implies its color_range: the Rust keeps none, 2 in the protocol.
-fn range_of(x: ColorDescription, range: bool) -> u64 {
+fn range_of(x: ColorDescription, range: bool) -> u64
+    ensures { λ r. ⌜ r ≡ rangeField x range ⌝ }
+{
     let srgb = (x.color_primaries == 1)
         & (x.transfer_characteristics == 13)
         & (x.matrix_coefficients == 0);
@@ -147,7 +174,9 @@ fn put_sampling(
     grain: bool,
     so_far: Answer,
     numbers: &mut [u64],
-) -> Answer {
+) -> Answer
+    ensures { λ r. ⌜ numbered r (now (numbers .exit)) ≡ withNumbers (numbered «so_far» (now (numbers .entry))) (samplingFields x range grain) ⌝ }
+{
     let fields = [
         range,
         x.subsample_x as u64,
@@ -159,7 +188,9 @@ fn put_sampling(
     so_far.list(&fields, numbers)
 }
 
-fn put_frame_tools(x: Coding, so_far: Answer, numbers: &mut [u64]) -> Answer {
+fn put_frame_tools(x: Coding, so_far: Answer, numbers: &mut [u64]) -> Answer
+    ensures { λ r. ⌜ numbered r (now (numbers .exit)) ≡ withNumbers (numbered «so_far» (now (numbers .entry))) (frameToolFields x) ⌝ }
+{
     let size = x.size;
     let ids = x.ids;
     let tools = x.tools;
@@ -172,7 +203,9 @@ fn put_frame_tools(x: Coding, so_far: Answer, numbers: &mut [u64]) -> Answer {
     put_filters(filters, answer, numbers)
 }
 
-fn put_coding(x: Coding, so_far: Answer, numbers: &mut [u64]) -> Answer {
+fn put_coding(x: Coding, so_far: Answer, numbers: &mut [u64]) -> Answer
+    ensures { λ r. ⌜ numbered r (now (numbers .exit)) ≡ withNumbers (numbered «so_far» (now (numbers .entry))) (codingFields x) ⌝ }
+{
     let color = x.color;
     let sampling = x.sampling;
     let range = range_of(color, sampling.color_range);
@@ -187,7 +220,9 @@ fn put_coding(x: Coding, so_far: Answer, numbers: &mut [u64]) -> Answer {
     )
 }
 
-fn put_point(x: OperatingPoint, so_far: Answer, numbers: &mut [u64]) -> Answer {
+fn put_point(x: OperatingPoint, so_far: Answer, numbers: &mut [u64]) -> Answer
+    ensures { λ r. ⌜ numbered r (now (numbers .exit)) ≡ withNumbers (numbered «so_far» (now (numbers .entry))) (pointFields x) ⌝ }
+{
     let fields = [
         x.idc,
         x.seq_level_idx,
@@ -204,7 +239,7 @@ fn put_point(x: OperatingPoint, so_far: Answer, numbers: &mut [u64]) -> Answer {
 
 // How many of the array's 32 are operating points.
 fn points_in(more: u64) -> usize
-    ensures { λ r. ⌜ r ≤ 32 ⌝ }
+    ensures { λ r. ⌜ r ≡ min (more + 1) 32 ⌝ }
 {
     if more < 32 { more as usize + 1 } else { 32 }
 }
@@ -214,7 +249,9 @@ fn put_points(
     more: u64,
     so_far: Answer,
     numbers: &mut [u64],
-) -> Answer {
+) -> Answer
+    ensures { λ r. ⌜ numbered r (now (numbers .exit)) ≡ withNumbers (numbered «so_far» (now (numbers .entry))) (pointsFields (take (more + 1) points)) ⌝ }
+{
     let mut answer = so_far;
     let mut i: usize = 0;
     let count = points_in(more);
@@ -227,11 +264,13 @@ fn put_points(
 }
 
 // All fields of a header, and its operating points.
-pub fn put_sequence(
+pub(crate) fn put_sequence(
     h: SequenceHeader,
     points: [OperatingPoint; 32],
     numbers: &mut [u64],
-) -> Answer {
+) -> Answer
+    ensures { λ r. ⌜ numbered r (now (numbers .exit)) ≡ withNumbers (numbered (partsOf 0 0) (now (numbers .entry))) (sequenceFields (sequenceOf h points)) ⌝ }
+{
     let opening = h.opening;
     let coding = h.coding;
     let answer = put_opening(opening, done(), numbers);

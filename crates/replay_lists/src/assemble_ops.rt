@@ -1,4 +1,12 @@
 // The operation of the crate assemble.
+ghost use mathlib.Core.Path.{_≡_};
+ghost use lib.ListN.{replicate};
+ghost use Rattle.bitio.specs.Lent.{pasted};
+ghost use Rattle.blocks.specs.Numbers.{segmentCount};
+ghost use Rattle.assemble.specs.Whole.{outcome};
+ghost use Rattle.protocol.specs.Marked.{byteMark, endMark};
+ghost use Rattle.protocol.specs.Told.{told};
+ghost use Rattle.replay_lists.specs.Lists.{settingsOf, segmentRecords, slicesOf, slicesLent, outcomeTold, assembleTold};
 use crate::assembled::put_assembled;
 use assemble::multi::assemble_multi;
 use bitio::numbers::least;
@@ -23,7 +31,9 @@ const NUMBERS: usize = WIDTH * SEGMENTS;
 const SHOWS: usize = 5 * SEGMENTS;
 
 // The first three of a request's numbers; behind them are the frames of each segment.
-fn settings_of(numbers: &[u64]) -> Settings {
+fn settings_of(numbers: &[u64]) -> Settings
+    ensures { λ r. ⌜ r ≡ settingsOf (now (numbers .entry)) ⌝ }
+{
     Settings {
         gop: number_at(numbers, 0),
         fps: (number_at(numbers, 1) % 0x1_0000_0000) as u32,
@@ -32,7 +42,9 @@ fn settings_of(numbers: &[u64]) -> Settings {
 }
 
 // The record of each segment, whose units lie one behind the other.
-fn put_segments(ends: &[u32], numbers: &[u64], segments: &mut [u64]) {
+fn put_segments(ends: &[u32], numbers: &[u64], segments: &mut [u64])
+    ensures { λ _. ⌜ now (segments .exit) ≡ pasted (now (segments .entry)) 0 (segmentRecords (now (ends .entry)) (now (numbers .entry)) 0 (segmentCount (now (segments .entry)))) ⌝ }
+{
     let count = segment_count(segments);
     let mut i: usize = 0;
     while i < count {
@@ -61,7 +73,9 @@ fn assemble_into(
     memory: &mut [u8],
     out_ends: &mut [u32],
     numbers: &mut [u64],
-) -> Answer {
+) -> Answer
+    ensures { λ r. ⌜ told r (now (memory .exit)) (now («out_ends» .exit)) (now (numbers .exit)) ≡ outcomeTold (outcome (now (s .entry)) (now (segments .entry)) settings (slicesOf (now (list .entry)) (now (cues .entry)) (now (pictures .entry)) (replicate 32768 endMark) (replicate 54615 byteMark) (replicate 32768 byteMark))) (slicesOf (now (list .entry)) (now (cues .entry)) (now (pictures .entry)) (replicate 32768 endMark) (replicate 54615 byteMark) (replicate 32768 byteMark)) (now (memory .entry)) (now («out_ends» .entry)) (now (numbers .entry)) ⌝ }
+{
     let mut ends = [END_MARK; ENDS_LENT];
     let mut shows = [0xa5u8; SHOWS];
     let mut header = [0xa5u8; ENDS_LENT];
@@ -99,7 +113,9 @@ fn assemble_lent(
     memory: &mut [u8],
     out_ends: &mut [u32],
     numbers: &mut [u64],
-) -> Answer {
+) -> Answer
+    ensures { λ r. ⌜ told r (now (memory .exit)) (now («out_ends» .exit)) (now (numbers .exit)) ≡ outcomeTold (outcome (now (s .entry)) (now (segments .entry)) settings (slicesLent lent)) (slicesLent lent) (now (memory .entry)) (now («out_ends» .entry)) (now (numbers .entry)) ⌝ }
+{
     let mut list = [END_MARK; ENDS_LENT];
     let mut cues = [END_MARK; ENDS_LENT];
     let mut pictures = [0xa5u8; BYTES_LENT];
@@ -129,7 +145,9 @@ fn assemble_with(
     memory: &mut [u8],
     out_ends: &mut [u32],
     numbers: &mut [u64],
-) -> Answer {
+) -> Answer
+    ensures { λ r. ⌜ told r (now (memory .exit)) (now («out_ends» .exit)) (now (numbers .exit)) ≡ outcomeTold (outcome (now (s .entry)) (pasted (now (segments .entry)) 0 (segmentRecords (now (ends .entry)) (now (fields .entry)) 0 (segmentCount (now (segments .entry))))) (settingsOf (now (fields .entry))) (slicesLent lent)) (slicesLent lent) (now (memory .entry)) (now («out_ends» .entry)) (now (numbers .entry)) ⌝ }
+{
     put_segments(ends, fields, segments);
     let settings = settings_of(fields);
     assemble_lent(settings, lent, s, segments, memory, out_ends, numbers)
@@ -144,7 +162,9 @@ pub fn assemble(
     memory: &mut [u8],
     out_ends: &mut [u32],
     numbers: &mut [u64],
-) -> Answer {
+) -> Answer
+    ensures { λ r. ⌜ told r (now (memory .exit)) (now («out_ends» .exit)) (now (numbers .exit)) ≡ assembleTold lent (now (s .entry)) (now (ends .entry)) (now (fields .entry)) (now (memory .entry)) (now («out_ends» .entry)) (now (numbers .entry)) ⌝ }
+{
     let mut segments = [0u64; NUMBERS];
     let len = WIDTH * least(ends.len() / 2, SEGMENTS);
     assemble_with(

@@ -1,5 +1,11 @@
 // What assembly answers, put into the memory from which it is printed.
-ghost use Prim.Native.Nat.{_≤_};
+ghost use mathlib.Core.Path.{_≡_};
+ghost use lib.ListN.{take};
+ghost use Rattle.pictures.specs.Assemble.{made};
+ghost use Rattle.assemble.specs.Whole.{assembledSays};
+ghost use Rattle.protocol.specs.Answers.{partsOf, parted, withParts, numbered, withNumbers};
+ghost use Rattle.protocol.specs.Told.{told};
+ghost use Rattle.replay_lists.specs.Lists.{entriesOf, entryUnits, kindFields, numbersMade, slicesOf, slicesMarked, accountedFor, assembledTold, handedTold};
 use assemble::multi::Assembled;
 use assemble::multi::Counts;
 use assemble::unit::unit;
@@ -13,10 +19,11 @@ use protocol::kinds::NUMBER;
 use protocol::lent::are_ends_marked;
 use protocol::lent::is_marked;
 use protocol::memory::range;
-use protocol::memory::wide;
 
 // How much of each lent slice the answer accounts for.
-fn accounted(answer: Assembled) -> Counts {
+fn accounted(answer: Assembled) -> Counts
+    ensures { λ r. ⌜ r ≡ accountedFor (assembledSays answer) ⌝ }
+{
     let nothing = Counts {
         units: 0,
         cues: 0,
@@ -42,7 +49,9 @@ fn are_marked(
     ends: &[u32],
     shows: &[u8],
     header: &[u8],
-) -> bool {
+) -> bool
+    ensures { λ r. ⌜ r ≡ slicesMarked counts (slicesOf (now (list .entry)) (now (cues .entry)) (now (pictures .entry)) (now (ends .entry)) (now (shows .entry)) (now (header .entry))) ⌝ }
+{
     are_ends_marked(list, counts.units)
         & are_ends_marked(cues, counts.cues)
         & are_ends_marked(ends, counts.ends)
@@ -53,23 +62,24 @@ fn are_marked(
 
 // How many entries name a unit, or could.
 fn entries(counts: Counts) -> u32
-    ensures { λ r. ⌜ r ≤ 0x20000 ⌝ }
+    ensures { λ r. ⌜ r ≡ entriesOf counts ⌝ }
 {
     (2 * least(counts.ends, 0x1_0000)) as u32
 }
 
-// The unit of each entry that there could be is the part of that number, and the header is the part behind them.
-fn put_parts<'a>(
-    counts: Counts,
+// The unit of each of the first n entries is the part of that number.
+fn put_units<'a>(
+    n: u32,
     pictures: &'a [u8],
     ends: &[u32],
     shows: &'a [u8],
     memory: &mut [u8],
     out_ends: &mut [u32],
-) -> Answer {
+) -> Answer
+    ensures { λ r. ⌜ parted r (now (memory .exit)) (now («out_ends» .exit)) ≡ withParts (parted (partsOf 0 0) (now (memory .entry)) (now («out_ends» .entry))) (entryUnits (now (pictures .entry)) (now (ends .entry)) (now (shows .entry)) 0 n) ⌝ }
+{
     let mut answer = done();
     let mut entry: u32 = 0;
-    let n = entries(counts);
     while entry < n {
         answer = answer.part(unit(pictures, shows, ends, entry), memory, out_ends);
         entry += 1;
@@ -85,48 +95,91 @@ fn put_told(
     count: usize,
     so_far: Answer,
     numbers: &mut [u64],
-) -> Answer {
+) -> Answer
+    ensures { λ r. ⌜ numbered r (now (numbers .exit)) ≡ withNumbers (numbered «so_far» (now (numbers .entry))) (kindFields first others (take count (now (list .entry)))) ⌝ }
+{
     let mut answer = so_far;
     let mut kind = first;
     let mut i: usize = 0;
     let n = least(count, list.len());
     while i < n {
-        answer = answer.pair(kind, wide(list[i]), numbers);
+        answer = answer.pair(kind, list[i] as u64, numbers);
         kind = others;
         i += 1;
     }
     answer
 }
 
-fn put_made(
+// The numbers over the parts.
+fn put_numbers(
     counts: Counts,
     list: &[u32],
     cues: &[u32],
     parts: Answer,
     numbers: &mut [u64],
-) -> Answer {
+) -> Answer
+    ensures { λ r. ⌜ numbered r (now (numbers .exit)) ≡ withNumbers (numbered parts (now (numbers .entry))) (numbersMade counts (now (list .entry)) (now (cues .entry))) ⌝ }
+{
     let answer = parts.pair(counts.units as u64, counts.golden_slot, numbers);
     let answer = answer.number(entries(counts) as u64, numbers);
     let answer = put_told(NUMBER, COMMA + NUMBER, cues, counts.cues, answer, numbers);
     put_told(NAMED, NAMED, list, counts.units, answer, numbers)
 }
 
-// The answer over the parts that its units and its header are.
-fn put_numbers(
+// The units and the header as parts, and the numbers.
+fn put_made<'a>(
+    counts: Counts,
+    list: &[u32],
+    cues: &[u32],
+    pictures: &'a [u8],
+    ends: &[u32],
+    shows: &'a [u8],
+    header: &[u8],
+    memory: &mut [u8],
+    out_ends: &mut [u32],
+    numbers: &mut [u64],
+) -> Answer
+    ensures { λ r. ⌜ told r (now (memory .exit)) (now («out_ends» .exit)) (now (numbers .exit)) ≡ assembledTold (made counts) (slicesOf (now (list .entry)) (now (cues .entry)) (now (pictures .entry)) (now (ends .entry)) (now (shows .entry)) (now (header .entry))) (now (memory .entry)) (now («out_ends» .entry)) (now (numbers .entry)) ⌝ }
+{
+    let units = put_units(entries(counts), pictures, ends, shows, memory, out_ends);
+    let parts = units.part(range(header, 0, counts.header), memory, out_ends);
+    put_numbers(counts, list, cues, parts, numbers)
+}
+
+// From what the call left in the lent slices.
+fn put_answer<'a>(
     answer: Assembled,
     list: &[u32],
     cues: &[u32],
-    parts: Answer,
+    pictures: &'a [u8],
+    ends: &[u32],
+    shows: &'a [u8],
+    header: &[u8],
+    memory: &mut [u8],
+    out_ends: &mut [u32],
     numbers: &mut [u64],
-) -> Answer {
+) -> Answer
+    ensures { λ r. ⌜ told r (now (memory .exit)) (now («out_ends» .exit)) (now (numbers .exit)) ≡ assembledTold (assembledSays answer) (slicesOf (now (list .entry)) (now (cues .entry)) (now (pictures .entry)) (now (ends .entry)) (now (shows .entry)) (now (header .entry))) (now (memory .entry)) (now («out_ends» .entry)) (now (numbers .entry)) ⌝ }
+{
     match answer {
-        Assembled::Made(counts) => put_made(counts, list, cues, parts, numbers),
+        Assembled::Made(counts) => put_made(
+            counts,
+            list,
+            cues,
+            pictures,
+            ends,
+            shows,
+            header,
+            memory,
+            out_ends,
+            numbers,
+        ),
         Assembled::Refused(k) => refused(k),
         Assembled::RefusedIn(k, i) => refused(k).number(i as u64, numbers),
     }
 }
 
-// From what the call left in the lent slices.
+// The same, dirty where the call has changed what its answer does not account for.
 pub(crate) fn put_assembled<'a>(
     answer: Assembled,
     list: &[u32],
@@ -138,11 +191,23 @@ pub(crate) fn put_assembled<'a>(
     memory: &mut [u8],
     out_ends: &mut [u32],
     numbers: &mut [u64],
-) -> Answer {
+) -> Answer
+    ensures { λ r. ⌜ told r (now (memory .exit)) (now («out_ends» .exit)) (now (numbers .exit)) ≡ handedTold (assembledSays answer) (slicesOf (now (list .entry)) (now (cues .entry)) (now (pictures .entry)) (now (ends .entry)) (now (shows .entry)) (now (header .entry))) (now (memory .entry)) (now («out_ends» .entry)) (now (numbers .entry)) ⌝ }
+{
     let counts = accounted(answer);
-    let units = put_parts(counts, pictures, ends, shows, memory, out_ends);
-    let parts = units.part(range(header, 0, counts.header), memory, out_ends);
-    let mut told = put_numbers(answer, list, cues, parts, numbers);
-    told.is_dirty = !are_marked(counts, list, cues, pictures, ends, shows, header);
+    let is_clean = are_marked(counts, list, cues, pictures, ends, shows, header);
+    let mut told = put_answer(
+        answer,
+        list,
+        cues,
+        pictures,
+        ends,
+        shows,
+        header,
+        memory,
+        out_ends,
+        numbers,
+    );
+    told.is_dirty = !is_clean;
     told
 }

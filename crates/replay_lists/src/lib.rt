@@ -1,4 +1,4 @@
 // The requests on lists: assembly and play.
 pub mod assemble_ops;
-pub mod assembled;
+mod assembled;
 pub mod play_ops;

@@ -1,4 +1,8 @@
 // The operation of the crate player.
+ghost use mathlib.Core.Path.{_≡_};
+ghost use Rattle.player.specs.Code.{playedBy};
+ghost use Rattle.protocol.specs.Answers.{partsOf, numbered, withNumbers};
+ghost use Rattle.replay_lists.specs.Plays.{shownFields, playFields, playsOf};
 use player::play::played;
 use player::slots::Answer as Shown;
 use player::start::start_state;
@@ -12,7 +16,9 @@ use protocol::kinds::REFUSED;
 use protocol::memory::part;
 
 // What was shown, with its kind told.
-fn put_shown(shown: Shown, so_far: Answer, numbers: &mut [u64]) -> Answer {
+fn put_shown(shown: Shown, so_far: Answer, numbers: &mut [u64]) -> Answer
+    ensures { λ r. ⌜ numbered r (now (numbers .exit)) ≡ withNumbers (numbered «so_far» (now (numbers .entry))) (shownFields shown) ⌝ }
+{
     match shown {
         Shown::Shown(position) => so_far.pair(NUMBER, position, numbers),
         Shown::Nothing => so_far.pair(OPTIONAL_BYTE, NO_BYTE, numbers),
@@ -26,7 +32,9 @@ struct Turn {
     answer: Answer,
 }
 
-fn play_one(position: u64, unit: &[u8], turn: Turn, numbers: &mut [u64]) -> Turn {
+fn play_one(position: u64, unit: &[u8], turn: Turn, numbers: &mut [u64]) -> Turn
+    ensures { λ r. ⌜ (r .state ≡ playedBy (turn .state) position (now (unit .entry)) .state) × (numbered (r .answer) (now (numbers .exit)) ≡ withNumbers (numbered (turn .answer) (now (numbers .entry))) (shownFields (playedBy (turn .state) position (now (unit .entry)) .answer))) ⌝ }
+{
     let played = played(turn.state, position, unit);
     let state = played.state;
     let shown = played.answer;
@@ -36,7 +44,9 @@ fn play_one(position: u64, unit: &[u8], turn: Turn, numbers: &mut [u64]) -> Turn
     }
 }
 
-fn play_all(s: &[u8], ends: &[u32], positions: &[u64], numbers: &mut [u64], start: Turn) -> Answer {
+fn play_all(s: &[u8], ends: &[u32], positions: &[u64], numbers: &mut [u64], start: Turn) -> Answer
+    ensures { λ r. ⌜ numbered r (now (numbers .exit)) ≡ withNumbers (numbered (start .answer) (now (numbers .entry))) (playFields (now (s .entry)) (now (ends .entry)) (start .state) 0 (now (positions .entry))) ⌝ }
+{
     let mut turn = start;
     let mut i: usize = 0;
     while i < positions.len() {
@@ -47,7 +57,9 @@ fn play_all(s: &[u8], ends: &[u32], positions: &[u64], numbers: &mut [u64], star
 }
 
 // play POS:UNIT ..
-pub fn play(s: &[u8], ends: &[u32], positions: &[u64], numbers: &mut [u64]) -> Answer {
+pub fn play(s: &[u8], ends: &[u32], positions: &[u64], numbers: &mut [u64]) -> Answer
+    ensures { λ r. ⌜ numbered r (now (numbers .exit)) ≡ withNumbers (numbered (partsOf 0 0) (now (numbers .entry))) (playsOf (now (s .entry)) (now (ends .entry)) (now (positions .entry))) ⌝ }
+{
     let state = start_state();
     let answer = done();
     play_all(s, ends, positions, numbers, Turn { state, answer })

@@ -1,4 +1,13 @@
 // The operations of the crates container, annexb and packets.
+ghost use mathlib.Core.Path.{_≡_};
+ghost use lib.ListN.{length};
+ghost use Rattle.container.specs.Container.{stream as inStream, annexb as inAnnexb, read, writeAt};
+ghost use Rattle.container.specs.Units.{splitSays, byteCountSays, countOf, outAfter};
+ghost use Rattle.packets.specs.Packets.{canonicalAt};
+ghost use Rattle.packets.specs.PacketLists.{lentRoom, mergedAt};
+ghost use Rattle.protocol.specs.Answers.{parted};
+ghost use Rattle.protocol.specs.Told.{countTold, told};
+ghost use Rattle.replay_units.specs.Containers.{roomIn, sizesTold, unitsTold, packetsTold};
 use annexb::annexb::split_annexb;
 use annexb::annexb::write_annexb;
 use container::stream::split_obu_stream;
@@ -12,14 +21,18 @@ use protocol::answer::Answer;
 use protocol::answer::parts;
 use protocol::answer::refused;
 
-fn of_split(answer: Split) -> Answer {
+fn of_split(answer: Split) -> Answer
+    ensures { λ r. ⌜ r ≡ sizesTold (splitSays answer) ⌝ }
+{
     match answer {
         Split::Units(n, u) => parts(n, u),
         Split::Refused(k) => refused(k),
     }
 }
 
-fn of_joined(answer: ByteCount) -> Answer {
+fn of_count(answer: ByteCount) -> Answer
+    ensures { λ r. ⌜ r ≡ countTold (byteCountSays answer) ⌝ }
+{
     match answer {
         ByteCount::Bytes(n) => parts(n, 0),
         ByteCount::Refused(k) => refused(k),
@@ -27,28 +40,41 @@ fn of_joined(answer: ByteCount) -> Answer {
 }
 
 // stream DATA
-pub fn stream(s: &[u8], memory: &mut [u8], ends: &mut [u32]) -> Answer {
+pub fn stream(s: &[u8], memory: &mut [u8], ends: &mut [u32]) -> Answer
+    ensures { λ r. ⌜ parted r (now (memory .exit)) (now (ends .exit)) ≡ unitsTold (read inStream (roomIn (now (memory .entry)) (now (ends .entry))) (now (s .entry))) (now (memory .entry)) (now (ends .entry)) ⌝ }
+{
     of_split(split_obu_stream(s, memory, ends))
 }
 
 // annexb DATA
-pub fn annexb(s: &[u8], memory: &mut [u8], ends: &mut [u32]) -> Answer {
+pub fn annexb(s: &[u8], memory: &mut [u8], ends: &mut [u32]) -> Answer
+    ensures { λ r. ⌜ parted r (now (memory .exit)) (now (ends .exit)) ≡ unitsTold (read inAnnexb (roomIn (now (memory .entry)) (now (ends .entry))) (now (s .entry))) (now (memory .entry)) (now (ends .entry)) ⌝ }
+{
     of_split(split_annexb(s, memory, ends))
 }
 
 // wstream UNIT ..
-pub fn wstream(s: &[u8], unit_ends: &[u32], memory: &mut [u8]) -> Answer {
-    of_joined(write_obu_stream(s, unit_ends, memory))
+pub fn wstream(s: &[u8], unit_ends: &[u32], memory: &mut [u8]) -> Answer
+    ensures { λ r. ⌜ r ≡ countTold (countOf (writeAt inStream (record { bytes = length (now (memory .entry)); ends = 0 }) (now (s .entry)) (now («unit_ends» .entry)))) ⌝ }
+    ensures { λ _. ⌜ now (memory .exit) ≡ outAfter (writeAt inStream (record { bytes = length (now (memory .entry)); ends = 0 }) (now (s .entry)) (now («unit_ends» .entry))) (now (memory .entry)) ⌝ }
+{
+    of_count(write_obu_stream(s, unit_ends, memory))
 }
 
 // wannexb UNIT ..
-pub fn wannexb(s: &[u8], unit_ends: &[u32], memory: &mut [u8]) -> Answer {
-    of_joined(write_annexb(s, unit_ends, memory))
+pub fn wannexb(s: &[u8], unit_ends: &[u32], memory: &mut [u8]) -> Answer
+    ensures { λ r. ⌜ r ≡ countTold (countOf (writeAt inAnnexb (record { bytes = length (now (memory .entry)); ends = 0 }) (now (s .entry)) (now («unit_ends» .entry)))) ⌝ }
+    ensures { λ _. ⌜ now (memory .exit) ≡ outAfter (writeAt inAnnexb (record { bytes = length (now (memory .entry)); ends = 0 }) (now (s .entry)) (now («unit_ends» .entry))) (now (memory .entry)) ⌝ }
+{
+    of_count(write_annexb(s, unit_ends, memory))
 }
 
 // canon UNIT
-pub fn canon(unit: &[u8], memory: &mut [u8]) -> Answer {
-    of_joined(canonicalize_tu(unit, memory))
+pub fn canon(unit: &[u8], memory: &mut [u8]) -> Answer
+    ensures { λ r. ⌜ r ≡ countTold (countOf (canonicalAt (record { bytes = length (now (memory .entry)); ends = 0 }) (now (unit .entry)))) ⌝ }
+    ensures { λ _. ⌜ now (memory .exit) ≡ outAfter (canonicalAt (record { bytes = length (now (memory .entry)); ends = 0 }) (now (unit .entry))) (now (memory .entry)) ⌝ }
+{
+    of_count(canonicalize_tu(unit, memory))
 }
 
 // packets TIME PACKET ..
@@ -59,7 +85,9 @@ pub fn packets(
     memory: &mut [u8],
     ends: &mut [u32],
     numbers: &mut [u64],
-) -> Answer {
+) -> Answer
+    ensures { λ r. ⌜ told r (now (memory .exit)) (now (ends .exit)) (now (numbers .exit)) ≡ packetsTold (mergedAt (lentRoom (now (memory .entry)) (now (ends .entry)) (now (numbers .entry))) (now (s .entry)) (now («packet_ends» .entry)) (now (times .entry))) (now (memory .entry)) (now (ends .entry)) (now (numbers .entry)) ⌝ }
+{
     match merge_frameless_packets(s, packet_ends, times, memory, ends, numbers) {
         Merged::Packets(n, u) => {
             let mut answer = parts(n, u);

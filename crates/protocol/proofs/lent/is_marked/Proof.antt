@@ -1,16 +1,16 @@
--- `protocol::lent::is_marked` meets its contract. The loop's invariant: what is left decides. The measure is what is left of the memory.
+-- The loop's invariant: what is left decides.
+use borrow.Author.Needs.{needs}
 use mathlib.Core.Path.{_≡_, sym, _∙_}
 use Prim.Native.Nat.{_-_}
 use native.Mathlib.Omega.{arith}
 use lib.ListN.{length, drop}
-use borrow.Author.Needs.{needs}
-use Rattle.protocol.specs.Marked.{isMarked}
+use Rattle.protocol.specs.Marked.{byteMark, isMarked}
 use Rattle.protocol.proofs.MarkedLaws.{marked-end, marked-more, marked-not}
 use Rattle.protocol.proofs.lent.is_marked.Statement.{statement}
 use Rattle.protocol.proofs.lent.is_marked.Tie as tie
 
 abbrev Inv-loop : tie.InvT-loop
-Inv-loop memory from i₀ i = isMarked (drop from memory) ≡ isMarked (drop i memory)
+Inv-loop memory from i₀ i = isMarked byteMark (drop from memory) ≡ isMarked byteMark (drop i memory)
 
 abbrev μ-loop : tie.MeasureT-loop
 μ-loop memory from i₀ i = length memory - i
@@ -18,17 +18,15 @@ abbrev μ-loop : tie.MeasureT-loop
 returns : tie.Need-returns Inv-loop μ-loop
 returns c =
     let l = c .before .before .before .loop in
-    sym (l .inv ∙ marked-not _ (l .i) (omega arith) (c .if1 .taken))
+    sym (l .inv ∙ marked-not byteMark _ (l .i) (omega arith) (c .if1 .taken))
 
 loop-again : tie.Need-loop-again Inv-loop μ-loop
 loop-again c =
     let l = c .before .before .before .loop in
-    l .inv ∙ marked-more _ (l .i) (omega arith) (c .if1 .left)
+    l .inv ∙ marked-more byteMark _ (l .i) (omega arith) (c .if1 .left)
 
 returns-2 : tie.Need-returns-2 Inv-loop μ-loop
-returns-2 c =
-    let l = c .before .loop in
-    sym (l .inv ∙ marked-end _ (l .i) (omega arith))
+returns-2 c = let l = c .before .loop in sym (l .inv ∙ marked-end byteMark _ (l .i) (omega arith))
 
 pub is-marked-spec : {M : Type 1} → statement M
 is-marked-spec =

@@ -1,16 +1,31 @@
--- `protocol::lent::mark_numbers` is safe and ends: what is left of the numbers shrinks.
+-- The loop's invariant: i marks, and then the memory as it was.
 use borrow.Author.Needs.{needs}
-use mathlib.Core.Path.{_≡_}
-use Prim.Native.Nat.{_-_}
-use lib.ListN.{length}
+use mathlib.Core.Path.{_≡_, ap, _∙_}
+use mathlib.Core.List.{_++_}
+use Prim.Native.Nat.{_≤_, _-_}
+use native.Mathlib.Omega.{arith}
+use lib.ListN.{length, drop, set, replicate, length-set}
+use denote.Ref.{now}
+use borrow.Author.Fill.{fill-more}
+use Rattle.protocol.specs.Marked.{numberMark}
+use Rattle.protocol.proofs.MarkedLaws.{filled}
 use Rattle.protocol.proofs.lent.mark_numbers.Statement.{statement}
 use Rattle.protocol.proofs.lent.mark_numbers.Tie as tie
 
 abbrev Inv-loop : tie.InvT-loop
-Inv-loop numbers₀ i₀ numbers i = length numbers ≡ length numbers₀
+Inv-loop numbers₀ i₀ numbers i = (i ≤ length numbers₀) × (length numbers ≡ length numbers₀) × (numbers ≡ replicate i numberMark ++ drop i numbers₀)
 
 abbrev μ-loop : tie.MeasureT-loop
 μ-loop numbers₀ i₀ numbers i = length numbers₀ - i
+
+loop-again : tie.Need-loop-again Inv-loop μ-loop
+loop-again c =
+    let l = c .before .loop in
+    let d = now (c .before .before .args .numbers) in
+    (omega arith, simp length-set (l .inv .1), ap (λ m. set m (l .i) numberMark) (l .inv .2) ∙ fill-more (l .i) numberMark d (omega arith))
+
+returns : tie.Need-returns Inv-loop μ-loop
+returns c = let l = c .before .loop in filled numberMark (now (c .before .before .args .numbers)) (l .i) (omega arith) (omega arith) (l .inv .2)
 
 pub mark-numbers-spec : {M : Type 1} → statement M
 mark-numbers-spec =
@@ -23,6 +38,6 @@ mark-numbers-spec =
     (λ c. search needs)
     (λ c. search needs)
     (λ c. search needs)
+    loop-again
     (λ c. search needs)
-    (λ c. search needs)
-    (λ c. search needs))
+    returns)

@@ -1,23 +1,26 @@
--- `protocol::output::put_text` is safe and ends. The measure is what is left of the text.
-use mathlib.Core.Logic.{⊎-elim}
+-- The loop's invariant: what is typed so far, with what is left of the text, is the whole.
+use borrow.Author.Needs.{needs}
+use mathlib.Core.Path.{_≡_, sym, _∙_}
 use Prim.Native.Nat.{_≤_, _-_}
 use native.Mathlib.Omega.{arith}
-use lib.ListN.{length}
-use borrow.Author.Needs.{needs}
+use lib.ListN.{length, drop}
+use denote.Ref.{now}
+use Rattle.protocol.specs.Typed.{typing, typed}
+use Rattle.protocol.proofs.TypedLaws.{typed-next, typed-end}
 use Rattle.protocol.proofs.output.put_text.Statement.{statement}
 use Rattle.protocol.proofs.output.put_text.Tie as tie
 
 abbrev Inv-loop : tie.InvT-loop
-Inv-loop out₀ at text to₀ i₀ out to i = i ≤ length text
+Inv-loop out₀ at text to₀ i₀ out to i = (i ≤ length text) × (typed (typing at out₀) text ≡ typed (typing to out) (drop i text))
 
 abbrev μ-loop : tie.MeasureT-loop
 μ-loop out₀ at text to₀ i₀ out to i = length text - i
 
-element-write-out : tie.Need-element-write-out Inv-loop μ-loop
-element-write-out c = ⊎-elim (λ w. omega arith) (λ w. omega arith) (c .before .if1 .came)
+loop-again : tie.Need-loop-again Inv-loop μ-loop
+loop-again c = let l = c .before .before .before .before .before .loop in (omega arith, l .inv .1 ∙ typed-next (typing (l .to) (l .out)) (now (c .before .before .before .before .before .before .before .args .text)) (l .i) (omega arith) (c .before .place .ensures .0))
 
-add-to : tie.Need-add-to Inv-loop μ-loop
-add-to c = ⊎-elim (λ w. omega arith) (λ w. omega arith) (c .before .before .if1 .came)
+returns : tie.Need-returns Inv-loop μ-loop
+returns c = let l = c .before .loop in sym (l .inv .1 ∙ typed-end _ (now (c .before .before .before .args .text)) (l .i) (omega arith))
 
 pub put-text-spec : {M : Type 1} → statement M
 put-text-spec =
@@ -28,9 +31,9 @@ put-text-spec =
     (λ c. search needs)
     (λ c κs. search needs)
     (λ c. search needs)
-    element-write-out
-    add-to
     (λ c. search needs)
     (λ c. search needs)
     (λ c. search needs)
-    (λ c. search needs))
+    (λ c. search needs)
+    loop-again
+    returns)

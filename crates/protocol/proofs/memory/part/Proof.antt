@@ -1,0 +1,19 @@
+use borrow.Author.Needs.{needs}
+use mathlib.Core.Path.{ap₂, _∙_}
+use Prim.Native.Nat.{ℕ}
+use denote.Ref.{now}
+use Rattle.protocol.specs.Memory.{between}
+use Rattle.protocol.proofs.memory.part.Statement.{statement}
+use Rattle.protocol.proofs.memory.part.Tie as tie
+
+returns : tie.Need-returns
+returns c = c .range .ensures ∙ ap₂ (λ (x y : ℕ). between (now (c .before .before .before .before .before .args .s)) x y) (c .before .before .start-of .ensures) (c .before .end-of .ensures)
+
+pub part-spec : {M : Type 1} → statement M
+part-spec =
+    tie.close
+    (tie.spec
+    (λ c κs. search needs)
+    (λ c κs. search needs)
+    (λ c κs. search needs)
+    returns)

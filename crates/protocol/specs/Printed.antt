@@ -1,0 +1,117 @@
+-- The line of an answer, from the memory that it accounts for, in ASCII codes.
+use Prim.Native.Nat.{ℕ, zero, suc, _+_, _-_, _%_, _^_, min}
+use mathlib.Core.List.{List, [], _∷_, _++_}
+use mathlib.Core.Bool.{Bool, _&&_, _||_, cond as pick}
+use lib.ListN.{length, take, drop, getD}
+use lib.Dec.{leb, ltb, eqb}
+use Rattle.protocol.specs.Kinds.{separatorOf, refilledOf, restOf}
+use Rattle.protocol.specs.Marked.{isClean}
+use Rattle.protocol.specs.Typed.{decimalText, bytesText}
+use Rattle.protocol.specs.declared.answer.Answer.{Answer}
+use Rattle.protocol.specs.declared.kinds.Format.{Format}
+use Rattle.protocol.specs.declared.printer.Printed.{Printed}
+
+-- what is printed: an answer, and what the call left in the bytes, ends and numbers lent to it
+pub record Left : Type 0 where
+  pub answer : Answer
+  pub bytes : List ℕ
+  pub ends : List ℕ
+  pub numbers : List ℕ
+
+abbrev pub left : Answer → (bytes ends numbers : List ℕ) → Left
+left a s es ns = record { answer = a; bytes = s; ends = es; numbers = ns }
+
+-- ---- one item
+
+-- `dirty`: a part that does not lie in the bytes
+abbrev pub dirtyText : List ℕ
+dirtyText = 100 ∷ 105 ∷ 114 ∷ 116 ∷ 121 ∷ []
+
+-- where part i ends: the last one with all the answer's bytes
+abbrev pub partEnd : Answer → List ℕ → ℕ → ℕ
+partEnd a es i = pick (ltb i (a .ends)) (getD es i 0) (a .bytes)
+
+abbrev pub partStart : Answer → List ℕ → ℕ → ℕ
+partStart a es i = pick (eqb i 0) 0 (partEnd a es (i - 1))
+
+abbrev pub rangeText : List ℕ → ℕ → ℕ → List ℕ
+rangeText s a e = pick (leb a e && leb e (length s)) (bytesText (take (e - a) (drop a s))) dirtyText
+
+-- part i in hexadecimal
+unfoldable pub partText : Answer → List ℕ → List ℕ → ℕ → List ℕ
+partText a s es i = rangeText s (partStart a es i) (partEnd a es i)
+
+-- a number: of kind 5 `-` for 256, of kind 8 `no` before it
+unfoldable pub valueText : ℕ → ℕ → List ℕ
+valueText kind v =
+    pick (eqb kind 5 && eqb v 256) (45 ∷ []) (pick (eqb kind 8) (110 ∷ 111 ∷ 32 ∷ decimalText v) (decimalText v))
+
+-- an item of a kind: the next part (1), the part that the next number names (7), how many parts there are (6), or a number
+abbrev pub bodyText : Left → ℕ → ℕ → ℕ → List ℕ
+bodyText l kind part v =
+    pick (eqb kind 1) (partText (l .answer) (l .bytes) (l .ends) part) (
+    pick (eqb kind 7) (partText (l .answer) (l .bytes) (l .ends) v) (
+    pick (eqb kind 6) (decimalText (l .answer .ends)) (valueText kind v)))
+
+-- the item that comes, behind what stands before it
+unfoldable pub itemText : Left → Printed → List ℕ
+itemText l p = separatorOf (p .kind) ∷ bodyText l (p .kind % 16) (p .parts) (getD (l .numbers) (p .numbers) 0)
+
+-- ---- all items
+
+abbrev pub afterOf : ℕ → ℕ
+afterOf i = min (i + 1) (2 ^ 64 - 1)
+
+-- repeated kinds end where there is no more for the first of them
+unfoldable pub isPrinted : Answer → Printed → Bool
+isPrinted a p =
+    pick (eqb (p .format .repeated % 16) 1) (eqb (p .format .kinds) 0 && leb (a .ends) (p .parts))
+    (eqb (p .format .kinds) 0 && (leb (a .numbers) (p .numbers) || eqb (p .format .repeated) 0))
+
+abbrev pub openedBy : List ℕ → Printed → Format → Printed
+openedBy ns p f =
+    pick (eqb (f .kinds % 256) 9)
+    (record { kind = getD ns (p .numbers) 0; format = restOf f; parts = p .parts; numbers = afterOf (p .numbers) })
+    (record { kind = f .kinds % 256; format = restOf f; parts = p .parts; numbers = p .numbers })
+
+-- at the next item: of kind 9 its own kind stands among the numbers, before it
+unfoldable pub openedOf : List ℕ → Printed → Printed
+openedOf ns p = openedBy ns p (refilledOf (p .format))
+
+-- behind an item that took a part or a number
+unfoldable pub pastOf : Printed → Printed
+pastOf p =
+    pick (eqb (p .kind % 16) 1) (record { kind = p .kind; format = p .format; parts = afterOf (p .parts); numbers = p .numbers }) (
+    pick (eqb (p .kind % 16) 6) p (record { kind = p .kind; format = p .format; parts = p .parts; numbers = afterOf (p .numbers) }))
+
+-- the items from here on, k at most
+unfoldable pub itemsText : ℕ → Left → Printed → List ℕ
+itemsText zero l p = []
+itemsText (suc k) l p =
+    pick (isPrinted (l .answer) p) [] (itemText l (openedOf (l .numbers) p) ++ itemsText k l (pastOf (openedOf (l .numbers) p)))
+
+-- ---- the line
+
+abbrev pub firstOf : Format → Printed
+firstOf f = record { kind = 0; format = f; parts = 0; numbers = 0 }
+
+-- a refusal's line has its number, and what numbers come with it
+abbrev pub formatOf : Answer → Format → Format
+formatOf a f = pick (ltb 0 (a .refusal)) (record { kinds = 0; repeated = 2 }) f
+
+-- `ok`, or `no` and the refusal's number
+abbrev pub headText : Answer → List ℕ
+headText a = pick (ltb 0 (a .refusal)) (valueText 8 (a .refusal)) (111 ∷ 107 ∷ [])
+
+-- a line's end, behind ` dirty` where memory was changed that the answer does not account for
+abbrev pub endText : Bool → List ℕ
+endText clean = pick clean (10 ∷ []) (32 ∷ 100 ∷ 105 ∷ 114 ∷ 116 ∷ 121 ∷ 10 ∷ [])
+
+unfoldable pub answerText : Left → Format → Bool → List ℕ
+answerText l f own =
+    headText (l .answer)
+    ++ (itemsText (2 ^ 64 - 1) l (firstOf (formatOf (l .answer) f)) ++ endText (isClean own (l .answer) (l .bytes) (l .ends) (l .numbers)))
+
+-- `bad line`
+abbrev pub badLine : List ℕ
+badLine = 98 ∷ 97 ∷ 100 ∷ 32 ∷ 108 ∷ 105 ∷ 110 ∷ 101 ∷ 10 ∷ []

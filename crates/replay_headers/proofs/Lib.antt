@@ -1,0 +1,3 @@
+mod NumberLaws
+mod ReadLaws
+mod ObuLaws

@@ -1,0 +1,3 @@
+mod PlayLaws
+mod ListLaws
+mod LentLaws

@@ -1,0 +1,25 @@
+-- What a request to play is answered: for each unit what was shown, with its kind told.
+use Prim.Native.Nat.{ℕ, suc}
+use mathlib.Core.List.{List, [], _∷_, _++_}
+use Rattle.player.specs.Code.{playedBy, startState}
+use Rattle.player.specs.declared.slots.Answer.{Answer as Shows}
+use Rattle.player.specs.declared.slots.Answer.the-variants.{Shown, Nothing, Refused}
+use Rattle.player.specs.declared.step.State.{State}
+use Rattle.player.specs.declared.step.Played.{Played}
+use Rattle.protocol.specs.Memory.{partIn}
+
+-- a position as a number, `-`, or `no` and document 01's number (the kinds 2, 5 and 8)
+abbrev pub shownFields : Shows → List ℕ
+shownFields (Shown q) = 2 ∷ q ∷ []
+shownFields Nothing = 5 ∷ 256 ∷ []
+shownFields (Refused k) = 8 ∷ k ∷ []
+
+-- byte string i of s, es being the ends, is played under the first position, and so on
+unfoldable pub playFields : List ℕ → List ℕ → State → ℕ → List ℕ → List ℕ
+playFields s es st i [] = []
+playFields s es st i (p ∷ ps) =
+    shownFields (playedBy st p (partIn s es i) .answer) ++ playFields s es (playedBy st p (partIn s es i) .state) (suc i) ps
+
+-- from empty slots on
+abbrev pub playsOf : List ℕ → List ℕ → List ℕ → List ℕ
+playsOf s es ps = playFields s es startState 0 ps
