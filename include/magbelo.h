@@ -25,7 +25,8 @@ extern "C" {
  *
  * Returns 0 and writes the units' bytes, one unit behind the other, to `out`, the end of each unit to
  * `ends`, how many bytes that is to `*bytes` and how many units to `*units`; nothing behind them changes.
- * Or returns the number of a refusal:
+ * Room that is always enough, and that some streams need: in `out` data_len bytes and as many as leb128(data_len - 1) has,
+ * at most 5; in `ends` half of data_len, rounded up. Or returns the number of a refusal:
  *   34  more than 4,000,000,000 bytes of input
  *    1  an OBU's forbidden bit is set
  *    2  an OBU type from 9 to 14
@@ -49,13 +50,13 @@ uint32_t magbelo_split_obu_stream(const uint8_t *data, size_t data_len, uint8_t 
  * `*golden_slot` the slot of the first segment's golden. Nothing behind them changes.
  *
  * Room that is always enough, for n segments with f frames in all:
- *   list      f entries
+ *   list      f entries, no fewer
  *   cues      f / gop_size + n
- *   ends      2 * n
- *   shows     5 * n bytes
+ *   ends      2 * n, no fewer
+ *   shows     5 * n bytes, no fewer
  *   header    400 bytes where the first key's sequence header has no timing (it is replaced); else its own OBU's bytes + 8
  *   pictures  the lengths of all keys and goldens added up, which ranges that overlap make more than picture_bytes. Where
- *             the sequence header has timing that is all; else 410 more for each of their sequence header OBUs and 8 for
+ *             the sequence header has timing that is all, and no less will do; else 410 more for each of their sequence header OBUs and 8 for
  *             each other OBU
  *
  * Or returns a refusal. Its low 32 bits are the number, the high ones the segment counted from 1, or 0 where no segment

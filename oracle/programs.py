@@ -16,6 +16,9 @@ WORK = TOP_FOLDER / 'target' / 'oracle'
 RUST = WORK / 'cargo' / 'release' / 'oracle-server'
 # ORACLE_REPLAY names another program to hold beside the Rust.
 OURS = Path(os.environ.get('ORACLE_REPLAY', TOP_FOLDER / 'target' / 'bin' / 'replay'))
+# The exported functions behind the same protocol, and its operations that they answer.
+EXPORTED = WORK / 'exported'
+EXPORTED_OPERATIONS = {'stream', 'assemble'}
 BATCH = 50_000
 
 # Differences that docs/DIFFERENCES.md lists: (operation, why, test of request, Rust's answer and ours).
@@ -80,12 +83,12 @@ class Run:
         return answers
 
 
-def answered(requests, with_ours):
-    """For each request: request, the Rust's answer, ours or None, document 01's or None."""
+def answered(requests, program):
+    """For each request: request, the Rust's answer, the program's or None, document 01's or None."""
     requests = iter(requests)
     while lines := list(islice(requests, BATCH)):
         rust = Run([RUST, '--texts'], [rust_request(line) for line in lines])
-        ours = Run([OURS], lines) if with_ours else None
+        ours = Run([program], lines) if program else None
         paper = [model.answer(line) for line in lines]
         our_answers = ours.result() if ours else [None] * len(lines)
         yield from zip(lines, rust.result(), our_answers, paper)

@@ -121,6 +121,102 @@ static void run_assemble(const struct assemble_case *c) {
     failures += !good;
 }
 
+// ---- the room that include/magbelo.h calls enough
+
+// Segments with their ranges and frames; whether the sequence header has timing, and whether every cue that is reckoned with
+// is there; how many OBUs the keys and goldens have, each as often as a range has it.
+struct room_case {
+    const char *name;
+    uint8_t in[192];
+    size_t in_len, segments;
+    uint64_t numbers[15], gop_size;
+    int timed, all_cues;
+    size_t sequence_obus, other_obus;
+};
+
+// A sequence header with 32 operating points, the longest by far: 98 bytes, and 107 once it is timed.
+#define LONG 0x03, 0xfb, 0xed, 0x07, 0xc0, 0x03, 0xe2, 0x38, 0xa2, 0x46, 0x33, 0xdc, 0x00, 0x0f, 0xf5, 0x45, 0x3c, 0x80, \
+    0x06, 0xf9, 0xa9, 0x00, 0x6c, 0x00, 0x08, 0xfc, 0x01, 0x3f, 0x90, 0x00, 0x6f, 0x80, 0x00, 0x06, 0xc0, 0x00, 0x1f, 0x00, \
+    0x04, 0x3e, 0x00, 0x1f, 0xfe, 0x27, 0xd0, 0xe8, 0x00, 0x74, 0x4a, 0x33, 0xdc, 0x00, 0x01, 0x11, 0x00, 0xfc, 0x00, 0x07, \
+    0xc8, 0x00, 0x10, 0x00, 0x07, 0xe8, 0x00, 0x03, 0xc0, 0x01, 0xf6, 0x80, 0x01, 0x01, 0x00, 0x1c, 0x00, 0x08, 0xa5, 0x33, \
+    0xe8, 0x47, 0x16, 0xd5, 0x00, 0x0f, 0xbb, 0xcb, 0xc8, 0xc3, 0xd8, 0x02, 0x00, 0x02, 0x17, 0x9f, 0x50, 0x10, 0xd0, 0x02
+
+static const struct room_case room_cases[] = {
+    {"one board", {KEY, 0x32, 1, 0x10, 0x12, 0, 0x32, 2, 0x38, 0x10}, 22, 1, {0, 16, 16, 22, 2}, 3, 0, 1, 1, 4},
+    {"one board, gop_size 2", {KEY, 0x32, 1, 0x10, 0x12, 0, 0x32, 2, 0x38, 0x10}, 22, 1, {0, 16, 16, 22, 7}, 2, 0, 0, 1, 4},
+    {"one timed board, gop_size 2", {TIMED, 0x32, 1, 0x10, 0x12, 0, 0x32, 2, 0x38, 0x10}, 30, 1, {0, 24, 24, 30, 6}, 2, 1, 0, 1, 4},
+    {"as many cues as there may be", {TIMED, 0x32, 1, 0x10, 0x12, 0, 0x32, 2, 0x38, 0x10}, 30, 1, {0, 24, 24, 30, 5}, 3, 1, 1, 1, 4},
+    {"ranges that overlap", {KEY, 0x32, 1, 0x10, 0x12, 0, 0x32, 2, 0x38, 0x10}, 22, 3,
+     {0, 16, 16, 22, 4, 0, 16, 16, 22, 1, 0, 16, 16, 22, 3}, 3, 0, 0, 3, 12},
+    {"timed ranges that overlap", {TIMED, 0x32, 1, 0x10, 0x12, 0, 0x32, 2, 0x38, 0x10}, 30, 3,
+     {0, 24, 24, 30, 4, 0, 24, 24, 30, 1, 0, 24, 24, 30, 3}, 3, 1, 0, 3, 12},
+    {"a long header, empty ones in the golden, frames without a size",
+     {0x0A, 98, LONG, 0x30, 0x10, 0, 0, 0, 0, 0, 0x0A, 0, 0x0A, 0, 0x30, 0x38, 0xFF, 0xFF, 0xFF, 0xFF, 0xFF}, 118, 2,
+     {0, 107, 107, 118, 4, 0, 107, 107, 118, 9}, 3, 0, 0, 6, 4},
+};
+
+enum { LIST, CUES, PICTURES, ENDS, SHOWS, HEADER, SLICES };
+
+// The header's table, for a case.
+static void enough(const struct room_case *c, size_t room[SLICES]) {
+    size_t n = c->segments, frames = 0, lengths = 0;
+    for (const uint64_t *s = c->numbers; s < c->numbers + 5 * n; s += 5) {
+        lengths += s[1] - s[0] + s[3] - s[2];
+        frames += s[4];
+    }
+    room[LIST] = frames;
+    room[CUES] = frames / c->gop_size + n;
+    room[PICTURES] = c->timed ? lengths : lengths + 410 * c->sequence_obus + 8 * c->other_obus;
+    room[ENDS] = 2 * n;
+    room[SHOWS] = 5 * n;
+    room[HEADER] = c->timed ? 19 + 8 : 400;
+}
+
+static uint64_t assemble_in(const struct room_case *c, const size_t room[SLICES], size_t used[SLICES]) {
+    static uint32_t list[64], cues[64], ends[16];
+    static uint8_t pictures[4096], shows[32], header[512];
+    uint64_t slot;
+    used[ENDS] = 2 * c->segments;
+    used[SHOWS] = 5 * c->segments;
+    return magbelo_assemble(c->in, c->in_len, c->numbers, 5 * c->segments, c->gop_size, 25, 1, list, room[LIST], cues,
+                            room[CUES], pictures, room[PICTURES], ends, room[ENDS], shows, room[SHOWS], header, room[HEADER],
+                            &used[LIST], &used[CUES], &used[PICTURES], &used[HEADER], &slot);
+}
+
+// Enough is enough, what is used is enough, and one less of what is used is not. Of list, ends and shows, and of a timed
+// header's pictures, what the header says is what is used.
+static void run_room(const struct room_case *c) {
+    size_t room[SLICES], used[SLICES], again[SLICES];
+    enough(c, room);
+    int good = !assemble_in(c, room, used);
+    good = good && used[LIST] == room[LIST] && used[ENDS] == room[ENDS] && used[SHOWS] == room[SHOWS];
+    good = good && (!c->timed || used[PICTURES] == room[PICTURES]) && (!c->all_cues || used[CUES] == room[CUES]);
+    good = good && !assemble_in(c, used, again) && !memcmp(used, again, sizeof used);
+    for (int i = 0; i < SLICES; i++) {
+        used[i]--;
+        good = good && assemble_in(c, used, again) == 35;
+        used[i]++;
+    }
+    printf("room for %s: %s\n", c->name, good ? "ok" : "FAILED");
+    failures += !good;
+}
+
+// Room for a stream's units: one OBU without a size needs all the bytes, empty frames and one without a size all the ends.
+static void run_stream_room(size_t len) {
+    static uint8_t data[20000], out[20008];
+    static uint32_t ends[10000];
+    size_t room = len + (len > 16384 ? 3 : len > 128 ? 2 : 1), slots = (len + 1) / 2, bytes, units;
+    memset(data, 0, sizeof data);
+    data[0] = 0x30;
+    int good = !magbelo_split_obu_stream(data, len, out, room, ends, slots, &bytes, &units) && bytes == room;
+    good = good && magbelo_split_obu_stream(data, len, out, room - 1, ends, slots, &bytes, &units) == 35;
+    for (size_t i = 0; i < len; i += 2) data[i] = i + 1 < len ? 0x32 : 0x30;
+    good = good && !magbelo_split_obu_stream(data, len, out, room, ends, slots, &bytes, &units) && units == slots;
+    good = good && magbelo_split_obu_stream(data, len, out, room, ends, slots - 1, &bytes, &units) == 35;
+    printf("room for a stream of %zu bytes: %s\n", len, good ? "ok" : "FAILED");
+    failures += !good;
+}
+
 // Nothing given and nothing lent: the pointers are null. An empty stream has no units; no segments are 21.
 static void run_nulls(void) {
     size_t bytes = 77, units = 88, cues = 77, pictures = 77, header = 77;
@@ -173,7 +269,11 @@ int main(void) {
     for (size_t i = 0; i < sizeof cases / sizeof *cases; i++) run(&cases[i]);
     for (size_t i = 0; i < sizeof orders / sizeof *orders; i++) run_assemble(&orders[i]);
     run_nulls();
+    static const size_t lengths[] = {1, 2, 3, 128, 129, 16384, 16385};
+    for (size_t i = 0; i < sizeof lengths / sizeof *lengths; i++) run_stream_room(lengths[i]);
+    for (size_t i = 0; i < sizeof room_cases / sizeof *room_cases; i++) run_room(&room_cases[i]);
     size_t all = sizeof cases / sizeof *cases + sizeof orders / sizeof *orders + 1;
+    all += sizeof lengths / sizeof *lengths + sizeof room_cases / sizeof *room_cases;
     printf("%zu passed, %d failed\n", all - (size_t)failures, failures);
     return failures != 0;
 }

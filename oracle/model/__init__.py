@@ -5,7 +5,7 @@ so that it is a third opinion; its author had read the Rust. An operation not in
 model.
 """
 
-from .assembly import assemble
+from .assembly import assemble, assembly_room
 from .bitio import bits, leb, lebput, shortest_leb128, uvlc
 from .container import annexb, canon, packets, stream, wannexb, wstream
 from .header import emit, frame, seq, support, timed
@@ -40,27 +40,33 @@ OPERATIONS = {
 }
 
 
-# What an answer needs of lent memory: bytes, ends or list entries, times or cues.
+# What an answer needs of lent memory: bytes, ends or list entries, times or cues; from its text and the values asked with.
 
-def one_string(text):
+def one_string(text, *_):
     return len(byte_string(text)), 0, 0
 
 
-def unit_list(text):
+def unit_list(text, *_):
     units = text.split(' ')[1:]
     return sum(len(byte_string(unit)) for unit in units), len(units), 0
 
 
-def packet_list(text):
+def packet_list(text, *_):
     packets = text.split(' ')[2::2]
     return sum(len(byte_string(packet)) for packet in packets), len(packets), len(packets)
 
 
-# Operations that are lent memory. Of assembly's the protocol does not say which bytes count.
+def unit_and_cue_list(_, *asked):
+    """Of assembly's bytes the picture bytes count, and not all of them are listed."""
+    return assembly_room(*asked)
+
+
+# Operations that are lent memory.
 NEEDS = {
     **dict.fromkeys(['lebput', 'obuput', 'emit', 'timed', 'wstream', 'wannexb', 'canon'], one_string),
     **dict.fromkeys(['stream', 'annexb'], unit_list),
     'packets': packet_list,
+    'assemble': unit_and_cue_list,
 }
 
 
@@ -91,9 +97,10 @@ def perform(name, words, lent):
         raise NoRequest
     function, kinds, repeated = OPERATIONS[name]
     room = None if lent is None else [number(word) for word in lent]
-    values = function(*arguments(words, kinds, repeated))
+    asked = arguments(words, kinds, repeated)
+    values = function(*asked)
     if room is not None and name in NEEDS:
-        if any(need > have for need, have in zip(NEEDS[name](values), room)):
+        if any(need > have for need, have in zip(NEEDS[name](values, *asked), room)):
             raise Refused(NO_ROOM)
     return values
 
@@ -116,6 +123,8 @@ def rows(words, kinds):
 
 def room_needed(line):
     """(bytes, ends, times) that the answer to an accepted request fills, or None."""
-    name = parts(line)[0]
+    name, words, _ = parts(line)
     said = answer(line)
-    return NEEDS[name](said[3:]) if name in NEEDS and said.startswith('ok ') else None
+    if name not in NEEDS or not said.startswith('ok '):
+        return None
+    return NEEDS[name](said[3:], *arguments(words, *OPERATIONS[name][1:]))

@@ -1,5 +1,7 @@
 """Assembly: the refusals in 01's order, then the list of units and the cues."""
 
+from dataclasses import dataclass, field
+
 from .header import KEY, check_supported, frame_of, header_of, payload_of, timed_header
 from .obu import FRAME_TYPES, SEQUENCE_HEADER, obus_of, written
 from .words import Refused, hexadecimal
@@ -106,24 +108,44 @@ def kinds_of(frames, gop):
     return kinds
 
 
-def assemble(gop, fps, fps_den, boards):
+@dataclass
+class Assembly:
+    header_obu: tuple
+    slots: list = field(default_factory=list)
+    units: list = field(default_factory=list)
+    cues: list = field(default_factory=list)
+    picture_bytes: int = 0
+
+
+def assembled(gop, fps, fps_den, boards):
     check_counts(gop, boards)
-    header_obu = common_header(boards)
-    h = header_of(header_obu[2])
+    made = Assembly(common_header(boards))
+    h = header_of(made.header_obu[2])
     new_payload = None
     if not h['timing_info_present']:
         new_payload = payload_of(timed_header(h, fps, fps_den))
-        header_obu = (SEQUENCE_HEADER, None, new_payload)
-    slots, units, cues = [], [], []
+        made.header_obu = (SEQUENCE_HEADER, None, new_payload)
     for i, (key, golden, frames) in enumerate(boards):
         with AtSegment(i):
             if new_payload is not None:
                 key, golden = with_header(key, new_payload), with_header(golden, new_payload)
-            slots.append(golden_slot(h, key, golden))
-        bytes_of = {'key': key, 'golden': golden, 'show': show_unit(slots[-1])}
+            made.slots.append(golden_slot(h, key, golden))
+        bytes_of = {'key': key, 'golden': golden, 'show': show_unit(made.slots[-1])}
         kinds = kinds_of(frames, gop)
-        cues += [len(units) + place for place, kind in enumerate(kinds, 1) if kind == 'key']
-        units += [bytes_of[kind] for kind in kinds]
-    shown_cues = ','.join(map(str, cues))
-    words = [len(units), slots[0], hexadecimal(written([header_obu])), shown_cues]
-    return ' '.join(map(str, words + [hexadecimal(unit) for unit in units]))
+        made.cues += [len(made.units) + place for place, kind in enumerate(kinds, 1) if kind == 'key']
+        made.units += [bytes_of[kind] for kind in kinds]
+        made.picture_bytes += len(key) + len(golden)
+    return made
+
+
+def assemble(gop, fps, fps_den, boards):
+    made = assembled(gop, fps, fps_den, boards)
+    shown_cues = ','.join(map(str, made.cues))
+    words = [len(made.units), made.slots[0], hexadecimal(written([made.header_obu])), shown_cues]
+    return ' '.join(map(str, words + [hexadecimal(unit) for unit in made.units]))
+
+
+def assembly_room(gop, fps, fps_den, boards):
+    """The picture bytes of all boards, listed or not, the list entries and the cues."""
+    made = assembled(gop, fps, fps_den, boards)
+    return made.picture_bytes, len(made.units), len(made.cues)
