@@ -11,6 +11,7 @@ use Rattle.obu.specs.Obu.{Obu, obus}
 use Rattle.obu.specs.Unit.{count, has, ofUnit}
 use Rattle.obu.proofs.UnitLaws.{has-count}
 use Rattle.pictures.specs.Prepare.{isSequence, sent}
+use Rattle.pictures.specs.Assemble.{verdict}
 use Rattle.pictures.specs.Code.{readable, orElse, sentBytes}
 use Rattle.pictures.specs.Rewrite.{renewedBytes, rewritten}
 use Rattle.pictures.proofs.RangeLaws.{denied, granted}
@@ -28,7 +29,7 @@ module _ (new u : List ℕ) where
       let h : has isSequence os ≡ false = sym (has-count isSequence os) ∙ ap (leb 1) c in
       rw h
 
-  some-sequence : (n : ℕ) → 1 ≤ n → (x : Answer (List Obu)) → answer (count isSequence) x ≡ accepted n → (outgoing x ≡ ofUnit [] (renewedBytes new) x) × (answer (λ _. tt {0}) x ≡ accepted tt)
+  some-sequence : (n : ℕ) → 1 ≤ n → (x : Answer (List Obu)) → answer (count isSequence) x ≡ accepted n → (outgoing x ≡ ofUnit [] (renewedBytes new) x) × (verdict x ≡ accepted tt)
   unfolding andNext
   some-sequence n l (refused k) e = let z : _≡_ {A = ℕ} 0 1 = cc in absurd (omega arith)
   some-sequence n l (accepted os) e =

@@ -12,7 +12,7 @@ use Rattle.header.specs.Sequence.{Sequence}
 use Rattle.blocks.specs.Numbers.{records, recordsBehind}
 use Rattle.pictures.specs.Segments.{Segment, segmentIn}
 use Rattle.pictures.specs.Prepare.{isSequence, firstOf, sent, asked, Prepared}
-use Rattle.pictures.specs.Assemble.{Outcome, made, andAlso, sameHeader, prepareAll, pictureOf}
+use Rattle.pictures.specs.Assemble.{Outcome, made, andAlso, verdict, sameHeader, prepareAll, pictureOf}
 
 -- ---- segments
 
@@ -37,7 +37,7 @@ countSame first u = andNext (obus u) (λ os. answer (λ _. count isSequence os) 
 
 -- 1 to 5, where units are read to be rewritten
 abbrev pub readable : Bool → List ℕ → Answer Unit
-readable rewriting u = pick rewriting (answer (λ _. tt) (obus u)) (accepted tt)
+readable rewriting u = pick rewriting (verdict (obus u)) (accepted tt)
 
 -- how many OBUs such a unit has; any other is not looked at
 abbrev pub countRead : Bool → List ℕ → Answer ℕ

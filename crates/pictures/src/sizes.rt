@@ -47,7 +47,7 @@ fn first_empty(segments: &[u64]) -> usize
     i
 }
 
-// 21 no segments; 22 gop_size under 2; 23 total under 2; 24 a segment without frames; 25 total over 5,000,000.
+// Refusals 21 to 25, in this order.
 pub fn check_sizes(gop: u64, segments: &[u64]) -> Checked
     ensures { λ r. ⌜ checkedSays r ≡ sized gop (framesIn (now (segments .entry))) ⌝ }
 {
