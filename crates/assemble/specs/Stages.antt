@@ -133,5 +133,5 @@ fitsIn room c =
     && leb (c .shows) (room .shows)
     && leb (c .header) (room .header)
 
-abbrev pub roomOf : ℕ → ℕ → ℕ → ℕ → ℕ → ℕ → Room
-roomOf list cues picture ends shows header = record { list = list; cues = cues; picture = picture; ends = ends; shows = shows; header = header }
+abbrev pub roomFor : ℕ → ℕ → ℕ → ℕ → ℕ → ℕ → Room
+roomFor list cues picture ends shows header = record { list = list; cues = cues; picture = picture; ends = ends; shows = shows; header = header }

@@ -82,27 +82,27 @@ module _ (pictures ends shows : List ℕ) (p n : ℕ) where
 
 module _ (pictures ends shows list : List ℕ) where
   -- the lines of the units from i on, the first unit being 0
-  abbrev pub behind : ℕ → List ℕ
-  behind i = lines pictures ends shows (suc i) (drop i list)
+  abbrev pub linesBehind : ℕ → List ℕ
+  linesBehind i = lines pictures ends shows (suc i) (drop i list)
 
   abbrev pub lineOf : ℕ → List ℕ
   lineOf i = line pictures ends shows (i + 1) (getD list i 0)
 
-  behind-more : (i : ℕ) → i < length list → behind i ≡ lineOf i ++ behind (i + 1)
+  behind-more : (i : ℕ) → i < length list → linesBehind i ≡ lineOf i ++ linesBehind (i + 1)
   unfolding lines
   behind-more i h = rw (drop-cons list i 0 h, add-one i)
 
-  behind-length : (i : ℕ) → i < length list → length (behind i) ≡ length (lineOf i) + length (behind (i + 1))
-  behind-length i h = ap length (behind-more i h) ∙ length-append (lineOf i) (behind (i + 1))
+  behind-length : (i : ℕ) → i < length list → length (linesBehind i) ≡ length (lineOf i) + length (linesBehind (i + 1))
+  behind-length i h = ap length (behind-more i h) ∙ length-append (lineOf i) (linesBehind (i + 1))
 
-  behind-none : (i : ℕ) → length list ≤ i → behind i ≡ []
+  behind-none : (i : ℕ) → length list ≤ i → linesBehind i ≡ []
   unfolding lines
   behind-none i h = rw (drop-of-length-le list h)
 
   -- i lines fit, and so much room is left
   pub record Fitting (room i left : ℕ) : Type 0 where
     pub within : i ≤ length list
-    pub over : left + length (behind 0) ≡ room + length (behind i)
+    pub over : left + length (linesBehind 0) ≡ room + length (linesBehind i)
 
   pub fit-start : (room : ℕ) → Fitting room 0 room
   fit-start room = record { within = omega arith; over = refl }
@@ -111,24 +111,24 @@ module _ (pictures ends shows list : List ℕ) where
   pub record Lining (d₀ : List ℕ) (at : ℕ) (d : List ℕ) (i to : ℕ) : Type 0 where
     pub within : i ≤ length list
     pub kept : length d ≡ length d₀
-    pub place : to + length (behind i) ≡ at + length (behind 0)
-    pub same : pasted d to (behind i) ≡ pasted d₀ at (behind 0)
+    pub place : to + length (linesBehind i) ≡ at + length (linesBehind 0)
+    pub same : pasted d to (linesBehind i) ≡ pasted d₀ at (linesBehind 0)
 
   pub lining-start : (d : List ℕ) (at : ℕ) → Lining d at d 0 at
   lining-start d at = record { within = omega arith; kept = refl; place = refl; same = refl }
 
 module _ {pictures ends shows list : List ℕ} {room i left : ℕ} (f : Fitting pictures ends shows list room i left) where
-  abbrev whole : ℕ
-  whole = length (behind pictures ends shows list 0)
+  abbrev wholeText : ℕ
+  wholeText = length (linesBehind pictures ends shows list 0)
 
-  pub fit-end : length list ≤ i → true ≡ leb whole room
+  pub fit-end : length list ≤ i → true ≡ leb wholeText room
   fit-end h =
       let z = ap length (behind-none pictures ends shows list i h) in
-      sym (le-leb whole room (omega (arith, f .over, z)))
+      sym (le-leb wholeText room (omega (arith, f .over, z)))
 
   module _ (n : ℕ) (h : i < length list) (e : n ≡ length (lineOf pictures ends shows list i)) where
-    pub fit-over : left < n → false ≡ leb whole room
-    fit-over k = sym (lt-leb whole room (omega (arith, f .over, behind-length pictures ends shows list i h)))
+    pub fit-over : left < n → false ≡ leb wholeText room
+    fit-over k = sym (lt-leb wholeText room (omega (arith, f .over, behind-length pictures ends shows list i h)))
 
     pub fit-turn : n ≤ left → Fitting pictures ends shows list room (i + 1) (left - n)
     fit-turn k = record { within = omega arith; over = omega (arith, f .over, behind-length pictures ends shows list i h) }
@@ -142,10 +142,10 @@ fit-no a b {t} e h = leb-false a b (sym e ∙ not-true t h)
 
 module _ {pictures ends shows list d₀ : List ℕ} {at : ℕ} {d : List ℕ} {i to : ℕ} (l : Lining pictures ends shows list d₀ at d i to) where
   abbrev all : List ℕ
-  all = behind pictures ends shows list 0
+  all = linesBehind pictures ends shows list 0
 
   abbrev rest : List ℕ
-  rest = behind pictures ends shows list (i + 1)
+  rest = linesBehind pictures ends shows list (i + 1)
 
   abbrev here : List ℕ
   here = lineOf pictures ends shows list i
