@@ -1,5 +1,5 @@
 -- What acceptance by assembly gives, under demand 3's premises: `accepts`.
-use Prim.Native.Nat.{ℕ, zero, suc, _+_, _-_, _/_, _%_, _^_, _≤_, _<_}
+use Prim.Native.Nat.{ℕ, zero, suc, _+_, _-_, _^_, _≤_, _<_}
 use native.Mathlib.Omega.{arith}
 use mathlib.Core.Path.{_≡_, refl, ap, _∙_}
 use mathlib.Core.List.{List, [], _∷_}
@@ -30,7 +30,7 @@ use Rattle.pictures.specs.Prepare.{isSequence, timedSequence, effective, renewa
 use Rattle.pictures.specs.declared.settings.Settings.{Settings}
 use Rattle.pictures.specs.Assemble.{Outcome, stopped, made, andAlso, inSegment, overall, noneEmpty, sizes, sameBytes, sameHeader, sameHeaders, headerObu, prepareAll, Output, outputOf, Room, fits, assembled, assemble}
 use Rattle.player.proofs.StepLaws.{link}
-use Rattle.frame.specs.UnitFrame.{unitFrame, framePayload, isFrame}
+use Rattle.frame.specs.UnitFrame.{unitFrame, isFrame}
 use Rattle.demand.specs.Premises.{listHeader, Premise, Formed, InFields}
 use Rattle.demand.proofs.HeaderLaws.{timed-short, timed-back, timed-fine}
 use Rattle.demand.proofs.PlayerLaws.{sole-is}
@@ -90,7 +90,7 @@ golden-is (Frame f) n e = go (f .«show_frame») refl (eqb (f .«frame_type») k
 -- ---- a segment
 
 -- a unit of demand 3's kind, whose frame is x under the header q
-pub record Says (q : Sequence) (s u : List ℕ) (x : FrameHeaderInfo) : Type 0 where
+pub record FrameSays (q : Sequence) (s u : List ℕ) (x : FrameHeaderInfo) : Type 0 where
   pub unit : Premise s u
   pub reads : parseFrame q (firstPayload isFrame (unit .held)) ≡ accepted x
 
@@ -100,13 +100,13 @@ pub record Paired (q : Sequence) (new : Option (List ℕ)) (s : List ℕ) (x : S
   pub golden-sent : sent new (x .golden) ≡ accepted (b .golden)
   -- the key unit: a shown key, and a sequence header
   pub key-info : FrameInfo
-  pub key : Says q s (b .key) (Frame key-info)
+  pub key : FrameSays q s (b .key) (Frame key-info)
   pub key-type : key-info .«frame_type» ≡ keyFrame
   pub key-shown : key-info .«show_frame» ≡ true
   pub key-header : has isSequence (key .unit .held) ≡ true
   -- the golden unit: shown, no key, refreshing something
   pub info : FrameInfo
-  pub golden : Says q s (b .golden) (Frame info)
+  pub golden : FrameSays q s (b .golden) (Frame info)
   pub golden-frame : unitFrame true q (x .golden) ≡ accepted (Frame info)
   pub shown : info .«show_frame» ≡ true
   pub no-key : info .«frame_type» ≡ keyFrame → ⊥
@@ -119,23 +119,23 @@ unfolding unitFrame andNext
 first-reads q s u x w e = rw (w .written .reads, sole-is false (w .held) (w .single)) at e
 
 -- is its frame
-frame-is : (q : Sequence) (s u : List ℕ) (x : FrameHeaderInfo) (w : Premise s u) → parseFrame q (firstPayload isFrame (w .held)) ≡ accepted x → unitFrame true q u ≡ accepted x
+pub frame-is : (q : Sequence) (s u : List ℕ) (x : FrameHeaderInfo) (w : Premise s u) → parseFrame q (firstPayload isFrame (w .held)) ≡ accepted x → unitFrame true q u ≡ accepted x
 unfolding unitFrame andNext
 frame-is q s u x w e = rw (w .written .reads, sole-is true (w .held) (w .single), e)
 
-out-says : (q : Sequence) (s t u v : List ℕ) (x : FrameHeaderInfo) (w : Premise s u) → Out t (w .held) v → unitFrame false q u ≡ accepted x → Says q t v x
+out-says : (q : Sequence) (s t u v : List ℕ) (x : FrameHeaderInfo) (w : Premise s u) → Out t (w .held) v → unitFrame false q u ≡ accepted x → FrameSays q t v x
 out-says q s t u v x w o e = record { unit = o .unit; reads = rw (o .frame) (first-reads q s u x w e) }
 
 -- units short enough to be written again
-abbrev Fits : Segment → Type 0
-Fits x = (length (x .key) < 2 ^ 56) × (length (x .golden) < 2 ^ 56)
+abbrev Rewritable : Segment → Type 0
+Rewritable x = (length (x .key) < 2 ^ 56) × (length (x .golden) < 2 ^ 56)
 
 -- a key with a sequence header
 abbrev HasHeader : Segment → Type 0
 HasHeader x = (os : List Obu) → obus (x .key) ≡ accepted os → has isSequence os ≡ true
 
 module _ (q : Sequence) (new : Option (List ℕ)) (s : List ℕ) (short : Short new) where
-  paired : (x : Segment) (b : Prepared) → Fits x → (k : Premise s (x .key)) → (g : Premise s (x .golden)) → HasHeader x → prepare q new x ≡ accepted b → Paired q new (outgoing new s) x b
+  paired : (x : Segment) (b : Prepared) → Rewritable x → (k : Premise s (x .key)) → (g : Premise s (x .golden)) → HasHeader x → prepare q new x ≡ accepted b → Paired q new (outgoing new s) x b
   unfolding prepare out-says
   paired x b l k g n e =
       link _ _ b e (λ u e₁ e. link _ _ b e (λ v e₂ e. link _ _ b e (λ y e₃ e. link _ _ b e (λ t e₄ e. link _ _ b e (λ z e₅ e. link _ _ b e (λ flags e₆ e.
@@ -180,7 +180,7 @@ module _ {A B : Type 0} {R : A → B → Type 0} where
   matches-at (and-more r m) (suc i) x b h = matches-at m i x b (omega arith)
 
 module _ (q : Sequence) (new : Option (List ℕ)) (s : List ℕ) (short : Short new) where
-  paired-all : (i : ℕ) (xs : List Segment) (bs : List Prepared) → Every Fits xs → Every (λ x. Premise s (x .key)) xs → Every (λ x. Premise s (x .golden)) xs → Every HasHeader xs
+  paired-all : (i : ℕ) (xs : List Segment) (bs : List Prepared) → Every Rewritable xs → Every (λ x. Premise s (x .key)) xs → Every (λ x. Premise s (x .golden)) xs → Every HasHeader xs
       → prepareAll q new i xs ≡ made bs → Matches (Paired q new (outgoing new s)) xs bs
   unfolding prepareAll
   paired-all i [] bs nothing nothing nothing nothing e = let z : [] ≡ bs = cc in rw (← z) no-more
@@ -261,7 +261,7 @@ read-is : (s : List ℕ) (q : Sequence) → supportedSequence s ≡ accepted q �
 unfolding supportedSequence
 read-is s q e = link _ _ q e (λ q′ a e. link _ _ q e (λ u b e. let z : q′ ≡ q = cc in (rw (← z) a, rw (← z) b)))
 
-from-segments : (set : Settings) (xs : List Segment) (r : Output) → InFields set → Every Fits xs → Formed xs → assembled set xs ≡ made r → (m : Made set xs) × (out m ≡ r)
+from-segments : (set : Settings) (xs : List Segment) (r : Output) → InFields set → Every Rewritable xs → Formed xs → assembled set xs ≡ made r → (m : Made set xs) × (out m ≡ r)
 unfolding assembled
 from-segments set [] r fields sh p e = let z : _≡_ {A = ℕ} 0 1 = cc in absurd (omega arith)
 from-segments set (x ∷ xs) r fields sh p e =
@@ -303,14 +303,14 @@ part-short s a e = go (leb a e) (leb e (length s))
     go true false = omega arith
     go false u = omega arith
 
-abbrev Within : ℕ → Segment → Type 0
-Within n x = (length (x .key) ≤ n) × (length (x .golden) ≤ n)
+abbrev SegmentWithin : ℕ → Segment → Type 0
+SegmentWithin n x = (length (x .key) ≤ n) × (length (x .golden) ≤ n)
 
-segment-short : (s rs : List ℕ) (x : Segment) → segmentAt s rs ≡ accepted x → Within (length s) x
+segment-short : (s rs : List ℕ) (x : Segment) → segmentAt s rs ≡ accepted x → SegmentWithin (length s) x
 unfolding segmentAt
 segment-short s rs x e = go (headInside s rs) e
   where
-    go : (t : Bool) → pick t (accepted (segmentIn s rs)) (refused 36) ≡ accepted x → Within (length s) x
+    go : (t : Bool) → pick t (accepted (segmentIn s rs)) (refused 36) ≡ accepted x → SegmentWithin (length s) x
     go true e = let z : segmentIn s rs ≡ x = cc in rw (← z) (part-short s _ _, part-short s _ _)
     go false e = let z : _≡_ {A = ℕ} 0 1 = cc in absurd (omega arith)
 
@@ -318,7 +318,7 @@ onto-is : {A : Type 0} (a : A) (t : Answer (List A)) (l : List A) → onto a t �
 onto-is a (refused n) l e = let z : _≡_ {A = ℕ} 0 1 = cc in absurd (omega arith)
 onto-is a (accepted m) l e = (m, refl, cc)
 
-from-short : (s : List ℕ) (k : ℕ) (rs : List ℕ) (xs : List Segment) → segmentsFrom s k rs ≡ accepted xs → Every (Within (length s)) xs
+from-short : (s : List ℕ) (k : ℕ) (rs : List ℕ) (xs : List Segment) → segmentsFrom s k rs ≡ accepted xs → Every (SegmentWithin (length s)) xs
 unfolding segmentsFrom
 from-short s zero rs xs e = let z : [] ≡ xs = cc in rw (← z) nothing
 from-short s (suc k) rs xs e =
@@ -326,26 +326,26 @@ from-short s (suc k) rs xs e =
     let (m, a, b) = onto-is x (segmentsFrom s k (rest rs)) xs e in
     rw (← b) (also {a = x} (segment-short s rs x e₁) (from-short s k (rest rs) m a)))
 
-segments-short : (s rs : List ℕ) (xs : List Segment) → segmentsOf s rs ≡ accepted xs → Every (Within (length s)) xs
+segments-short : (s rs : List ℕ) (xs : List Segment) → segmentsOf s rs ≡ accepted xs → Every (SegmentWithin (length s)) xs
 unfolding segmentsOf
 segments-short s rs xs e = go (isWhole rs) e
   where
-    go : (t : Bool) → pick t (segmentsFrom s (segmentCount rs) rs) (refused 36) ≡ accepted xs → Every (Within (length s)) xs
+    go : (t : Bool) → pick t (segmentsFrom s (segmentCount rs) rs) (refused 36) ≡ accepted xs → Every (SegmentWithin (length s)) xs
     go true e = from-short s (segmentCount rs) rs xs e
     go false e = let z : _≡_ {A = ℕ} 0 1 = cc in absurd (omega arith)
 
-within-fits : (n : ℕ) → n ≤ limit → {xs : List Segment} → Every (Within n) xs → Every Fits xs
-within-fits n l nothing = nothing
-within-fits n l (also {a = x} w ws) = also {a = x} (omega (arith, w .0), omega (arith, w .1)) (within-fits n l ws)
+within-rewritable : (n : ℕ) → n ≤ limit → {xs : List Segment} → Every (SegmentWithin n) xs → Every Rewritable xs
+within-rewritable n l nothing = nothing
+within-rewritable n l (also {a = x} w ws) = also {a = x} (omega (arith, w .0), omega (arith, w .1)) (within-rewritable n l ws)
 
-front : (a b : Bool) → (a && b) ≡ true → a ≡ true
-front true b e = refl
-front false b e = e
+and-first : (a b : Bool) → (a && b) ≡ true → a ≡ true
+and-first true b e = refl
+and-first false b e = e
 
 fits-limit : (room : Room) (r : Output) → fits room r ≡ true → length (r .picture) ≤ limit
 unfolding fits
 fits-limit room r e =
-    let n : length (r .picture) + length (r .shows) + length (r .header) ≤ limit = leb-true _ limit (front _ _ (front _ _ (front _ _ (front _ _ (front _ _ (front _ _ e)))))) in
+    let n : length (r .picture) + length (r .shows) + length (r .header) ≤ limit = leb-true _ limit (and-first _ _ (and-first _ _ (and-first _ _ (and-first _ _ (and-first _ _ (and-first _ _ e)))))) in
     omega arith
 
 not-over : {A : Type 0} (n : ℕ) (k : Outcome A) (a : A) → pick (ltb limit n) (stopped 34 none) k ≡ made a → (n ≤ limit) × (k ≡ made a)
@@ -368,5 +368,5 @@ module _ (room : Room) (set : Settings) (s rs : List ℕ) (xs : List Segment) (r
       link-made _ _ r e (λ ys e₁ e. link-made _ _ r e (λ r′ e₂ e.
       let y : ys ≡ xs = cc in
       let (t, i) = fitting (fits room r′) r′ r e in
-      let (m, o) = from-segments set xs r′ fields (within-fits (length s) n (segments-short s rs xs g)) p (rw y at e₂) in
+      let (m, o) = from-segments set xs r′ fields (within-rewritable (length s) n (segments-short s rs xs g)) p (rw y at e₂) in
       (m, o ∙ i, rw i at (fits-limit room r′ t))))

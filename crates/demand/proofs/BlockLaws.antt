@@ -15,7 +15,7 @@ use Rattle.bitio.specs.Every.Every.{none as nothing, also}
 use Rattle.blocks.proofs.BlockLaws.{length-blocks}
 use Rattle.blocks.specs.Blocks.{Kind, Key, Golden, Show, block, blocks, kinds, Entry, layout, total}
 use Rattle.demand.specs.Kinds.{segmentBehind}
-use Rattle.demand.proofs.Laid.{entry, first, Behind, fits, Laid}
+use Rattle.demand.proofs.Following.{entry, first, Behind, Ordered, Following}
 use Rattle.demand.proofs.ListLaws.{getD-map-lt}
 
 -- ---- one segment's units
@@ -71,12 +71,12 @@ segment-is i (ks ∷ kss) k d h = go (λ j w. segment-is (suc i) kss j d w) (ltb
         ap (λ (j : ℕ). (getD (map (entry i) ks ++ stacked (suc i) kss) j d) .segment) n ∙ ap (λ (z : Entry). z .segment) x ∙ ih ∙ omega arith
 
 -- b and b′: the unit and the entry before
-fits-map : (i : ℕ) (ks : List Kind) (b : Option Kind) (b′ : Option Entry) (rest : List Entry) → ((k : Kind) → b ≡ some k → b′ ≡ some (entry i k))
-    → proper b ks → ((c : Option Entry) → fits c rest) → fits b′ (map (entry i) ks ++ rest)
-unfolding proper fits
-fits-map i [] b b′ rest l p h = h b′
-fits-map i (k ∷ ks) b b′ rest l p h =
-    (behind k (p .0), fits-map i ks (some k) (some (entry i k)) rest (λ k′ e. ap (λ (x : Option Kind). lift x) e) (p .1) h)
+ordered-map : (i : ℕ) (ks : List Kind) (b : Option Kind) (b′ : Option Entry) (rest : List Entry) → ((k : Kind) → b ≡ some k → b′ ≡ some (entry i k))
+    → proper b ks → ((c : Option Entry) → Ordered c rest) → Ordered b′ (map (entry i) ks ++ rest)
+unfolding proper Ordered
+ordered-map i [] b b′ rest l p h = h b′
+ordered-map i (k ∷ ks) b b′ rest l p h =
+    (behind k (p .0), ordered-map i ks (some k) (some (entry i k)) rest (λ k′ e. ap (λ (x : Option Kind). lift x) e) (p .1) h)
   where
     lift : Option Kind → Option Entry
     lift none = none
@@ -88,20 +88,20 @@ fits-map i (k ∷ ks) b b′ rest l p h =
     behind Show (inl n) = inl (l Golden n)
     behind Show (inr n) = inr (l Show n)
 
-fits-stacked : (i : ℕ) (kss : List (List Kind)) → Every (proper none) kss → (b : Option Entry) → fits b (stacked i kss)
-unfolding stacked fits
-fits-stacked i [] nothing b = tt
-fits-stacked i (ks ∷ kss) (also p ps) b =
-    fits-map i ks none b (stacked (suc i) kss) (λ k e. let z : _≡_ {A = ℕ} 0 1 = cc in absurd (omega arith)) p (fits-stacked (suc i) kss ps)
+ordered-stacked : (i : ℕ) (kss : List (List Kind)) → Every (proper none) kss → (b : Option Entry) → Ordered b (stacked i kss)
+unfolding stacked Ordered
+ordered-stacked i [] nothing b = tt
+ordered-stacked i (ks ∷ kss) (also p ps) b =
+    ordered-map i ks none b (stacked (suc i) kss) (λ k e. let z : _≡_ {A = ℕ} 0 1 = cc in absurd (omega arith)) p (ordered-stacked (suc i) kss ps)
 
 -- segments of proper units are laid
-pub laid-stacked : (kss : List (List Kind)) → Every (proper none) kss → Laid (lengths kss) (stacked 0 kss)
+pub laid-stacked : (kss : List (List Kind)) → Every (proper none) kss → Following (lengths kss) (stacked 0 kss)
 laid-stacked kss ps =
     let n = length-stacked 0 kss in
     record {
       within = omega arith;
       segments = λ k h. segment-is 0 kss k first (omega arith) ∙ omega arith;
-      order = fits-stacked 0 kss ps none;
+      order = ordered-stacked 0 kss ps none;
     }
 
 -- ---- blocks are proper
@@ -142,7 +142,7 @@ unfolding layout stacked
 layout-stacked gop i [] = refl
 layout-stacked gop i (n ∷ ns) = rw (layout-stacked gop (suc i) ns)
 
-pub laid-layout : (gop : ℕ) (ns : List ℕ) → 1 ≤ gop → Laid ns (layout gop 0 ns)
-laid-layout gop ns g =
-    subst (λ (l : List ℕ). Laid l (layout gop 0 ns)) (lengths-kinds gop ns g)
+pub following-layout : (gop : ℕ) (ns : List ℕ) → 1 ≤ gop → Following ns (layout gop 0 ns)
+following-layout gop ns g =
+    subst (λ (l : List ℕ). Following l (layout gop 0 ns)) (lengths-kinds gop ns g)
     (rw (layout-stacked gop 0 ns) (laid-stacked (map (kinds gop) ns) (proper-kinds gop ns)))

@@ -1,7 +1,7 @@
--- Calls of the running player, as its contract gives them, are a course; and what the running code hands out is what demand 3 has to be shown.
+-- Calls of the running player, as its contract gives them, are a course, and answer what demand 3 claims; so do the numbers that the running code hands out.
 use Prim.Native.Nat.{ℕ, zero, suc, _+_, _-_, _≤_, _<_}
 use native.Mathlib.Omega.{arith}
-use mathlib.Core.Path.{_≡_, ap, subst, _∙_}
+use mathlib.Core.Path.{_≡_, refl, sym, ap, subst, _∙_}
 use mathlib.Core.List.{List, [], _∷_, List·Memᴰ}
 use mathlib.Core.Option.{Option, none, some}
 use lib.ListN.{length, getD, drop, length-drop}
@@ -13,7 +13,7 @@ use Rattle.pictures.specs.Segments.{Segment}
 use Rattle.pictures.specs.declared.settings.Settings.{Settings}
 use Rattle.player.specs.Player.{State, start, Played, play, leaves}
 use Rattle.player.specs.Code.{shows, keptBehind, stateSays, startState, playedOn, playedBy}
-use Rattle.player.specs.declared.slots.Answer.the-variants.{Refused}
+use Rattle.player.specs.declared.slots.Answer.the-variants.{Shown, Refused}
 use Rattle.player.specs.declared.step.State.{State as CodeState}
 use Rattle.player.proofs.StepLaws.{leaves-so}
 use Rattle.demand.specs.Kinds.{unitAt}
@@ -22,10 +22,20 @@ use Rattle.demand.specs.Demand.{Given, PlaysRight, ReadBack, Demand}
 use Rattle.playback.specs.Shown.{shownNumber, shownFrom, shownBy}
 use Rattle.playback.proofs.ShownLaws.{shown-length}
 
+-- From the state st, the player is called with the units us in order, as Course has them played, and with others, refused, between.
+-- Each call is handed the state that the one before it left.
 pub data Calls : CodeState → ℕ → List (List ℕ) → Type 0 where
   over : {st : CodeState} {p : ℕ} → Calls st p []
   call : {st : CodeState} {p : ℕ} {u : List ℕ} {us : List (List ℕ)} → Calls (playedBy st p u .state) (suc p) us → Calls st p (u ∷ us)
   other : {st : CodeState} {p : ℕ} {us : List (List ℕ)} (q : ℕ) (v : List ℕ) (n : ℕ) → playedBy st q v .answer ≡ Refused n → Calls (playedBy st q v .state) p us → Calls st p us
+
+-- P holds of the call with each unit of the list: of its position, the state that it is handed, and the unit
+unfoldable pub EachCall : (ℕ → CodeState → List ℕ → Type 0) → {st : CodeState} {p : ℕ} {us : List (List ℕ)} → Calls st p us → Type 0
+EachCall P over = Unit
+EachCall P (call {st} {p} {u} k) = (P p st u) × (EachCall P k)
+EachCall P (other q v n e k) = EachCall P k
+
+-- ---- calls are a course
 
 pub refused-so : (st : CodeState) (p : ℕ) (u : List ℕ) (n : ℕ) → playedBy st p u .answer ≡ Refused n → play (stateSays st) p u ≡ refused n
 unfolding playedBy
@@ -39,15 +49,49 @@ refused-so st p u n e = go (play (stateSays st) p u) e
     go (refused k) e = let i : k ≡ n = cc in ap (λ y. refused y) i
     go (accepted r) e = no r (r .shown) e
 
-pub course-of : {st : CodeState} {p : ℕ} {us : List (List ℕ)} → Calls st p us → Course (stateSays st) p us
-course-of over = done
-course-of (call {st} {p} {u} {us} k) = plays (subst (λ s. Course s (suc p) us) (leaves-so st p u) (course-of k))
-course-of (other {st} {p} {us} q v n e k) = noise q v n (refused-so st q v n e) (subst (λ s. Course s p us) (leaves-so st q v) (course-of k))
+-- what a call leaves, from a state s that st says
+left-so : (s : State) (st : CodeState) → s ≡ stateSays st → (p : ℕ) (u : List ℕ) → leaves s (play s p u) ≡ stateSays (playedBy st p u .state)
+left-so s st i p u = ap (λ (t : State). leaves t (play t p u)) i ∙ sym (leaves-so st p u)
 
--- demand 3's last part, of calls
+course-from : (s : State) {st : CodeState} {p : ℕ} {us : List (List ℕ)} → s ≡ stateSays st → Calls st p us → Course s p us
+course-from s i over = done
+course-from s i (call {st} {p} {u} k) = plays (course-from _ (left-so s st i p u) k)
+course-from s i (other {st} q v n e k) = let r : play s q v ≡ refused n = ap (λ (t : State). play t q v) i ∙ refused-so st q v n e in noise {st = s} q v n (cc) (course-from _ (left-so s st i q v) k)
+
+pub course-of : {st : CodeState} {p : ℕ} {us : List (List ℕ)} → Calls st p us → Course (stateSays st) p us
+course-of {st} calls = course-from (stateSays st) refl calls
+
+-- ---- what the calls answer
+
+-- the call with the unit u under position p, handed the state st, plays right, and answers the position that demand 3 names: Shown, never a refusal
+pub record AnswersRight (set : Settings) (q : Sequence) (xs : List Segment) (us : List (List ℕ)) (cue p : ℕ) (st : CodeState) (u : List ℕ) : Type 0 where
+  pub right : PlaysRight set q xs us cue p (stateSays st)
+  pub answer : playedBy st p u .answer ≡ Shown (right .shown)
+
+module _ (set : Settings) (q : Sequence) (xs : List Segment) (us : List (List ℕ)) (cue : ℕ) where
+  answers-right : {p : ℕ} (st : CodeState) (u : List ℕ) → u ≡ unitAt us p → PlaysRight set q xs us cue p (stateSays st) → AnswersRight set q xs us cue p st u
+  unfolding playedBy
+  answers-right {p} st u i w =
+      let e = ap (λ (v : List ℕ). play (stateSays st) p v) i ∙ w .answer in
+      record { right = w; answer = ap (λ (x : Answer Played). playedOn st (keptBehind (st .kept) u .kept) x .answer) e }
+
+  each-right : (s : State) {st : CodeState} {p : ℕ} {vs : List (List ℕ)} (i : s ≡ stateSays st) (calls : Calls st p vs)
+      → ((j : ℕ) → j < length vs → getD vs j [] ≡ unitAt us (p + j))
+      → Throughout (λ p st. PlaysRight set q xs us cue p st) (course-from s i calls) → EachCall (λ p st u. AnswersRight set q xs us cue p st u) calls
+  unfolding course-from Throughout EachCall
+  each-right s i over units t = tt
+  each-right s i (call {st} {p} {u} {us = vs} k) units t = (
+    answers-right st u (units 0 (omega arith) ∙ ap (unitAt us) (omega arith)) (subst (λ (s : State). PlaysRight set q xs us cue p s) i (t .0)),
+    each-right _ (left-so s st i p u) k (λ j h. units (suc j) (omega arith) ∙ ap (unitAt us) (omega arith)) (t .1),
+  )
+  each-right s i (other {st} o v n e k) units t = each-right _ (left-so s st i o v) k units t
+
+-- demand 3's last part, of the running player: from a cue on, whatever refused calls lie between, the call with each unit read back answers right
 pub called : {set : Settings} {xs : List Segment} {es : List Entry} {n : ℕ} {g : Given} (d : Demand set xs es n g) (us : List (List ℕ)) → ReadBack (g .units) us → (cue : ℕ) → List·Memᴰ cue (g .cues)
-    → (calls : Calls startState cue (drop (cue - 1) us)) → Throughout (λ p st. PlaysRight set (d .header) xs us cue p st) (course-of calls)
-called d us w cue m calls = d .played us w cue m (course-of calls)
+    → (calls : Calls startState cue (drop (cue - 1) us)) → EachCall (λ p st u. AnswersRight set (d .header) xs us cue p st u) calls
+called {set} {xs} d us w cue m calls =
+    let (lo, hi, k) = d .exactly cue .0 m in
+    each-right set (d .header) xs us cue start refl calls (λ j h. getD-drop (cue - 1) us j [] ∙ ap (λ (i : ℕ). getD us i []) (omega arith)) (d .played us w cue m (course-from start refl calls))
 
 -- ---- what the running code hands out: `shownBy`
 

@@ -22,11 +22,10 @@ use Rattle.player.specs.Player.{start}
 use Rattle.demand.specs.Premises.{Premise, Formed, Premises, InFields}
 use Rattle.demand.specs.Courses.{Course, Throughout}
 use Rattle.demand.specs.Demand.{Given, handed, front, PlaysRight, ReadBack, Demand, Demand3}
-use Rattle.demand.proofs.Laid.{Laid, laid-take}
-use Rattle.demand.proofs.BlockLaws.{laid-layout}
+use Rattle.demand.proofs.Following.{Following, following-take}
+use Rattle.demand.proofs.BlockLaws.{following-layout}
 use Rattle.demand.proofs.ListLaws.{map-take}
-use Rattle.demand.proofs.HandedLaws.{unitBy, givenOut, Within, picture-short}
-use Rattle.demand.proofs.GivenLaws.{laid, numbersFrom, given}
+use Rattle.demand.proofs.HandedLaws.{unitBy, givenOut, UnitsWithin, picture-short}
 use Rattle.container.proofs.LentLaws.{lent-write}
 use Rattle.demand.proofs.UnitLaws.{whole}
 use Rattle.demand.proofs.AssembleLaws.{Boards, Made, out, accepts}
@@ -38,16 +37,16 @@ all-whole s (also {a = u} w ws) = also (whole s u w) (all-whole s ws)
 
 -- ---- of any blocks
 
-module _ (set : Settings) (xs : List Segment) (m : Boards set xs) (short : Within limit (m .prepared)) (es : List Entry) (fit : Laid (framesOf xs) es) where
+module _ (set : Settings) (xs : List Segment) (m : Boards set xs) (short : UnitsWithin limit (m .prepared)) (es : List Entry) (follows : Following (framesOf xs) es) where
   abbrev vs : List (List ℕ)
   vs = map (unitBy (m .prepared)) es
 
   wholes : Every Whole vs
-  wholes = all-whole (m .payload) (all-units set xs m short es fit)
+  wholes = all-whole (m .payload) (all-units set xs m short es follows)
 
   module _ (some : 1 ≤ length es) where
     some-units : 0 < length vs
-    some-units = omega (arith, length-units set xs m short es fit)
+    some-units = omega (arith, length-units set xs m short es follows)
 
     -- what was written reads back as the list's units
     same-units : (c : Container) (room room′ : Room) (bs : List ℕ) (us : List (List ℕ)) → write c room vs ≡ accepted bs → read c room′ bs ≡ accepted us → us ≡ vs
@@ -61,29 +60,29 @@ module _ (set : Settings) (xs : List Segment) (m : Boards set xs) (short : Withi
         record {
           header = m .first;
           reads = m .first-is;
-          starts = starts set xs m short es fit some;
-          carries = carries set xs m short es fit;
+          starts = starts set xs m short es follows some;
+          carries = carries set xs m short es follows;
           entries = refl;
-          count = length-units set xs m short es fit;
-          units = listed set xs m short es fit;
+          count = length-units set xs m short es follows;
+          units = listed set xs m short es follows;
           lent = λ c room. lent-write c room vs;
           writing = λ c room n w. rw w at (carried vs wholes some-units c room room);
           reading = λ c room room′ bs w n r. rw r at (rw w at (carried vs wholes some-units c room room′));
           back = back;
-          cues = cue-is set xs m short es fit;
-          exactly = exactly set xs m short es fit;
-          rising = rising set xs m short es fit;
+          cues = cue-is set xs m short es follows;
+          exactly = exactly set xs m short es follows;
+          rising = rising set xs m short es follows;
           played = λ us w cue k.
               subst (λ (vs : List (List ℕ)). (course : Course start cue (drop (cue - 1) vs)) → Throughout (λ p st. PlaysRight set (m .first) xs vs cue p st) course)
-              (sym (back us w)) (played set xs m short es fit cue k);
+              (sym (back us w)) (played set xs m short es follows cue k);
         }
 
 -- and of the first of them, as many as have been given
-pub demand-front : (set : Settings) (xs : List Segment) (m : Boards set xs) (short : Within limit (m .prepared)) (es : List Entry) (fit : Laid (framesOf xs) es)
+pub demand-front : (set : Settings) (xs : List Segment) (m : Boards set xs) (short : UnitsWithin limit (m .prepared)) (es : List Entry) (follows : Following (framesOf xs) es)
     → (n : ℕ) → 1 ≤ n → n ≤ length es → Demand set xs (take n es) n (front n (givenOut (m .prepared) es))
-demand-front set xs m short es fit n lo hi =
+demand-front set xs m short es follows n lo hi =
     let k : length (take n es) ≡ n = length-take-le n es hi in
-    let d = demand set xs m short (take n es) (laid-take fit n) (omega arith) in
+    let d = demand set xs m short (take n es) (following-take follows n) (omega arith) in
     rw (map-take number n es, map-take (unitBy (m .prepared)) n es, k) at d
 
 -- ---- of what assembly hands out
@@ -92,24 +91,24 @@ module _ (set : Settings) (xs : List Segment) (m : Made set xs) (small : length 
   abbrev es : List Entry
   es = layout (set .gop) 0 (framesOf xs)
 
-  short : Within limit (m .boards .prepared)
+  short : UnitsWithin limit (m .boards .prepared)
   short = picture-short (m .boards .prepared) limit small
 
-  laid-here : Laid (framesOf xs) es
-  laid-here = laid-layout (set .gop) (framesOf xs) (omega (arith, m .gop-two))
+  follows-here : Following (framesOf xs) es
+  follows-here = following-layout (set .gop) (framesOf xs) (omega (arith, m .gop-two))
 
   size : length es ≡ total (framesOf xs)
   size = length-layout (set .gop) 0 (framesOf xs) (omega (arith, m .gop-two))
 
   given-is : givenOut (m .boards .prepared) es ≡ handed (out m)
   unfolding unitsOf
-  given-is = rw (named-units set xs (m .boards) short es laid-here)
+  given-is = rw (named-units set xs (m .boards) short es follows-here)
 
   whole-list : Demand3 set xs (out m)
-  whole-list = rw (given-is, size) at (demand set xs (m .boards) short es laid-here (omega (arith, size, m .total-two)))
+  whole-list = rw (given-is, size) at (demand set xs (m .boards) short es follows-here (omega (arith, size, m .total-two)))
 
   first-units : (n : ℕ) → 1 ≤ n → n ≤ total (framesOf xs) → Demand set xs (take n es) n (front n (handed (out m)))
-  first-units n lo hi = subst (λ (g : Given). Demand set xs (take n es) n (front n g)) given-is (demand-front set xs (m .boards) short es laid-here n lo (omega (arith, size)))
+  first-units n lo hi = subst (λ (g : Given). Demand set xs (take n es) n (front n g)) given-is (demand-front set xs (m .boards) short es follows-here n lo (omega (arith, size)))
 
 -- For all picture bytes and numbers that give the segments xs, whose keys and goldens are in the form that demand 3 asks for, all rooms and all settings:
 -- if assembly accepts and hands out r, then all that demand 3 claims holds of r. A decoder model may be there.
@@ -133,7 +132,3 @@ pub demand3 : (room : OutputRoom) (set : Settings) (picture numbers : List ℕ) 
     → assemble room set picture numbers ≡ made r
     → Demand3 set xs r
 demand3 room set picture numbers xs r fields segments premises = demand3-formed room set picture numbers xs r fields segments (premises .formed)
-
--- So any segments can be given: their units laid one behind the other, and their numbers.
-pub demand3-laid : (room : OutputRoom) (set : Settings) (xs : List Segment) (r : Output) → InFields set → Premises xs → assemble room set (laid xs) (numbersFrom 0 xs) ≡ made r → Demand3 set xs r
-demand3-laid room set xs r fields premises accepts-it = demand3 room set (laid xs) (numbersFrom 0 xs) xs r fields (given xs) premises accepts-it

@@ -33,8 +33,8 @@ abbrev pub givenOut : List Prepared → List Entry → Given
 givenOut bs es = record { list = map number es; cues = cuesOf (map number es); units = map (unitBy bs) es }
 
 -- each segment's units are within n bytes
-abbrev pub Within : ℕ → List Prepared → Type 0
-Within n bs = (i : ℕ) → i < length bs → (length ((getD bs i noUnits) .key) ≤ n) × (length ((getD bs i noUnits) .golden) ≤ n)
+abbrev pub UnitsWithin : ℕ → List Prepared → Type 0
+UnitsWithin n bs = (i : ℕ) → i < length bs → (length ((getD bs i noUnits) .key) ≤ n) × (length ((getD bs i noUnits) .golden) ≤ n)
 
 -- a part in the middle
 pub part-mid : (f m r : List ℕ) → part (f ++ (m ++ r)) (length f) (length f + length m) ≡ m
@@ -102,7 +102,7 @@ named-is bs e h = rw (number-kind e, number-segment e) (go (e .kind))
     go Show = let n : 0 + 5 * (e .segment) ≡ 5 * (e .segment) = omega arith in rw n at (show-there [] bs (e .segment) h)
 
 -- each unit is within the picture bytes
-pub picture-short : (bs : List Prepared) (n : ℕ) → length (pictureOf bs) ≤ n → Within n bs
+pub picture-short : (bs : List Prepared) (n : ℕ) → length (pictureOf bs) ≤ n → UnitsWithin n bs
 unfolding flatMap
 picture-short [] n l i h = absurd (omega arith)
 picture-short (b ∷ bs) n l zero h =

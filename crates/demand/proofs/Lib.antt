@@ -1,8 +1,7 @@
 pub mod ListLaws
-pub mod Laid
+pub mod Following
 pub mod BlockLaws
 pub mod HandedLaws
-pub mod GivenLaws
 pub mod HeaderLaws
 pub mod PlayerLaws
 pub mod UnitLaws

@@ -22,7 +22,7 @@ use Rattle.pictures.specs.Prepare.{isSequence, lowest}
 use Rattle.frame.specs.UnitFrame.{framePayload, isFrame}
 use Rattle.player.specs.Player.{empty, refresh, Shown, act, State, keepAs, keep, play}
 use Rattle.player.specs.declared.slots.Slot.{Slot}
-use Rattle.demand.specs.Premises.{Same}
+use Rattle.demand.specs.Premises.{SequenceIs}
 
 pub length-refresh : (flags : ℕ) (new : Slot) (ss : List Slot) → length (refresh flags new ss) ≡ length ss
 unfolding refresh
@@ -55,7 +55,7 @@ module _ (s : List ℕ) (q : Sequence) (read : parseSequence s ≡ accepted q) (
   supported = rw (read, fine)
 
   -- a unit whose sequence payloads are all s leaves its header
-  pub keep-same : {os : List Obu} → Every (Same s) os → keep (some q) os ≡ accepted (some q)
+  pub keep-same : {os : List Obu} → Every (SequenceIs s) os → keep (some q) os ≡ accepted (some q)
   unfolding keepAs andNext
   keep-same nothing = refl
   keep-same (also {a = o} {l = os} e es) = go (isSequence o) e (keep-same es)
@@ -65,7 +65,7 @@ module _ (s : List ℕ) (q : Sequence) (read : parseSequence s ≡ accepted q) (
       go true w ih = rw (w refl, supported) ih
       go false w ih = ih
 
-  pub keep-first : (k : Option Sequence) {os : List Obu} → Every (Same s) os → has isSequence os ≡ true → keep k os ≡ accepted (some q)
+  pub keep-first : (k : Option Sequence) {os : List Obu} → Every (SequenceIs s) os → has isSequence os ≡ true → keep k os ≡ accepted (some q)
   unfolding keepAs andNext has
   keep-first k nothing h = let z : _≡_ {A = ℕ} 0 1 = cc in absurd (omega arith)
   keep-first k (also {a = o} {l = os} e es) h = go (isSequence o) e h (λ w. keep-first k es w)

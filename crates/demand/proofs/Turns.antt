@@ -27,23 +27,22 @@ use Rattle.frame.specs.UnitFrame.{unitFrame}
 use Rattle.player.specs.Player.{empty, filled, refresh, State, start, play, leaves}
 use Rattle.player.specs.declared.slots.Slot.{Slot}
 use Rattle.demand.specs.Kinds.{unitKind, saysKey, isKeyUnit, unitAt, segmentOf}
-use Rattle.demand.specs.Premises.{firstSequence, Premise}
+use Rattle.demand.specs.Premises.{sequencePayload, Premise}
 use Rattle.demand.specs.Courses.{Course, done, plays, noise, Throughout}
 use Rattle.demand.specs.Demand.{Rising, noSegment, IsUnit, Listed, PlaysRight}
-use Rattle.demand.proofs.Laid.{entry, first, Laid, first-key, segment-in, Since, show-led}
+use Rattle.demand.proofs.Following.{entry, first, Following, first-key, segment-in, Since, show-led}
 use Rattle.demand.proofs.ListLaws.{getD-map-lt, map-both, isKey, positions-map, positions-ext, positions-pass, pass-positions, Passes, positions-rising, cues-are, every-from}
-use Rattle.demand.proofs.HandedLaws.{noUnits, unitOf, unitBy, Within, named-is}
+use Rattle.demand.proofs.HandedLaws.{noUnits, unitOf, unitBy, UnitsWithin, named-is}
 use Rattle.demand.proofs.HeaderLaws.{flags-byte, shown-showable, show-frame}
-use Rattle.demand.proofs.PlayerLaws.{length-refresh, hit, keep-same, keep-first, sole-is, play-is}
+use Rattle.demand.proofs.PlayerLaws.{length-refresh, hit, keep-same, keep-first, play-is}
 use Rattle.demand.proofs.UnitLaws.{first-same, show-unit, show-payload}
-use Rattle.demand.proofs.AssembleLaws.{Says, Paired, matches-length, matches-at, Boards}
+use Rattle.demand.proofs.AssembleLaws.{FrameSays, Paired, frame-is, matches-length, matches-at, Boards}
 
 -- ---- one segment's units
 
 -- what a unit's bytes say
-says-frame : {q : Sequence} {s u : List ℕ} {x : FrameHeaderInfo} → Says q s u x → unitFrame true q u ≡ accepted x
-unfolding unitFrame andNext
-says-frame w = rw (w .unit .written .reads, sole-is true (w .unit .held) (w .unit .single), w .reads)
+says-frame : {q : Sequence} {s u : List ℕ} {x : FrameHeaderInfo} → FrameSays q s u x → unitFrame true q u ≡ accepted x
+says-frame {q} {s} {u} {x} w = frame-is q s u x (w .unit) (w .reads)
 
 module _ {q : Sequence} {new : Option (List ℕ)} {s : List ℕ} {x : Segment} {b : Prepared} (ok : Paired q new s x b) where
   flags-small : ok .info .«refresh_frame_flags» < 256
@@ -52,7 +51,7 @@ module _ {q : Sequence} {new : Option (List ℕ)} {s : List ℕ} {x : Segment} {
   slot-small : b .slot < 8
   slot-small = rw (ok .slot-is) (hit (ok .info .«refresh_frame_flags») empty (replicate 8 empty) (ok .some-slot) flags-small .within)
 
-  show-says : support (q .header) ≡ accepted tt → Says q s (showUnit (b .slot)) (Existing (b .slot))
+  show-says : support (q .header) ≡ accepted tt → FrameSays q s (showUnit (b .slot)) (Existing (b .slot))
   show-says f = record { unit = show-unit s (b .slot); reads = rw (show-payload s (b .slot)) (show-frame q f (b .slot) slot-small) }
 
   kind-says : support (q .header) ≡ accepted tt → (k : Kind) → unitKind q (unitOf k b) ≡ accepted k
@@ -151,7 +150,7 @@ key-says Show = refl
 -- ---- the list
 
 -- es: the entries, whatever their blocks
-module _ (set : Settings) (xs : List Segment) (m : Boards set xs) (short : Within limit (m .prepared)) (es : List Entry) (laid : Laid (framesOf xs) es) where
+module _ (set : Settings) (xs : List Segment) (m : Boards set xs) (short : UnitsWithin limit (m .prepared)) (es : List Entry) (follows : Following (framesOf xs) es) where
   abbrev q : Sequence
   q = effective set (m .first)
 
@@ -172,8 +171,8 @@ module _ (set : Settings) (xs : List Segment) (m : Boards set xs) (short : Withi
   abbrev E : ℕ → Entry
   E p = getD es (p - 1) first
 
-  abbrev unitsAt : ℕ → Prepared
-  unitsAt i = getD (m .prepared) i noUnits
+  abbrev segmentUnits : ℕ → Prepared
+  segmentUnits i = getD (m .prepared) i noUnits
 
   pub length-units : length us ≡ length es
   length-units = length-map es (unitBy (m .prepared))
@@ -186,33 +185,33 @@ module _ (set : Settings) (xs : List Segment) (m : Boards set xs) (short : Withi
     entry-is = getD-map-lt number es (p - 1) 0 first (omega arith)
 
     segment-here : (E p) .segment ≡ segmentOf ns p
-    segment-here = laid .segments (p - 1) (omega arith)
+    segment-here = follows .segments (p - 1) (omega arith)
 
     in-list : (E p) .segment < length (m .prepared)
-    in-list = omega (arith, segment-here, segment-in ns (p - 1) (omega (arith, laid .within)), length-prepared)
+    in-list = omega (arith, segment-here, segment-in ns (p - 1) (omega (arith, follows .within)), length-prepared)
 
-    unit-is : U p ≡ unitOf ((E p) .kind) (unitsAt ((E p) .segment))
+    unit-is : U p ≡ unitOf ((E p) .kind) (segmentUnits ((E p) .segment))
     unit-is = getD-map-lt (unitBy (m .prepared)) es (p - 1) [] first (omega arith)
 
-    ok : Paired q (renewal set (m .first)) (m .payload) (getD xs ((E p) .segment) noSegment) (unitsAt ((E p) .segment))
+    ok : Paired q (renewal set (m .first)) (m .payload) (getD xs ((E p) .segment) noSegment) (segmentUnits ((E p) .segment))
     ok = matches-at (m .pairs) ((E p) .segment) noSegment noUnits in-list
 
-    size-ok : (length ((unitsAt ((E p) .segment)) .key) ≤ limit) × (length ((unitsAt ((E p) .segment)) .golden) ≤ limit)
+    size-ok : (length ((segmentUnits ((E p) .segment)) .key) ≤ limit) × (length ((segmentUnits ((E p) .segment)) .golden) ≤ limit)
     size-ok = short ((E p) .segment) in-list
 
     kind-is : unitKind q (U p) ≡ accepted ((E p) .kind)
     kind-is = rw unit-is (kind-says ok (m .supported) ((E p) .kind))
 
-    unit-of : (k : Kind) → (E p) .kind ≡ k → U p ≡ unitOf k (unitsAt ((E p) .segment))
+    unit-of : (k : Kind) → (E p) .kind ≡ k → U p ≡ unitOf k (segmentUnits ((E p) .segment))
     unit-of k e = unit-is ∙ rw e
 
     led : (E p) .kind ≡ Show → (o : ℕ) × Since E ((E p) .segment) o p
     led w =
         let n : 1 + (p - 1) ≡ p = omega arith in
-        rw n at (show-led E es 1 (laid .order) (λ k b. ap (λ (j : ℕ). getD es j first) (omega arith)) (p - 1) (omega arith) (rw n w))
+        rw n at (show-led E es 1 (follows .order) (λ k b. ap (λ (j : ℕ). getD es j first) (omega arith)) (p - 1) (omega arith) (rw n w))
 
     -- the unit as part 1 has it
-    is-unit : (k : Kind) → IsUnit set (m .first) k (getD xs ((E p) .segment) noSegment) (unitOf k (unitsAt ((E p) .segment)))
+    is-unit : (k : Kind) → IsUnit set (m .first) k (getD xs ((E p) .segment) noSegment) (unitOf k (segmentUnits ((E p) .segment)))
     is-unit Key = ok .key-sent
     is-unit Golden = ok .golden-sent
     is-unit Show = (ok .info, ok .golden-frame, ap showUnit (ok .slot-is))
@@ -275,17 +274,17 @@ module _ (set : Settings) (xs : List Segment) (m : Boards set xs) (short : Withi
 
   -- position 1 is a cue
   pub starts : 1 ≤ length es → List·Memᴰ 1 cues
-  starts h = exactly 1 .1 (omega arith, h, kind-is 1 (omega arith) h ∙ ap accepted (first-key es (laid .order)))
+  starts h = exactly 1 .1 (omega arith, h, kind-is 1 (omega arith) h ∙ ap accepted (first-key es (follows .order)))
 
   -- a cue's unit has the list's sequence header
-  pub carries : (c : ℕ) → List·Memᴰ c cues → parseSequence (firstSequence (U c)) ≡ accepted q
+  pub carries : (c : ℕ) → List·Memᴰ c cues → parseSequence (sequencePayload (U c)) ≡ accepted q
   carries c k =
       let w = key-at c k in
       let hi : c ≤ length es = omega (arith, w .high) in
       let u = unit-of c (w .low) hi Key (is-key ((E c) .kind) (w .holds)) in
       let b = ok c (w .low) hi in
       let v = b .key .unit in
-      ap (λ (x : List ℕ). parseSequence (firstSequence x)) u
+      ap (λ (x : List ℕ). parseSequence (sequencePayload x)) u
       ∙ ap (λ x. parseSequence (ofUnit [] (firstPayload isSequence) x)) (v .written .reads)
       ∙ ap parseSequence (first-same (m .payload) (v .same) (b .key-header))
       ∙ m .read
@@ -300,7 +299,7 @@ module _ (set : Settings) (xs : List Segment) (m : Boards set xs) (short : Withi
     from : c ≤ p
     size : length (st .slots) ≡ 8
     kept : c < p → st .kept ≡ some q
-    held : (i o : ℕ) → c ≤ o → Since E i o p → getD (st .slots) ((unitsAt i) .slot) empty ≡ filled o true false
+    held : (i o : ℕ) → c ≤ o → Since E i o p → getD (st .slots) ((segmentUnits i) .slot) empty ≡ filled o true false
 
   record Turn (c p : ℕ) (st : State) : Type 0 where
     right : PlaysRight set (m .first) xs us c p st
@@ -390,7 +389,7 @@ module _ (set : Settings) (xs : List Segment) (m : Boards set xs) (short : Withi
             after = _;
             answer = ap (λ (v : List ℕ). play st p v) u ∙ (play-show b (m .read) (m .supported) st p o (inv .kept (later Show refl k)) held);
             right = record {
-              slot = (unitsAt ((E p) .segment)) .slot;
+              slot = (segmentUnits ((E p) .segment)) .slot;
               names = rw u (says-frame (show-says b (m .supported)));
               keyMark = false;
               holds = held;
@@ -403,7 +402,7 @@ module _ (set : Settings) (xs : List Segment) (m : Boards set xs) (short : Withi
                   omega arith;
               behind = behind;
               among = sym (segment-here o lo-o hi-o) ∙ ap (λ (x : Entry). x .segment) (s .golden) ∙ here;
-              own = rw here at (b .golden-sent) ∙ ap accepted (sym (unit-is o lo-o hi-o ∙ ap (λ (x : Entry). unitOf (x .kind) (unitsAt (x .segment))) (s .golden) ∙ ap (λ (j : ℕ). (unitsAt j) .golden) here));
+              own = rw here at (b .golden-sent) ∙ ap accepted (sym (unit-is o lo-o hi-o ∙ ap (λ (x : Entry). unitOf (x .kind) (segmentUnits (x .segment))) (s .golden) ∙ ap (λ (j : ℕ). (segmentUnits j) .golden) here));
             };
           };
           next = record {

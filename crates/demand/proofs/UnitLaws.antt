@@ -21,7 +21,7 @@ use Rattle.container.specs.Stream.{isDelimiter}
 use Rattle.container.proofs.StreamLaws.{leads}
 use Rattle.container.proofs.RoundTrip.{Whole}
 use Rattle.pictures.specs.Prepare.{isSequence, firstOf, renewed, sent, showByte, showUnit}
-use Rattle.demand.specs.Premises.{Delimited, Same, Premise}
+use Rattle.demand.specs.Premises.{Delimited, SequenceIs, Premise}
 
 -- ---- the first OBU of a kind
 
@@ -39,7 +39,7 @@ first-is n pass (x ∷ os) o e = go (pass x) refl e (λ w. first-is n pass os o 
     go false w e ih = let r = ih e in record { there = rw w (r .there); payload = rw w (r .payload) }
 
 -- the first sequence payload, where all are s
-pub first-same : (s : List ℕ) {os : List Obu} → Every (Same s) os → has isSequence os ≡ true → firstPayload isSequence os ≡ s
+pub first-same : (s : List ℕ) {os : List Obu} → Every (SequenceIs s) os → has isSequence os ≡ true → firstPayload isSequence os ≡ s
 unfolding has firstPayload
 first-same s nothing h = let z : _≡_ {A = ℕ} 0 1 = cc in absurd (omega arith)
 first-same s (also {a = o} {l = os} e es) h = go (isSequence o) e h (λ w. first-same s es w)
@@ -76,7 +76,7 @@ module _ (new : List ℕ) where
   frame-renewed [] = refl
   frame-renewed (o ∷ os) = rw (frame-renewed os) (pick-frame o (firstPayload isFrame os))
 
-  same-renewed : (os : List Obu) → Every (Same new) (map (renewed new) os)
+  same-renewed : (os : List Obu) → Every (SequenceIs new) (map (renewed new) os)
   same-renewed [] = nothing
   same-renewed (o ∷ os) = also {a = renewed new o} (λ e. rw e) (same-renewed os)
 
@@ -93,12 +93,12 @@ module _ (new : List ℕ) where
       go false s = s
 
   -- OBUs without a sequence header
-  same-none : (os : List Obu) → has isSequence os ≡ false → Every (Same new) os
+  same-none : (os : List Obu) → has isSequence os ≡ false → Every (SequenceIs new) os
   unfolding has
   same-none [] e = nothing
   same-none (o ∷ os) e = go (isSequence o) refl e (λ w. same-none os w)
     where
-      go : (t : Bool) → isSequence o ≡ t → (t || has isSequence os) ≡ false → (has isSequence os ≡ false → Every (Same new) os) → Every (Same new) (o ∷ os)
+      go : (t : Bool) → isSequence o ≡ t → (t || has isSequence os) ≡ false → (has isSequence os ≡ false → Every (SequenceIs new) os) → Every (SequenceIs new) (o ∷ os)
       go true w e ih = let z : _≡_ {A = ℕ} 0 1 = cc in absurd (omega arith)
       go false w e ih = also {a = o} (λ (k : isSequence o ≡ true). let v : true ≡ false = sym k ∙ w in let z : _≡_ {A = ℕ} 0 1 = cc in absurd (omega arith)) (ih e)
 
@@ -121,7 +121,7 @@ pub record Out (s : List ℕ) (os : List Obu) (v : List ℕ) : Type 0 where
 
 module _ (s u v : List ℕ) (w : Premise s u) where
   -- nothing was changed
-  copied : (t : List ℕ) → Every (Same t) (w .held) → u ≡ v → Out t (w .held) v
+  copied : (t : List ℕ) → Every (SequenceIs t) (w .held) → u ≡ v → Out t (w .held) v
   copied t k e =
       rw (← e)
       (record { unit = record { held = w .held; written = w .written; delimited = w .delimited; single = w .single; same = k }; frame = refl; header = refl })

@@ -22,7 +22,7 @@ use Rattle.player.proofs.StepLaws.{link}
 use Rattle.player.specs.Player.{start}
 use Rattle.demand.specs.Premises.{Formed, InFields}
 use Rattle.demand.specs.Demand.{PlaysRight, ReadBack, Demand3}
-use Rattle.playback.specs.Lent.{roomOf}
+use Rattle.playback.specs.Lent.{storeRoom}
 use Rattle.playback.specs.Gather.{gathered}
 use Rattle.playback.specs.Shown.{shownBy, fromCue}
 use Rattle.playback.specs.Way.{bytesRoom, PlayLent, written, carried, shown}
@@ -37,9 +37,9 @@ picked : {A : Type 0} (t : Bool) (x y : A) (n : ℕ) → pick t (accepted x) (re
 picked true x y n e = cc
 picked false x y n e = let z : _≡_ {A = ℕ} 0 1 = cc in absurd (omega arith)
 
-gathered-is : (vs : List (List ℕ)) (room : Room) (us : List (List ℕ)) → gathered vs room ≡ accepted us → vs ≡ us
+gathered-same : (vs : List (List ℕ)) (room : Room) (us : List (List ℕ)) → gathered vs room ≡ accepted us → vs ≡ us
 unfolding gathered
-gathered-is vs room us w = picked (fits (length (streamBytes vs)) (length vs) room) vs us 35 w
+gathered-same vs room us w = picked (fits (length (streamBytes vs)) (length vs) room) vs us 35 w
 
 from-is : (room cue : ℕ) (us : List (List ℕ)) (ls : List ℕ) → fromCue room cue us ≡ accepted ls → shownBy cue us ≡ ls
 from-is room cue us ls e = go (leb 1 cue && leb cue (length us)) e
@@ -58,8 +58,8 @@ way-is c vs cue d ls w =
         container = c;
         room = bytesRoom (length (d .carried .written .out));
         bytes = bs;
-        written = rw (gathered-is vs (roomOf (d .carried .written .units)) gs w₄) w₅;
-        room′ = roomOf (d .carried .back);
+        written = rw (gathered-same vs (storeRoom (d .carried .written .units)) gs w₄) w₅;
+        room′ = storeRoom (d .carried .back);
         readBack = w₃;
       },
       from-is (length (d .shown)) cue us ls w,
@@ -104,8 +104,8 @@ module _ (c : Container) (room : OutputRoom) (set : Settings) (picture numbers :
 same-made : {A : Type 0} (x y : A) → made x ≡ made y → x ≡ y
 same-made x y e = cc
 
-head-of : (d ls : List ℕ) (n : ℕ) → length ls ≡ n → take n (pasted d 0 ls) ≡ ls
-head-of d ls n e = let k : n ≡ 0 + length ls = omega arith in ap (λ (i : ℕ). take i (pasted d 0 ls)) k ∙ pasted-take-end d 0 ls (omega arith)
+shown-head : (d ls : List ℕ) (n : ℕ) → length ls ≡ n → take n (pasted d 0 ls) ≡ ls
+shown-head d ls n e = let k : n ≡ 0 + length ls = omega arith in ap (λ (i : ℕ). take i (pasted d 0 ls)) k ∙ pasted-take-end d 0 ls (omega arith)
 
 -- Where the running `walk` answers Positions n, the first n numbers in its last lent slice are right.
 pub walked-right : (c : Container) (cue : ℕ) (picture numbers : List ℕ) (set : Settings) (r : Walked) (l : Both Lent Lent) (d : Both PlayLent PlayLent)
@@ -116,6 +116,6 @@ walked-right c cue picture numbers set r l d w xs fields segments formed n is =
     link-made _ _ n (sym (w .answer) ∙ ap walkedSays is) (λ ls e e₁.
     link-made _ _ ls e (λ o e₂ e₃.
     let m : d .exit .shown ≡ pasted (d .entry .shown) 0 ls = ap (λ (y : PlayLent). y .shown) (w .way) ∙ rw (e₂, of-overall _ ls e₃) in
-    let h : take n (d .exit .shown) ≡ ls = ap (take n) m ∙ head-of (d .entry .shown) ls n (same-made (length ls) n e₁) in
+    let h : take n (d .exit .shown) ≡ ls = ap (take n) m ∙ shown-head (d .entry .shown) ls n (same-made (length ls) n e₁) in
     subst (λ (ns : List ℕ). WalksRight set xs (outcome picture numbers set (l .entry)) cue ns) (sym h)
     (walk-right c _ set picture numbers xs fields segments formed cue (d .entry) ls e)))

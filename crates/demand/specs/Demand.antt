@@ -23,7 +23,7 @@ use Rattle.pictures.specs.Assemble.{Output, unitsOf}
 use Rattle.frame.specs.UnitFrame.{unitFrame}
 use Rattle.player.specs.Player.{empty, filled, State, start, play}
 use Rattle.demand.specs.Kinds.{unitKind, isKeyUnit, unitAt, segmentOf}
-use Rattle.demand.specs.Premises.{firstSequence, listHeader}
+use Rattle.demand.specs.Premises.{sequencePayload, listHeader}
 use Rattle.demand.specs.Courses.{Course, Throughout}
 
 -- rising, the first at lo or above
@@ -132,7 +132,7 @@ pub record Demand (set : Settings) (xs : List Segment) (es : List Entry) (n : �
   pub header : Sequence
   pub reads : parseSequence (listHeader xs) ≡ accepted header
   pub starts : List·Memᴰ 1 (g .cues)
-  pub carries : (cue : ℕ) → List·Memᴰ cue (g .cues) → parseSequence (firstSequence (unitAt (g .units) cue)) ≡ accepted (effective set header)
+  pub carries : (cue : ℕ) → List·Memᴰ cue (g .cues) → parseSequence (sequencePayload (unitAt (g .units) cue)) ≡ accepted (effective set header)
   --
   -- 1. The entries are, segment after segment, what the blocks give; there are n units;
   --    each has the bytes of its segment's key or golden, copied or rewritten, or of the segment's own show unit.

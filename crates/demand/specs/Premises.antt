@@ -15,13 +15,13 @@ use Rattle.pictures.specs.Prepare.{isSequence}
 use Rattle.pictures.specs.declared.settings.Settings.{Settings}
 
 -- the first sequence payload of a unit
-abbrev pub firstSequence : List ℕ → List ℕ
-firstSequence u = ofUnit [] (firstPayload isSequence) (obus u)
+abbrev pub sequencePayload : List ℕ → List ℕ
+sequencePayload u = ofUnit [] (firstPayload isSequence) (obus u)
 
 -- 01, 'What demand 3 speaks of': the list's sequence header is that of the first key
 abbrev pub listHeader : List Segment → List ℕ
 listHeader [] = []
-listHeader (x ∷ xs) = firstSequence (x .key)
+listHeader (x ∷ xs) = sequencePayload (x .key)
 
 -- the first OBU is a temporal delimiter and no other is
 abbrev pub Delimited : List Obu → Type 0
@@ -29,8 +29,8 @@ Delimited [] = ⊥
 Delimited (o ∷ os) = (isDelimiter o ≡ true) × (count isDelimiter os ≡ 0)
 
 -- a sequence header's payload is s
-abbrev pub Same : List ℕ → Obu → Type 0
-Same s o = isSequence o ≡ true → o .payload ≡ s
+abbrev pub SequenceIs : List ℕ → Obu → Type 0
+SequenceIs s o = isSequence o ≡ true → o .payload ≡ s
 
 -- a unit u among the keys and goldens, s being the list's sequence header
 pub record Premise (s u : List ℕ) : Type 0 where
@@ -42,7 +42,7 @@ pub record Premise (s u : List ℕ) : Type 0 where
   -- 3. exactly one OBU is a frame
   pub single : count isFrame held ≡ 1
   -- 4. the payload of every sequence header OBU in it is s
-  pub same : Every (Same s) held
+  pub same : Every (SequenceIs s) held
 
 -- 1 to 4 of each key and golden
 pub record Formed (xs : List Segment) : Type 0 where

@@ -4,39 +4,39 @@ use native.Mathlib.Omega.{arith}
 use native.Mathlib.Numerals.{add-one}
 use mathlib.Core.Path.{_≡_, refl, sym, ap, ap₂, _∙_}
 use mathlib.Core.List.{List, [], _∷_, _++_}
-use mathlib.Core.Bool.{Bool, true, false, cond as pick, _||_, _&&_}
+use mathlib.Core.Bool.{Bool, true, false, cond as pick, _&&_}
 use lib.ListN.{length, getD, drop, set, length-append, length-map, length-set, drop-of-length-le}
 use lib.Seq.{drop-cons}
-use lib.Dec.{leb, ltb}
-use borrow.Author.Tests.{le-leb, leb-true, le-ltb, ltb-false}
+use lib.Dec.{leb}
+use borrow.Author.Tests.{lt-leb, leb-true, leb-false}
 use Rattle.bitio.specs.Limits.{limit}
 use Rattle.bitio.specs.Parse.{Answer, refused, accepted}
 use Rattle.bitio.specs.Lent.{pasted}
 use Rattle.bitio.proofs.LentLaws.{pasted-nil, pasted-one, pasted-more, pasted-length}
 use Rattle.container.specs.Stream.{flat, streamBytes}
-use Rattle.container.specs.Limits.{Room}
+use Rattle.container.specs.Limits.{Room, fits}
 use Rattle.container.specs.Units.{endsOf, Sizes, sizesOf, bytesAfter, endsAfter}
-use Rattle.annexb.proofs.SplitLaws.{Says, says-refused}
+use Rattle.annexb.proofs.SplitLaws.{Says, says-refused, and-true}
 use Rattle.pictures.specs.Assemble.{named}
-use Rattle.playback.specs.Lent.{Does, roomOf, storeAfter}
-use Rattle.playback.specs.Gather.{listed, gathered, CanGather}
+use Rattle.playback.specs.Lent.{Does, storeRoom, storeAfter}
+use Rattle.playback.specs.Gather.{unitsNamed, gathered, HasRoom}
 
 module _ (l p e s : List ℕ) where
   -- the units from entry i on
   abbrev pub left : ℕ → List (List ℕ)
-  left i = listed (drop i l) p e s
+  left i = unitsNamed (drop i l) p e s
 
   pub left-next : (i : ℕ) → i < length l → left i ≡ named p e s (getD l i 0) ∷ left (i + 1)
-  unfolding listed
+  unfolding unitsNamed
   left-next i h = rw (drop-cons l i 0 h, add-one i)
 
   pub left-none : (i : ℕ) → length l ≤ i → left i ≡ []
-  unfolding listed
+  unfolding unitsNamed
   left-none i h = rw (drop-of-length-le l h)
 
-  pub listed-length : length (listed l p e s) ≡ length l
-  unfolding listed
-  listed-length = length-map l (named p e s)
+  pub named-length : length (unitsNamed l p e s) ≡ length l
+  unfolding unitsNamed
+  named-length = length-map l (named p e s)
 
 -- ---- measured
 
@@ -79,14 +79,14 @@ pub record Putting (us rest : List (List ℕ)) (d e : List ℕ) (w i : ℕ) (o m
   pub bytes : pasted d 0 (streamBytes us) ≡ pasted o w (streamBytes rest)
   pub ends : pasted e 0 (endsOf 0 us) ≡ pasted m i (endsOf w rest)
 
-pub putting-start : {us : List (List ℕ)} {d e : List ℕ} → CanGather d e us → Putting us us d e 0 0 d e
+pub putting-start : {us : List (List ℕ)} {d e : List ℕ} → HasRoom (record { bytes = length d; ends = length e }) us → Putting us us d e 0 0 d e
 putting-start r =
     record {
       long = refl;
       slots-long = refl;
       small = omega (arith, r .small);
-      room = omega (arith, r .room);
-      slots = omega (arith, r .slots);
+      room = omega (arith, r .bytes);
+      slots = omega (arith, r .ends);
       bytes = refl;
       ends = refl;
     }
@@ -151,18 +151,22 @@ module _ {us all : List (List ℕ)} {d e : List ℕ} {w i : ℕ} {o m : List ℕ
 
 -- ---- the whole
 
-pub or-false : (x y : Bool) → (x || y) ≡ false → (x ≡ false) × (y ≡ false)
-or-false true y q = let z : _≡_ {A = ℕ} 0 1 = cc in absurd (omega arith)
-or-false false y q = (refl, q)
+-- the test that the code makes
+pub has-room : (room : Room) (us : List (List ℕ)) → fits (length (streamBytes us)) (length us) room ≡ true → HasRoom room us
+has-room room us t =
+    let n = length (streamBytes us) in
+    let x = and-true (leb n limit) (leb n (room .bytes) && leb (length us) (room .ends)) t in
+    let y = and-true (leb n (room .bytes)) (leb (length us) (room .ends)) (x .1) in
+    record { small = leb-true n limit (x .0); bytes = leb-true n (room .bytes) (y .0); ends = leb-true (length us) (room .ends) (y .1) }
 
 -- by each slice apart
 pub stores : (x : Room → Answer (List (List ℕ))) {a : Answer Sizes} {d m o f : List ℕ} → Says (x (record { bytes = length d; ends = length m })) a d m o f
-    → Does (λ d. sizesOf (x (roomOf d))) (λ d. storeAfter (x (roomOf d)) d) a (record { entry = record { bytes = d; ends = m }; exit = record { bytes = o; ends = f } })
+    → Does (λ d. sizesOf (x (storeRoom d))) (λ d. storeAfter (x (storeRoom d)) d) a (record { entry = record { bytes = d; ends = m }; exit = record { bytes = o; ends = f } })
 stores x (i, (j, k)) = record { answer = i; lent = ap₂ (λ b e. record { bytes = b; ends = e }) j k }
 
 module _ (l p e s d m : List ℕ) where
   abbrev us : List (List ℕ)
-  us = listed l p e s
+  us = unitsNamed l p e s
 
   abbrev room : Room
   room = record { bytes = length d; ends = length m }
@@ -171,47 +175,35 @@ module _ (l p e s d m : List ℕ) where
   result = gathered us room
 
   abbrev Tells : Answer Sizes → (o f : List ℕ) → Type 0
-  Tells a o f = Does (λ d. sizesOf (gathered us (roomOf d))) (λ d. storeAfter (gathered us (roomOf d)) d) a (record { entry = record { bytes = d; ends = m }; exit = record { bytes = o; ends = f } })
+  Tells a o f = Does (λ d. sizesOf (gathered us (storeRoom d))) (λ d. storeAfter (gathered us (storeRoom d)) d) a (record { entry = record { bytes = d; ends = m }; exit = record { bytes = o; ends = f } })
 
   abbrev size : ℕ
   size = length (streamBytes us)
 
-  gathered-is : result ≡ pick (leb size limit && (leb size (length d) && leb (length us) (length m))) (accepted us) (refused 35)
+  gathered-is : result ≡ pick (fits size (length us) room) (accepted us) (refused 35)
   unfolding gathered
   gathered-is = refl
 
   module _ {n : ℕ} (k : n ≡ min size 18446744073709551615) where
-    pub gather-full : ((ltb limit n || ltb (length d) n) || ltb (length m) (length l)) ≡ true → Tells (refused 35) d m
-    gather-full t =
-        let f : (leb size limit && (leb size (length d) && leb (length us) (length m))) ≡ false = go (leb size limit) (leb size (length d)) (leb (length us) (length m)) refl refl refl in
-        stores (gathered us) (says-refused d m (gathered-is ∙ ap (λ b. pick b (accepted us) (refused 35)) f))
+    -- what was measured, as far as a usize counts, is tested as the units' own length
+    fits-same : fits n (length l) room ≡ fits size (length us) room
+    fits-same = go (leb n limit) refl
       where
-        go : (x y z : Bool) → leb size limit ≡ x → leb size (length d) ≡ y → leb (length us) (length m) ≡ z → (x && (y && z)) ≡ false
-        go false y z a b c = refl
-        go true false z a b c = refl
-        go true true false a b c = refl
-        go true true true a b c =
-            let u = leb-true size limit a in
-            let v = leb-true size (length d) b in
-            let w = leb-true (length us) (length m) c in
-            let f : ((ltb limit n || ltb (length d) n) || ltb (length m) (length l)) ≡ false =
-            rw (le-ltb limit n (omega (arith, k, u)), le-ltb (length d) n (omega (arith, k, v)), le-ltb (length m) (length l) (omega (arith, w, listed-length l p e s))) in
-            let z : _≡_ {A = ℕ} 0 1 = cc in absurd (omega arith)
+        go : (t : Bool) → leb n limit ≡ t → fits n (length l) room ≡ fits size (length us) room
+        go true t =
+            let i : n ≡ size = omega (arith, k, leb-true n limit t) in
+            ap (λ (x : ℕ). fits x (length l) room) i ∙ ap (λ (x : ℕ). fits size x room) (sym (named-length l p e s))
+        go false t = rw (t, lt-leb size limit (omega (arith, k, leb-false n limit t)))
 
-    module _ (t : ((ltb limit n || ltb (length d) n) || ltb (length m) (length l)) ≡ false) where
-      pub gather-room : CanGather d m us
-      gather-room =
-          let (x, c) = or-false (ltb limit n || ltb (length d) n) (ltb (length m) (length l)) t in
-          let (a, b) = or-false (ltb limit n) (ltb (length d) n) x in
-          let u = ltb-false limit n a in
-          let v = ltb-false (length d) n b in
-          let w = ltb-false (length m) (length l) c in
-          record { small = omega (arith, k, u); room = omega (arith, k, u, v); slots = omega (arith, w, listed-length l p e s) }
+    pub gather-full : fits n (length l) room ≡ false → Tells (refused 35) d m
+    gather-full t = stores (gathered us) (says-refused d m (gathered-is ∙ ap (λ b. pick b (accepted us) (refused 35)) (sym fits-same ∙ t)))
+
+    module _ (t : fits n (length l) room ≡ true) where
+      pub gather-room : HasRoom room us
+      gather-room = has-room room us (sym fits-same ∙ t)
 
       gathered-all : result ≡ accepted us
-      gathered-all =
-          let r = gather-room in
-          gathered-is ∙ rw (le-leb size limit (r .small), le-leb size (length d) (r .room), le-leb (length us) (length m) (r .slots))
+      gathered-all = gathered-is ∙ ap (λ b. pick b (accepted us) (refused 35)) (sym fits-same ∙ t)
 
       pub gather-done : {o f : List ℕ} → o ≡ pasted d 0 (streamBytes us) → f ≡ pasted m 0 (endsOf 0 us)
           → Tells (accepted (record { bytes = n; units = length l })) o f
@@ -219,5 +211,5 @@ module _ (l p e s d m : List ℕ) where
           let q = gathered-all in
           let r = gather-room in
           let i : n ≡ size = omega (arith, k, r .small) in
-          let j : length l ≡ length us = sym (listed-length l p e s) in
+          let j : length l ≡ length us = sym (named-length l p e s) in
           stores (gathered us) (rw (q, i, j), (x ∙ sym (ap (λ a. bytesAfter a d) q), y ∙ sym (ap (λ a. endsAfter a m) q)))

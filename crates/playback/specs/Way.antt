@@ -3,6 +3,7 @@
 use Prim.Native.Nat.{ℕ}
 use mathlib.Core.List.{List}
 use lib.ListN.{length}
+use denote.Ref.{RefT, now}
 use denote.Triple.Both.{Both}
 use Rattle.bitio.specs.Parse.{Answer, andNext}
 use Rattle.container.specs.Limits.{Room}
@@ -10,8 +11,7 @@ use Rattle.container.specs.Container.{Container, stream, annexb, read, write}
 use Rattle.container.specs.Units.{sizesOf, splitSays, countOf, outAfter, joinedSays}
 use Rattle.container.specs.declared.units.Split.{Split}
 use Rattle.container.specs.declared.units.Joined.{Joined}
-use Rattle.assemble.specs.Whole.{Slice}
-use Rattle.playback.specs.Lent.{held, joined, Does, Store, roomOf, storeAfter, store}
+use Rattle.playback.specs.Lent.{Does, Store, storeRoom, storeAfter, store}
 use Rattle.playback.specs.Gather.{gathered}
 use Rattle.playback.specs.Shown.{fromCue, showsSay}
 use Rattle.playback.specs.declared.play.Shows.{Shows}
@@ -36,14 +36,15 @@ pub record PlayLent : Type 0 where
   pub carried : CarryLent
   pub shown : List ℕ
 
-abbrev pub writeLent : (units unit-ends out : Slice) → Both WriteLent WriteLent
-writeLent units unit-ends out = joined (λ u o. record { units = u; out = o }) (store units unit-ends) (held out)
+-- and what their lent slices hold, at one moment
+abbrev pub writeLent : (units unit-ends out : RefT (List ℕ)) → WriteLent
+writeLent units unit-ends out = record { units = store units unit-ends; out = now out }
 
-abbrev pub carryLent : (units unit-ends out back back-ends : Slice) → Both CarryLent CarryLent
-carryLent units unit-ends out back back-ends = joined (λ w b. record { written = w; back = b }) (writeLent units unit-ends out) (store back back-ends)
+abbrev pub carryLent : (units unit-ends out back back-ends : RefT (List ℕ)) → CarryLent
+carryLent units unit-ends out back back-ends = record { written = writeLent units unit-ends out; back = store back back-ends }
 
-abbrev pub playLent : (units unit-ends out back back-ends shown : Slice) → Both PlayLent PlayLent
-playLent units unit-ends out back back-ends shown = joined (λ c s. record { carried = c; shown = s }) (carryLent units unit-ends out back back-ends) (held shown)
+abbrev pub playLent : (units unit-ends out back back-ends shown : RefT (List ℕ)) → PlayLent
+playLent units unit-ends out back back-ends shown = record { carried = carryLent units unit-ends out back back-ends; shown = now shown }
 
 -- ---- what each stage answers, and what it leaves
 
@@ -54,17 +55,17 @@ bytesRoom n = record { bytes = n; ends = 0 }
 module _ (c : Container) (us : List (List ℕ)) where
   -- gathered and written
   unfoldable pub written : WriteLent → Answer (List ℕ)
-  written d = andNext (gathered us (roomOf (d .units))) (write c (bytesRoom (length (d .out))))
+  written d = andNext (gathered us (storeRoom (d .units))) (write c (bytesRoom (length (d .out))))
 
   abbrev pub writtenAfter : WriteLent → WriteLent
-  writtenAfter d = record { units = storeAfter (gathered us (roomOf (d .units))) (d .units); out = outAfter (written d) (d .out) }
+  writtenAfter d = record { units = storeAfter (gathered us (storeRoom (d .units))) (d .units); out = outAfter (written d) (d .out) }
 
   abbrev pub Writes : Joined → Both WriteLent WriteLent → Type 0
   Writes r = Does (λ d. countOf (written d)) writtenAfter (joinedSays r)
 
   -- and read back
   unfoldable pub carried : CarryLent → Answer (List (List ℕ))
-  carried d = andNext (written (d .written)) (read c (roomOf (d .back)))
+  carried d = andNext (written (d .written)) (read c (storeRoom (d .back)))
 
   abbrev pub carriedAfter : CarryLent → CarryLent
   carriedAfter d = record { written = writtenAfter (d .written); back = storeAfter (carried d) (d .back) }

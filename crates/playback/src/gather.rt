@@ -1,21 +1,21 @@
 // The units of an assembled list, gathered one behind the other with the end of each, as the containers' writers take them.
 ghost use mathlib.Core.Path.{_≡_};
-ghost use Prim.Native.Nat.{_≤_, min};
+ghost use Prim.Native.Nat.{min};
 ghost use lib.ListN.{length};
 ghost use Rattle.bitio.specs.Lent.{pasted};
 ghost use Rattle.container.specs.Stream.{streamBytes};
 ghost use Rattle.container.specs.Units.{endsOf};
 ghost use Rattle.playback.specs.Lent.{store, Stores};
-ghost use Rattle.playback.specs.Gather.{listed, gathered, CanGather};
+ghost use Rattle.playback.specs.Gather.{unitsNamed, gathered, HasRoom};
 use assemble::unit::unit;
-use bitio::limits::LIMIT;
 use bitio::numbers::plus;
+use container::room::has_room;
 use container::units::Split;
 use obu::writer::put_bytes;
 
 // How many bytes the units have, as far as a usize counts them.
 fn measure<'a>(list: &[u32], pictures: &'a [u8], ends: &[u32], shows: &'a [u8]) -> usize
-    ensures { λ r. ⌜ r ≡ min (length (streamBytes (listed (now (list .entry)) (now (pictures .entry)) (now (ends .entry)) (now (shows .entry))))) 18446744073709551615 ⌝ }
+    ensures { λ r. ⌜ r ≡ min (length (streamBytes (unitsNamed (now (list .entry)) (now (pictures .entry)) (now (ends .entry)) (now (shows .entry))))) 18446744073709551615 ⌝ }
 {
     let mut n: usize = 0;
     let mut i: usize = 0;
@@ -36,9 +36,9 @@ fn put_units<'a>(
     ends: &[u32],
     shows: &'a [u8],
 )
-    requires { ⌜ CanGather (now units) (now «unit_ends») (listed (now list) (now pictures) (now ends) (now shows)) ⌝ }
-    ensures { λ _. ⌜ now (units .exit) ≡ pasted (now (units .entry)) 0 (streamBytes (listed (now (list .entry)) (now (pictures .entry)) (now (ends .entry)) (now (shows .entry)))) ⌝ }
-    ensures { λ _. ⌜ now («unit_ends» .exit) ≡ pasted (now («unit_ends» .entry)) 0 (endsOf 0 (listed (now (list .entry)) (now (pictures .entry)) (now (ends .entry)) (now (shows .entry)))) ⌝ }
+    requires { ⌜ HasRoom (record { bytes = length (now units); ends = length (now «unit_ends») }) (unitsNamed (now list) (now pictures) (now ends) (now shows)) ⌝ }
+    ensures { λ _. ⌜ now (units .exit) ≡ pasted (now (units .entry)) 0 (streamBytes (unitsNamed (now (list .entry)) (now (pictures .entry)) (now (ends .entry)) (now (shows .entry)))) ⌝ }
+    ensures { λ _. ⌜ now («unit_ends» .exit) ≡ pasted (now («unit_ends» .entry)) 0 (endsOf 0 (unitsNamed (now (list .entry)) (now (pictures .entry)) (now (ends .entry)) (now (shows .entry)))) ⌝ }
 {
     let mut w: usize = 0;
     let mut i: usize = 0;
@@ -59,11 +59,14 @@ pub fn gather_units<'a>(
     ends: &[u32],
     shows: &'a [u8],
 ) -> Split
-    ensures { λ r. ⌜ Stores (gathered (listed (now (list .entry)) (now (pictures .entry)) (now (ends .entry)) (now (shows .entry)))) r (store units «unit_ends») ⌝ }
+    ensures { λ r. ⌜ Stores (gathered (unitsNamed (now (list .entry)) (now (pictures .entry)) (now (ends .entry)) (now (shows .entry)))) r (record {
+      entry = store (units .entry) («unit_ends» .entry);
+      exit = store (units .exit) («unit_ends» .exit);
+    }) ⌝ }
 {
     let count = list.len();
     let bytes = measure(list, pictures, ends, shows);
-    if (bytes > LIMIT) | (bytes > units.len()) | (count > unit_ends.len()) {
+    if !has_room(bytes, count, units.len(), unit_ends.len()) {
         return Split::Refused(35);
     }
     put_units(units, unit_ends, list, pictures, ends, shows);

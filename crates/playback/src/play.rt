@@ -6,7 +6,7 @@ ghost use lib.ListN.{length, getD};
 ghost use Rattle.bitio.specs.Parse.{answer};
 ghost use Rattle.container.specs.Units.{unitsAt, outAfter};
 ghost use Rattle.player.specs.Code.{playedBy};
-ghost use Rattle.playback.specs.Lent.{held, Fills};
+ghost use Rattle.playback.specs.Lent.{Fills};
 ghost use Rattle.playback.specs.Shown.{codeNumber, shownBy, playFrom, showsSay, unitIn, CanPlay};
 use bitio::limits::LIMIT;
 use container::lists::check_ends;
@@ -78,7 +78,10 @@ fn play_units(units: &[u8], ends: &[u32], cue: usize, shown: &mut [u64])
 // The units from the cue to the last, each played under its own position, from eight empty slots and no kept header: a
 // number for each to `shown`. A refusal changes nothing.
 pub fn play_from(units: &[u8], unit_ends: &[u32], cue: usize, shown: &mut [u64]) -> Shows
-    ensures { λ r. ⌜ Fills (λ room. playFrom room cue (now (units .entry)) (now («unit_ends» .entry))) (showsSay r) (held shown) ⌝ }
+    ensures { λ r. ⌜ Fills (λ room. playFrom room cue (now (units .entry)) (now («unit_ends» .entry))) (showsSay r) (record {
+      entry = now (shown .entry);
+      exit = now (shown .exit);
+    }) ⌝ }
 {
     let len = units.len();
     let count = unit_ends.len();

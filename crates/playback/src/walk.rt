@@ -1,7 +1,7 @@
 // The whole way for one list at run time: assembled, gathered, written in a container, read back, and played from a cue.
 ghost use mathlib.Core.Path.{_≡_};
 ghost use Rattle.pictures.specs.Assemble.{overall};
-ghost use Rattle.assemble.specs.Whole.{outcome, slices};
+ghost use Rattle.assemble.specs.Whole.{outcome, six};
 ghost use Rattle.playback.specs.Shown.{showsSay};
 ghost use Rattle.playback.specs.Way.{formSays, playLent};
 ghost use Rattle.playback.specs.Walk.{walkedSays, Walks};
@@ -51,7 +51,13 @@ pub fn walk(
     back_ends: &mut [u32],
     shown: &mut [u64],
 ) -> Walked
-    ensures { λ r. ⌜ Walks (formSays form) cue (outcome (now (picture .entry)) (now (segments .entry)) settings) r (slices list cues pictures ends shows header) (playLent units «unit_ends» out back «back_ends» shown) ⌝ }
+    ensures { λ r. ⌜ Walks (formSays form) cue (outcome (now (picture .entry)) (now (segments .entry)) settings) r (record {
+      entry = six (list .entry) (cues .entry) (pictures .entry) (ends .entry) (shows .entry) (header .entry);
+      exit = six (list .exit) (cues .exit) (pictures .exit) (ends .exit) (shows .exit) (header .exit);
+    }) (record {
+      entry = playLent (units .entry) («unit_ends» .entry) (out .entry) (back .entry) («back_ends» .entry) (shown .entry);
+      exit = playLent (units .exit) («unit_ends» .exit) (out .exit) (back .exit) («back_ends» .exit) (shown .exit);
+    }) ⌝ }
 {
     match assemble_multi(
         picture,

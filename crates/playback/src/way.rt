@@ -1,8 +1,8 @@
 // The way of a list's units: gathered, written in a container, read back, and played. Every buffer is the caller's.
 ghost use Rattle.container.specs.Units.{joinedSays};
 ghost use Rattle.container.specs.Container.{read, writeAt};
-ghost use Rattle.playback.specs.Lent.{held, Fills, store, Stores};
-ghost use Rattle.playback.specs.Gather.{listed};
+ghost use Rattle.playback.specs.Lent.{Fills, store, Stores};
+ghost use Rattle.playback.specs.Gather.{unitsNamed};
 ghost use Rattle.playback.specs.Way.{formSays, bytesRoom, writeLent, carryLent, playLent, Writes, Carries, Plays};
 use crate::gather::gather_units;
 use crate::play::Shows;
@@ -21,7 +21,10 @@ pub enum Form {
 
 // Units, written in a container.
 fn write_in(form: Form, units: &[u8], unit_ends: &[u32], out: &mut [u8]) -> Joined
-    ensures { λ r. ⌜ Fills (λ n. writeAt (formSays form) (bytesRoom n) (now (units .entry)) (now («unit_ends» .entry))) (joinedSays r) (held out) ⌝ }
+    ensures { λ r. ⌜ Fills (λ n. writeAt (formSays form) (bytesRoom n) (now (units .entry)) (now («unit_ends» .entry))) (joinedSays r) (record {
+      entry = now (out .entry);
+      exit = now (out .exit);
+    }) ⌝ }
 {
     match form {
         Form::Stream => write_obu_stream(units, unit_ends, out),
@@ -31,7 +34,10 @@ fn write_in(form: Form, units: &[u8], unit_ends: &[u32], out: &mut [u8]) -> Join
 
 // A container's units.
 fn read_in(form: Form, data: &[u8], out: &mut [u8], ends: &mut [u32]) -> Split
-    ensures { λ r. ⌜ Stores (λ room. read (formSays form) room (now («data» .entry))) r (store out ends) ⌝ }
+    ensures { λ r. ⌜ Stores (λ room. read (formSays form) room (now («data» .entry))) r (record {
+      entry = store (out .entry) (ends .entry);
+      exit = store (out .exit) (ends .exit);
+    }) ⌝ }
 {
     match form {
         Form::Stream => split_obu_stream(data, out, ends),
@@ -50,7 +56,10 @@ pub fn write_list<'a>(
     unit_ends: &mut [u32],
     out: &mut [u8],
 ) -> Joined
-    ensures { λ r. ⌜ Writes (formSays form) (listed (now (list .entry)) (now (pictures .entry)) (now (ends .entry)) (now (shows .entry))) r (writeLent units «unit_ends» out) ⌝ }
+    ensures { λ r. ⌜ Writes (formSays form) (unitsNamed (now (list .entry)) (now (pictures .entry)) (now (ends .entry)) (now (shows .entry))) r (record {
+      entry = writeLent (units .entry) («unit_ends» .entry) (out .entry);
+      exit = writeLent (units .exit) («unit_ends» .exit) (out .exit);
+    }) ⌝ }
 {
     match gather_units(units, unit_ends, list, pictures, ends, shows) {
         Split::Refused(k) => Joined::Refused(k),
@@ -71,7 +80,10 @@ pub fn carry_list<'a>(
     back: &mut [u8],
     back_ends: &mut [u32],
 ) -> Split
-    ensures { λ r. ⌜ Carries (formSays form) (listed (now (list .entry)) (now (pictures .entry)) (now (ends .entry)) (now (shows .entry))) r (carryLent units «unit_ends» out back «back_ends») ⌝ }
+    ensures { λ r. ⌜ Carries (formSays form) (unitsNamed (now (list .entry)) (now (pictures .entry)) (now (ends .entry)) (now (shows .entry))) r (record {
+      entry = carryLent (units .entry) («unit_ends» .entry) (out .entry) (back .entry) («back_ends» .entry);
+      exit = carryLent (units .exit) («unit_ends» .exit) (out .exit) (back .exit) («back_ends» .exit);
+    }) ⌝ }
 {
     match write_list(form, list, pictures, ends, shows, units, unit_ends, out) {
         Joined::Refused(k) => Split::Refused(k),
@@ -94,7 +106,10 @@ pub fn play_list<'a>(
     back_ends: &mut [u32],
     shown: &mut [u64],
 ) -> Shows
-    ensures { λ r. ⌜ Plays (formSays form) (listed (now (list .entry)) (now (pictures .entry)) (now (ends .entry)) (now (shows .entry))) cue r (playLent units «unit_ends» out back «back_ends» shown) ⌝ }
+    ensures { λ r. ⌜ Plays (formSays form) (unitsNamed (now (list .entry)) (now (pictures .entry)) (now (ends .entry)) (now (shows .entry))) cue r (record {
+      entry = playLent (units .entry) («unit_ends» .entry) (out .entry) (back .entry) («back_ends» .entry) (shown .entry);
+      exit = playLent (units .exit) («unit_ends» .exit) (out .exit) (back .exit) («back_ends» .exit) (shown .exit);
+    }) ⌝ }
 {
     match carry_list(
         form,

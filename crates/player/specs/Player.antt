@@ -37,7 +37,7 @@ pub record Shown : Type 0 where
   pub shown : Option ℕ
   pub slots : List Slot
 
--- AV1 7.21: a slot is shown; a key so shown fills all eight, marks kept. 37 slot empty, 38 not showable
+-- AV1 7.21: a slot is shown; if it holds a key, the key goes to every slot with its marks. 37 slot empty, 38 not showable
 abbrev pub showSlot : List Slot → Slot → Answer Shown
 showSlot slots s =
     pick (s .«is_filled»)
@@ -63,7 +63,7 @@ pub record State : Type 0 where
 abbrev pub start : State
 start = record { slots = replicate 8 empty; kept = none }
 
--- 01: a unit's sequence headers are read in order and the last is kept, as f has it: 14 to 16 and 17 to 20 of each
+-- 01: of the sequence headers in a unit, each of which is read (14 to 16, 17 to 20), the last is what is kept, as f has it
 unfoldable pub keepAs : {K : Type 0} → (Sequence → K) → K → List Obu → Answer K
 keepAs f k [] = accepted k
 keepAs f k (o ∷ os) =
@@ -83,7 +83,8 @@ pub record Played : Type 0 where
   pub shown : Option ℕ
   pub state : State
 
--- the unit u, played under position p: 34; 1 to 5; 14 to 20; 26; 28; 39; 14; 37; 38
+-- The unit u, played under position p. Refusals, in this order: 34, those of its OBUs, those of its sequence headers, 26, 28, 39,
+-- 14 of its frame header, 37, 38.
 unfoldable pub play : State → ℕ → List ℕ → Answer Played
 play st p u =
     led34 (length u) (
@@ -95,7 +96,7 @@ play st p u =
     andNext (act (st .slots) p x) (λ r.
     accepted (record { shown = r .shown; state = record { slots = r .slots; kept = some q } }))))))))
 
--- 01: a refused unit leaves slots and kept header as they were
+-- 01: after a refusal the state is what it was before
 abbrev pub leaves : State → Answer Played → State
 leaves st (refused n) = st
 leaves st (accepted r) = r .state

@@ -1,13 +1,13 @@
 use borrow.Author.Needs.{needs}
 use Prim.Native.Nat.{_-_}
 use lib.ListN.{length}
-use Rattle.playback.specs.Gather.{listed}
+use Rattle.playback.specs.Gather.{unitsNamed}
 use Rattle.playback.proofs.GatherLaws.{left, left-next, left-none, Measuring, measuring-start, measuring-next, measuring-end}
 use Rattle.playback.proofs.gather.measure.Statement.{statement}
 use Rattle.playback.proofs.gather.measure.Tie as tie
 
 abbrev Inv-loop : tie.InvT-loop
-Inv-loop list pictures ends shows n₀ i₀ n i = Measuring (listed list pictures ends shows) (left list pictures ends shows i) n
+Inv-loop list pictures ends shows n₀ i₀ n i = Measuring (unitsNamed list pictures ends shows) (left list pictures ends shows i) n
 
 abbrev μ-loop : tie.MeasureT-loop
 μ-loop list pictures ends shows n₀ i₀ n i = length list - i

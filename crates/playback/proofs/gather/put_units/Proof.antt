@@ -2,14 +2,14 @@ use borrow.Author.Needs.{needs}
 use native.Mathlib.Omega.{arith}
 use Prim.Native.Nat.{_-_}
 use lib.ListN.{length}
-use Rattle.playback.specs.Gather.{listed}
+use Rattle.playback.specs.Gather.{unitsNamed}
 use Rattle.playback.proofs.GatherLaws.{left, left-next, left-none, Putting, putting-start, putting-room, putting-small, putting-slot, putting-next, putting-end}
 use Rattle.playback.proofs.gather.put_units.Statement.{statement}
 use Rattle.playback.proofs.gather.put_units.Tie as tie
 
 abbrev Inv-loop : tie.InvT-loop
 Inv-loop units₀ unit-ends₀ list pictures ends shows w₀ i₀ units unit-ends w i =
-    Putting (listed list pictures ends shows) (left list pictures ends shows i) units₀ unit-ends₀ w i units unit-ends
+    Putting (unitsNamed list pictures ends shows) (left list pictures ends shows i) units₀ unit-ends₀ w i units unit-ends
 
 abbrev μ-loop : tie.MeasureT-loop
 μ-loop units₀ unit-ends₀ list pictures ends shows w₀ i₀ units unit-ends w i = length list - i

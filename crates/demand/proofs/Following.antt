@@ -1,4 +1,4 @@
--- What demand 3 needs of a list's entries, whatever blocks they come from: `Laid`, and what follows from it.
+-- What demand 3 needs of a list's entries, whatever blocks they come from: `Following`, and its consequences.
 use Prim.Native.Nat.{ℕ, zero, suc, _+_, _-_, _≤_, _<_}
 use native.Mathlib.Omega.{arith}
 use mathlib.Core.Path.{_≡_, refl, sym, ap, subst, _∙_}
@@ -29,37 +29,37 @@ Behind b i Golden = b ≡ some (entry i Key)
 Behind b i Show = (b ≡ some (entry i Golden)) ⊎ (b ≡ some (entry i Show))
 
 -- b: the entry before, if there is one
-unfoldable pub fits : Option Entry → List Entry → Type 0
-fits b [] = Unit
-fits b (x ∷ xs) = (Behind b (x .segment) (x .kind)) × (fits (some x) xs)
+unfoldable pub Ordered : Option Entry → List Entry → Type 0
+Ordered b [] = Unit
+Ordered b (x ∷ xs) = (Behind b (x .segment) (x .kind)) × (Ordered (some x) xs)
 
 -- the entries es are those of segments with the frames ns, or the first of them
-pub record Laid (ns : List ℕ) (es : List Entry) : Type 0 where
+pub record Following (ns : List ℕ) (es : List Entry) : Type 0 where
   pub within : length es ≤ total ns
   pub segments : (k : ℕ) → k < length es → (getD es k first) .segment ≡ segmentBehind ns k
-  pub order : fits none es
+  pub order : Ordered none es
 
 -- ---- the first of them
 
-pub fits-take : (b : Option Entry) (es : List Entry) (k : ℕ) → fits b es → fits b (take k es)
-unfolding fits
-fits-take b es zero f = tt
-fits-take b [] (suc k) f = tt
-fits-take b (x ∷ es) (suc k) f = (f .0, fits-take (some x) es k (f .1))
+pub ordered-take : (b : Option Entry) (es : List Entry) (k : ℕ) → Ordered b es → Ordered b (take k es)
+unfolding Ordered
+ordered-take b es zero f = tt
+ordered-take b [] (suc k) f = tt
+ordered-take b (x ∷ es) (suc k) f = (f .0, ordered-take (some x) es k (f .1))
 
-pub laid-take : {ns : List ℕ} {es : List Entry} → Laid ns es → (k : ℕ) → Laid ns (take k es)
-laid-take {es} l k =
+pub following-take : {ns : List ℕ} {es : List Entry} → Following ns es → (k : ℕ) → Following ns (take k es)
+following-take {es} l k =
     let n = length-take k es in
     record {
       within = omega (arith, l .within);
       segments = λ j h. ap (λ (x : Entry). x .segment) (getD-take k es j first (omega arith)) ∙ l .segments j (omega arith);
-      order = fits-take none es k (l .order);
+      order = ordered-take none es k (l .order);
     }
 
 -- ---- a list starts with a key
 
-pub first-key : (es : List Entry) → fits none es → (getD es 0 first) .kind ≡ Key
-unfolding fits
+pub first-key : (es : List Entry) → Ordered none es → (getD es 0 first) .kind ≡ Key
+unfolding Ordered
 first-key [] f = refl
 first-key (x ∷ es) f = go (x .kind) (f .0)
   where
@@ -114,9 +114,9 @@ module _ (e : ℕ → Entry) where
       let (q, s) = kn i (subst (λ (y : Entry). Behind b (y .segment) (y .kind)) v f) in
       (q, since-show i q p s (at ∙ v))
 
-  led-from : (xs : List Entry) (p : ℕ) (b : Option Entry) → fits b xs → ((k : ℕ) → k < length xs → e (p + k) ≡ getD xs k first)
+  led-from : (xs : List Entry) (p : ℕ) (b : Option Entry) → Ordered b xs → ((k : ℕ) → k < length xs → e (p + k) ≡ getD xs k first)
       → Known b p → (k : ℕ) → k < length xs → (e (p + k)) .kind ≡ Show → (q : ℕ) × Since e ((e (p + k)) .segment) q (p + k)
-  unfolding fits
+  unfolding Ordered
   led-from [] p b f at kn k h w = absurd (omega arith)
   led-from (x ∷ xs) p b f at kn zero h w =
       let n : p + 0 ≡ p = omega arith in
@@ -129,6 +129,6 @@ module _ (e : ℕ → Entry) where
       rw n (led-from xs (suc p) (some x) (f .1) (λ j b. ap e (omega arith) ∙ at (suc j) (omega arith)) (known-next x p b a kn (f .0)) k (omega arith) (rw n at w))
 
   -- the first entry stands at p
-  pub show-led : (xs : List Entry) (p : ℕ) → fits none xs → ((k : ℕ) → k < length xs → e (p + k) ≡ getD xs k first)
+  pub show-led : (xs : List Entry) (p : ℕ) → Ordered none xs → ((k : ℕ) → k < length xs → e (p + k) ≡ getD xs k first)
       → (k : ℕ) → k < length xs → (e (p + k)) .kind ≡ Show → (q : ℕ) × Since e ((e (p + k)) .segment) q (p + k)
   show-led xs p f at = led-from xs p none f at (known-none p)
