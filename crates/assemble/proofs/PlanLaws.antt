@@ -30,8 +30,8 @@ use Rattle.blocks.specs.Numbers.{headKey, framesIn}
 use Rattle.pictures.specs.Prepare.{isSequence, firstOf, timedSequence, Prepared}
 use Rattle.pictures.specs.declared.settings.Settings.{Settings}
 use Rattle.pictures.specs.Assemble.{Outcome, stopped, made, andAlso, inSegment, sameHeaders, headerObu, prepareAll, pictureOf}
-use Rattle.pictures.specs.Sizes.{sized, ranged}
-use Rattle.pictures.specs.Code.{allSegments, laterSegments, firstSequence, renewing, orElse, allPrepared, capped, measured}
+use Rattle.pictures.specs.Sizes.{sizedAll, ranged}
+use Rattle.pictures.specs.Code.{allSegments, laterSegments, firstSequence, renewing, answerOr, allPrepared, capped, measured}
 use Rattle.assemble.specs.Stages.{Going, going, WasRead, fromPictures, fromTiming, fromHeader, fromKey, checked, planned, headerIn, planSays, noPlan}
 use Rattle.pictures.specs.Rewrite.{obuIn}
 use Rattle.assemble.specs.declared.plan.Basis.{Basis}
@@ -67,7 +67,7 @@ module _ (s rs : List ℕ) where
   check-long gop h = rw (lt-ltb limit (length s) h)
 
   module _ (gop : ℕ) (h : length s ≤ limit) where
-    pub check-fit : made tt ≡ ranged s rs → sized gop (framesIn rs) ≡ checked s rs gop
+    pub check-fit : made tt ≡ ranged s rs → sizedAll gop (framesIn rs) ≡ checked s rs gop
     unfolding checked andAlso
     check-fit e = rw (le-ltb limit (length s) h, ← e)
 
@@ -235,7 +235,7 @@ headed d xs h =
     rw (le-leb 0 (length xs) (omega arith), le-leb (length xs) (length (pasted d 0 xs)) l, z)
     (ap (λ (n : ℕ). take n (pasted d 0 xs)) (sym a) ∙ pasted-take-end d 0 xs (omega arith))
 
-pub new-there : (d array : List ℕ) (n : ℕ) (q : Sequence) → emittable q ≡ true → 400 ≤ length d → array ≡ emitLent d 0 q → n ≡ orElse 0 (emitPlaced d 0 q)
+pub new-there : (d array : List ℕ) (n : ℕ) (q : Sequence) → emittable q ≡ true → 400 ≤ length d → array ≡ emitLent d 0 q → n ≡ answerOr 0 (emitPlaced d 0 q)
     → part array 0 n ≡ sequenceBytes q
 unfolding emitLent emitPlaced
 new-there d array n q good room e f =

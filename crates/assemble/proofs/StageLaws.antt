@@ -19,7 +19,7 @@ use Rattle.pictures.specs.Segments.{Segment, framesOf, segmentIn, segmentAt, se
 use Rattle.pictures.specs.Prepare.{effective, renewal}
 use Rattle.pictures.specs.declared.settings.Settings.{Settings}
 use Rattle.pictures.specs.Assemble.{Outcome, stopped, made, andAlso, verdict, inSegment, overall, noneEmpty, sizes, sameHeaders, headerObu, prepareAll, pictureOf, Output, outputOf, Room, assembled, fitted, assemble}
-use Rattle.pictures.specs.Sizes.{sized, ranged}
+use Rattle.pictures.specs.Sizes.{sizedAll, ranged}
 use Rattle.pictures.specs.Code.{allSegments, laterSegments, firstSequence, capped}
 use Rattle.assemble.specs.Stages.{Going, going, fromTiming, fromHeader, fromKey, checked, planned}
 
@@ -86,7 +86,7 @@ module _ (room : Room) (set : Settings) where
 
   staged : (x : Segment) (xs all later : List Segment) (ns : List ℕ) → all ≡ x ∷ xs → later ≡ xs → ns ≡ framesOf (x ∷ xs)
       → andAlso (assembled set (x ∷ xs)) (fitted room)
-      ≡ andAlso (andAlso (sized (set .gop) ns) (λ _.
+      ≡ andAlso (andAlso (sizedAll (set .gop) ns) (λ _.
       andAlso (inSegment 0 (firstSequence (x .key))) (λ o.
       andAlso (inSegment 0 (supportedSequence (o .payload))) (λ q.
       andAlso (sameHeaders (o .payload) 1 later) (λ _.
@@ -101,7 +101,7 @@ module _ (room : Room) (set : Settings) where
 
   module _ (s rs : List ℕ) where
     staged-count : (n : ℕ) → segmentCount rs ≡ n
-        → andAlso (assembled set (map (segmentIn s) (recordsFrom n rs))) (fitted room) ≡ andAlso (andAlso (sized (set .gop) (framesIn rs)) (λ _. fromKey s rs set)) (fittedOut (framesIn rs))
+        → andAlso (assembled set (map (segmentIn s) (recordsFrom n rs))) (fitted room) ≡ andAlso (andAlso (sizedAll (set .gop) (framesIn rs)) (λ _. fromKey s rs set)) (fittedOut (framesIn rs))
     unfolding assembled andAlso recordsFrom fromKey fromHeader fromTiming
     staged-count zero e = let f : framesIn rs ≡ [] = ap (λ (k : ℕ). map headFrames (recordsFrom k rs)) e in rw f
     staged-count (suc m) e =
@@ -118,7 +118,7 @@ module _ (room : Room) (set : Settings) where
       where
         go : (t : Bool) (a : Answer (List Segment)) → segmentsOf s rs ≡ a
             → pick t (stopped 34 none) (andAlso (overall a) (λ xs. andAlso (assembled set xs) (fitted room)))
-            ≡ andAlso (andAlso (pick t (stopped 34 none) (andAlso (overall (verdict a)) (λ _. sized (set .gop) (framesIn rs)))) (λ _. fromKey s rs set)) (fittedOut (framesIn rs))
+            ≡ andAlso (andAlso (pick t (stopped 34 none) (andAlso (overall (verdict a)) (λ _. sizedAll (set .gop) (framesIn rs)))) (λ _. fromKey s rs set)) (fittedOut (framesIn rs))
         go true a e = refl
         go false (refused k) e = refl
         go false (accepted xs) e = ap (λ (l : List Segment). andAlso (assembled set l) (fitted room)) (segments-are s rs xs e) ∙ staged-count (segmentCount rs) refl
@@ -145,7 +145,7 @@ pub record Sound (gop : ℕ) (rs : List ℕ) : Type 0 where
   pub some-there : 1 ≤ segmentCount rs
   pub count : segmentCount rs ≤ 5000000
 
-sized-sound : (gop : ℕ) (rs ns : List ℕ) → framesIn rs ≡ ns → sized gop ns ≡ fine → Sound gop rs
+sized-sound : (gop : ℕ) (rs ns : List ℕ) → framesIn rs ≡ ns → sizedAll gop ns ≡ fine → Sound gop rs
 unfolding sizes andAlso
 sized-sound gop rs [] f e = let z : _≡_ {A = ℕ} 0 1 = cc in absurd (omega arith)
 sized-sound gop rs (n ∷ ns) f e = go (ltb gop 2) (ltb (total (n ∷ ns)) 2) (noneEmpty 0 (n ∷ ns)) (ltb 5000000 (total (n ∷ ns))) refl refl refl e
@@ -168,7 +168,7 @@ pub checked-sound : (s rs : List ℕ) (gop : ℕ) → checked s rs gop ≡ fine 
 unfolding checked andAlso
 checked-sound s rs gop e = go (ltb limit (length s)) (ranged s rs) e
   where
-    go : (t : Bool) (x : Outcome Unit) → pick t (stopped 34 none) (andAlso x (λ _. sized gop (framesIn rs))) ≡ fine → Sound gop rs
+    go : (t : Bool) (x : Outcome Unit) → pick t (stopped 34 none) (andAlso x (λ _. sizedAll gop (framesIn rs))) ≡ fine → Sound gop rs
     go true x e = let z : _≡_ {A = ℕ} 0 1 = cc in absurd (omega arith)
     go false (stopped m l) e = let z : _≡_ {A = ℕ} 0 1 = cc in absurd (omega arith)
     go false (made tt) e = sized-sound gop rs (framesIn rs) refl e

@@ -17,7 +17,7 @@ use Rattle.pictures.specs.Segments.{segmentIn}
 use Rattle.pictures.specs.Prepare.{Prepared, showUnit}
 use Rattle.pictures.specs.declared.settings.Settings.{Settings}
 use Rattle.pictures.specs.Assemble.{Outcome, stopped, made, andAlso, pictureOf, endsFrom, showsOf, firstSlot, Output, outputOf, Room, fits, fitted}
-use Rattle.pictures.specs.Code.{allSegments, judged, orElse, allPrepared, allSent, slotsOf, capped}
+use Rattle.pictures.specs.Code.{allSegments, judged, answerOr, allPrepared, allSent, slotsOf, capped}
 use Rattle.assemble.specs.Whole.{counts, countsOf, assembledSays, Lent, outcome, lentAfter, Handed}
 use Rattle.assemble.specs.Stages.{Going, planned, headerIn, newIn, basisSays, answerSays, planSays, needed, fitsIn, roomFor}
 use Rattle.assemble.specs.declared.multi.Counts.{Counts}
@@ -40,7 +40,7 @@ plan-ready s rs p b n new x e i f = sym f ∙ ap (answerSays s rs (p .points) (p
 
 -- the first segment's slot
 slot-first : (s rs : List ℕ) (q : Sequence) (rewriting : Bool) (new : List ℕ) (n : ℕ) → 1 ≤ n
-    → orElse 0 (judged q rewriting (headKey s rs) (headGolden s rs)) ≡ firstSlot (allPrepared q rewriting new (map (segmentIn s) (recordsFrom n rs)))
+    → answerOr 0 (judged q rewriting (headKey s rs) (headGolden s rs)) ≡ firstSlot (allPrepared q rewriting new (map (segmentIn s) (recordsFrom n rs)))
 unfolding recordsFrom
 slot-first s rs q rewriting new zero h = absurd (omega arith)
 slot-first s rs q rewriting new (suc n) h = refl

@@ -6,7 +6,7 @@ ghost use Rattle.bitio.specs.Lent.{pasted};
 ghost use Rattle.header.specs.Sequence.{sequenceOf};
 ghost use Rattle.blocks.specs.Blocks.{total};
 ghost use Rattle.blocks.specs.Numbers.{headKey, headGolden, segmentCount, framesIn};
-ghost use Rattle.pictures.specs.Code.{judged, orElse, capped};
+ghost use Rattle.pictures.specs.Code.{judged, answerOr, capped};
 ghost use Rattle.assemble.specs.Stages.{ownIn, headerIn, needed, fitsIn, roomFor};
 ghost use Rattle.assemble.specs.Whole.{outcome, six, Handed};
 use crate::plan::Basis;
@@ -50,7 +50,7 @@ pub enum Assembled {
 // The slot that the show units of the first segment name.
 fn first_slot(picture: &[u8], segments: &[u64], basis: Basis, points: [OperatingPoint; 32]) -> u64
     requires { ⌜ 1 ≤ segmentCount (now segments) ⌝ }
-    ensures { λ r. ⌜ r ≡ orElse 0 (judged (sequenceOf (basis .header) points) (basis .rewriting) (headKey (now (picture .entry)) (now (segments .entry))) (headGolden (now (picture .entry)) (now (segments .entry)))) ⌝ }
+    ensures { λ r. ⌜ r ≡ answerOr 0 (judged (sequenceOf (basis .header) points) (basis .rewriting) (headKey (now (picture .entry)) (now (segments .entry))) (headGolden (now (picture .entry)) (now (segments .entry)))) ⌝ }
 {
     let key = key_of(picture, segments, 0);
     let golden = golden_of(picture, segments, 0);

@@ -65,18 +65,18 @@ module _ (pictures ends shows : List ℕ) (p n : ℕ) where
 
   -- a line put down by its parts
   pub line-wrote : {d d₁ d₂ d₃ d₄ d₅ : List ℕ} {at m₁ m₂ m₃ m₄ r x l : ℕ} → at + length (line pictures ends shows p n) ≤ length d → x ≡ letter n → l ≡ unitLength
-      → Wrote d d₁ at m₁ (field p 32) → Wrote d₁ d₂ m₁ m₂ (x ∷ 32 ∷ []) → Wrote d₂ d₃ m₂ m₃ (field (n / 4) 32) → Wrote d₃ d₄ m₃ m₄ (slotField shows n)
-      → Wrote d₄ d₅ m₄ r (field l 10) → Wrote d d₅ at r (line pictures ends shows p n)
+      → Wrote d at (field p 32) m₁ d₁ → Wrote d₁ m₁ (x ∷ 32 ∷ []) m₂ d₂ → Wrote d₂ m₂ (field (n / 4) 32) m₃ d₃ → Wrote d₃ m₃ (slotField shows n) m₄ d₄
+      → Wrote d₄ m₄ (field l 10) r d₅ → Wrote d at (line pictures ends shows p n) r d₅
   unfolding line
   line-wrote {d} {d₁} {d₂} {d₃} {d₄} {d₅} {at} {m₁} {m₂} {m₃} {m₄} {r} {x} {l} room e f w₁ w₂ w₃ w₄ w₅ =
       let a = length-line in
       let k₁ : length d₁ ≡ length d = wrote-length w₁ (omega arith) in
       let k₂ : length d₂ ≡ length d = wrote-length w₂ (omega (arith, w₁ .next)) ∙ k₁ in
       let k₃ : length d₃ ≡ length d = wrote-length w₃ (omega (arith, w₁ .next, w₂ .next)) ∙ k₂ in
-      let v₂ : Wrote d₁ d₂ m₁ m₂ (letter n ∷ 32 ∷ []) = rw (← e) w₂ in
-      let v₅ : Wrote d₄ d₅ m₄ r (field unitLength 10) = rw (← f) w₅ in
-      wrote-more w₁ _ (omega arith) (wrote-more v₂ _ (omega (arith, w₁ .next)) (wrote-more w₃ _ (omega (arith, w₁ .next, w₂ .next)) (
-      wrote-more w₄ _ (omega (arith, w₁ .next, w₂ .next, w₃ .next)) v₅)))
+      let v₂ : Wrote d₁ m₁ (letter n ∷ 32 ∷ []) m₂ d₂ = rw (← e) w₂ in
+      let v₅ : Wrote d₄ m₄ (field unitLength 10) r d₅ = rw (← f) w₅ in
+      wrote-more w₁ (omega arith) (wrote-more v₂ (omega (arith, w₁ .next)) (wrote-more w₃ (omega (arith, w₁ .next, w₂ .next)) (
+      wrote-more w₄ (omega (arith, w₁ .next, w₂ .next, w₃ .next)) v₅)))
 
 -- ---- all lines
 
@@ -150,23 +150,23 @@ module _ {pictures ends shows list d₀ : List ℕ} {at : ℕ} {d : List ℕ} {i
   abbrev here : List ℕ
   here = lineOf pictures ends shows list i
 
-  pub lining-end : length list ≤ i → Wrote d₀ d at to all
+  pub lining-end : length list ≤ i → Wrote d₀ at all to d
   lining-end h =
       let z = behind-none pictures ends shows list i h in
-      record { next = omega (arith, l .place, ap length z); bytes = sym (pasted-nil d to) ∙ ap (pasted d to) (sym z) ∙ l .same }
+      record { next = omega (arith, l .place, ap length z); out = sym (pasted-nil d to) ∙ ap (pasted d to) (sym z) ∙ l .same }
 
   module _ (h : i < length list) (room : at + length all ≤ length d₀) where
     pub lining-room : to + length here ≤ length d
     lining-room = omega (arith, l .place, l .kept, behind-length pictures ends shows list i h)
 
-    pub lining-turn : {d′ : List ℕ} {t : ℕ} → Wrote d d′ to t here → Lining pictures ends shows list d₀ at d′ (i + 1) t
+    pub lining-turn : {d′ : List ℕ} {t : ℕ} → Wrote d to here t d′ → Lining pictures ends shows list d₀ at d′ (i + 1) t
     lining-turn {d′} {t} w =
         record {
           within = omega arith;
           kept = wrote-length w lining-room ∙ l .kept;
           place = omega (arith, l .place, w .next, behind-length pictures ends shows list i h);
           same =
-              ap₂ (λ (m : List ℕ) (k : ℕ). pasted m k rest) (w .bytes) (w .next) ∙ pasted-more d to here (omega (arith, lining-room)) rest
+              ap₂ (λ (m : List ℕ) (k : ℕ). pasted m k rest) (w .out) (w .next) ∙ pasted-more d to here (omega (arith, lining-room)) rest
               ∙ ap (pasted d to) (sym (behind-more pictures ends shows list i h)) ∙ l .same;
         }
 
@@ -181,11 +181,11 @@ module _ (list : List ℕ) (cues : ℕ) (pictures ends shows : List ℕ) where
       let l = lines pictures ends shows 1 list in
       omega (arith, length-append (counted unitsWord (length list) 10) (b ++ l), length-append b l, length-counted unitsWord (length list) 10, length-counted cuesWord cues 10)
 
-  pub listing-wrote : {d d₁ d₂ d₃ : List ℕ} {m₁ m₂ r : ℕ} → length (listing list cues pictures ends shows) ≤ length d → Wrote d d₁ 0 m₁ (counted unitsWord (length list) 10)
-      → Wrote d₁ d₂ m₁ m₂ (counted cuesWord cues 10) → Wrote d₂ d₃ m₂ r (lines pictures ends shows 1 list) → Wrote d d₃ 0 r (listing list cues pictures ends shows)
+  pub listing-wrote : {d d₁ d₂ d₃ : List ℕ} {m₁ m₂ r : ℕ} → length (listing list cues pictures ends shows) ≤ length d → Wrote d 0 (counted unitsWord (length list) 10) m₁ d₁
+      → Wrote d₁ m₁ (counted cuesWord cues 10) m₂ d₂ → Wrote d₂ m₂ (lines pictures ends shows 1 list) r d₃ → Wrote d 0 (listing list cues pictures ends shows) r d₃
   unfolding listing
   listing-wrote {d} {d₁} {d₂} {d₃} {m₁} {m₂} {r} room w₁ w₂ w₃ =
       let a = listing-length in
       let u = length-counted unitsWord (length list) 10 in
       let k₁ : length d₁ ≡ length d = wrote-length w₁ (omega arith) in
-      wrote-more w₁ _ (omega arith) (wrote-more w₂ _ (omega (arith, w₁ .next)) w₃)
+      wrote-more w₁ (omega arith) (wrote-more w₂ (omega (arith, w₁ .next)) w₃)

@@ -11,7 +11,7 @@ use Rattle.pictures.specs.Segments.{Segment}
 use Rattle.frame.specs.UnitFrame.{unitFrame}
 use Rattle.pictures.specs.Prepare.{isSequence, renewed, sent, keyOk, goldenFlags, asked, Prepared, prepare}
 use Rattle.pictures.specs.Assemble.{verdict}
-use Rattle.pictures.specs.Code.{judged, renewing, orElse, sentBytes}
+use Rattle.pictures.specs.Code.{judged, renewing, answerOr, sentBytes}
 
 -- ---- chains of answers
 
@@ -47,7 +47,7 @@ module _ (q : Sequence) (new : List ℕ) (x : Segment) where
 
   by-obus : (a b : Answer (List Obu))
       → andNext (rewrittenOf (x .key) a) (λ k. andNext (rewrittenOf (x .golden) b) (λ g. asked q (x .key) (x .golden) (preparedBy k g)))
-      ≡ andNext (andNext (verdict a) (λ _. andNext (verdict b) (λ _. asked q (x .key) (x .golden) (λ n. accepted n)))) (preparedBy (orElse [] (rewrittenOf (x .key) a)) (orElse [] (rewrittenOf (x .golden) b)))
+      ≡ andNext (andNext (verdict a) (λ _. andNext (verdict b) (λ _. asked q (x .key) (x .golden) (λ n. accepted n)))) (preparedBy (answerOr [] (rewrittenOf (x .key) a)) (answerOr [] (rewrittenOf (x .golden) b)))
   unfolding andNext
   by-obus (refused k) b = refl
   by-obus (accepted os) (refused k) = refl

@@ -12,14 +12,14 @@ use Rattle.obu.specs.Unit.{count, has, ofUnit}
 use Rattle.obu.proofs.UnitLaws.{has-count}
 use Rattle.pictures.specs.Prepare.{isSequence, sent}
 use Rattle.pictures.specs.Assemble.{verdict}
-use Rattle.pictures.specs.Code.{readable, orElse, sentBytes}
+use Rattle.pictures.specs.Code.{readable, answerOr, sentBytes}
 use Rattle.pictures.specs.Rewrite.{renewedBytes, rewritten}
 use Rattle.pictures.proofs.RangeLaws.{denied, granted}
 
 module _ (new u : List ℕ) where
   -- what goes out of the OBUs of u
   abbrev outgoing : Answer (List Obu) → List ℕ
-  outgoing x = orElse [] (andNext x (λ os. accepted (pick (has isSequence os) (renewedBytes new os) u)))
+  outgoing x = answerOr [] (andNext x (λ os. accepted (pick (has isSequence os) (renewedBytes new os) u)))
 
   no-sequence : (x : Answer (List Obu)) → answer (count isSequence) x ≡ accepted 0 → outgoing x ≡ u
   unfolding andNext

@@ -21,7 +21,7 @@ use Rattle.blocks.specs.Numbers.{segmentCount, keyAt, goldenAt, framesAt}
 use Rattle.pictures.specs.Segments.{Segment}
 use Rattle.frame.specs.UnitFrame.{framePayload, unitFrame}
 use Rattle.pictures.specs.Prepare.{keyOk, goldenFlags, lowest, showUnit}
-use Rattle.pictures.specs.Code.{allSegments, readable, judged, orElse, slotsOf}
+use Rattle.pictures.specs.Code.{allSegments, readable, judged, answerOr, slotsOf}
 use Rattle.pictures.proofs.PrepareLaws.{length-all}
 use Rattle.pictures.proofs.SegmentLaws.{segmentsBehind, segments-start, segments-end, segments-next}
 
@@ -83,10 +83,10 @@ judged-accepts q rewriting k g =
     next-accepts HeaderIs (λ n. n < 8) (unitFrame false q g) _ (frame-accepts q g) (λ z i.
     next-accepts Flags (λ n. n < 8) (goldenFlags z) _ (flags-accepts z i) (λ flags b. lowest-lt 8 flags (b .0) (b .1)))))))
 
-pub slot-small : (q : Sequence) (rewriting : Bool) (k g : List ℕ) → orElse 0 (judged q rewriting k g) < 8
+pub slot-small : (q : Sequence) (rewriting : Bool) (k g : List ℕ) → answerOr 0 (judged q rewriting k g) < 8
 slot-small q rewriting k g = go (judged q rewriting k g) (judged-accepts q rewriting k g)
   where
-    go : (a : Answer ℕ) → Accepts (λ n. n < 8) a → orElse 0 a < 8
+    go : (a : Answer ℕ) → Accepts (λ n. n < 8) a → answerOr 0 a < 8
     go (refused n) h = omega arith
     go (accepted n) h = h
 
@@ -111,7 +111,7 @@ unfolding flatMap
 shows-none q rewriting = refl
 
 shows-more : (q : Sequence) (rewriting : Bool) (x : Segment) (xs : List Segment)
-    → showsFrom q rewriting (x ∷ xs) ≡ showUnit (orElse 0 (judged q rewriting (x .key) (x .golden))) ++ showsFrom q rewriting xs
+    → showsFrom q rewriting (x ∷ xs) ≡ showUnit (answerOr 0 (judged q rewriting (x .key) (x .golden))) ++ showsFrom q rewriting xs
 unfolding flatMap
 shows-more q rewriting x xs = refl
 
@@ -134,7 +134,7 @@ module _ {q : Sequence} {rewriting : Bool} {s rs d₀ d : List ℕ} {i : ℕ} (r
     show-room = omega (arith, r .len, length-all s rs)
 
     pub show-turn : (d′ key golden : List ℕ) (slot : ℕ) → key ≡ keyAt s rs i → golden ≡ goldenAt s rs i
-        → slot ≡ orElse 0 (judged q rewriting key golden) → d′ ≡ pasted d (5 * i) (showUnit slot) → Showing q rewriting s rs d₀ d′ (i + 1)
+        → slot ≡ answerOr 0 (judged q rewriting key golden) → d′ ≡ pasted d (5 * i) (showUnit slot) → Showing q rewriting s rs d₀ d′ (i + 1)
     show-turn d′ key golden slot is-key is-golden is put =
         let n : 5 * (i + 1) ≡ 5 * i + 5 = omega arith in
         let rest = showsFrom q rewriting (segmentsBehind s rs (i + 1)) in

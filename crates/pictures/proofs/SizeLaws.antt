@@ -11,7 +11,7 @@ use borrow.Author.Tests.{lt-ltb, le-ltb, eq-eqb, ne-eqb}
 use Rattle.blocks.specs.Blocks.{total}
 use Rattle.blocks.specs.Numbers.{headFrames, segmentCount, recordsBehind, framesAt, framesIn}
 use Rattle.pictures.specs.Assemble.{stopped, made, andAlso, noneEmpty, sizes}
-use Rattle.pictures.specs.Sizes.{sized, filledFirst}
+use Rattle.pictures.specs.Sizes.{sizedAll, filledFirst}
 use Rattle.blocks.proofs.NumberLaws.{behind-start, behind-end, behind-more, frames-length}
 
 -- the frames of the segments from i on
@@ -112,32 +112,32 @@ all-filled j (n ∷ ns) h = go (eqb n 0) (all-filled (suc j) ns) h
 
 -- ---- the refusals in order
 
-sized-some : (gop : ℕ) (ns : List ℕ) → 1 ≤ length ns → sized gop ns ≡ sizes gop ns
+sized-some : (gop : ℕ) (ns : List ℕ) → 1 ≤ length ns → sizedAll gop ns ≡ sizes gop ns
 sized-some gop [] h = absurd (omega arith)
 sized-some gop (n ∷ ns) h = refl
 
-sized-none : (gop : ℕ) (ns : List ℕ) → length ns ≡ 0 → stopped 21 none ≡ sized gop ns
+sized-none : (gop : ℕ) (ns : List ℕ) → length ns ≡ 0 → stopped 21 none ≡ sizedAll gop ns
 sized-none gop [] h = refl
 sized-none gop (n ∷ ns) h = absurd (omega arith)
 
-pub refused-21 : (gop : ℕ) (rs : List ℕ) → segmentCount rs ≡ 0 → stopped 21 none ≡ sized gop (framesIn rs)
+pub refused-21 : (gop : ℕ) (rs : List ℕ) → segmentCount rs ≡ 0 → stopped 21 none ≡ sizedAll gop (framesIn rs)
 refused-21 gop rs h = sized-none gop (framesIn rs) (frames-length rs ∙ h)
 
 module _ (gop : ℕ) (rs : List ℕ) (some-there : segmentCount rs ≡ 0 → ⊥) where
-  sized-there : sized gop (framesIn rs) ≡ sizes gop (framesIn rs)
+  sized-there : sizedAll gop (framesIn rs) ≡ sizes gop (framesIn rs)
   sized-there = let l = frames-length rs in sized-some gop (framesIn rs) (omega arith)
 
-  pub refused-22 : gop < 2 → stopped 22 none ≡ sized gop (framesIn rs)
+  pub refused-22 : gop < 2 → stopped 22 none ≡ sizedAll gop (framesIn rs)
   unfolding sizes
   refused-22 h = sym (sized-there ∙ rw (lt-ltb gop 2 h))
 
   module _ (g : 2 ≤ gop) (t : ℕ) (sum : t ≡ min (total (framesIn rs)) most) where
-    pub refused-23 : t < 2 → stopped 23 none ≡ sized gop (framesIn rs)
+    pub refused-23 : t < 2 → stopped 23 none ≡ sizedAll gop (framesIn rs)
     unfolding sizes
     refused-23 h = sym (sized-there ∙ rw (le-ltb gop 2 g, lt-ltb (total (framesIn rs)) 2 (omega arith)))
 
     module _ (h : 2 ≤ t) (i : ℕ) (found : i ≡ filledFirst (framesIn rs)) where
-      pub refused-24 : i < segmentCount rs → stopped 24 (some i) ≡ sized gop (framesIn rs)
+      pub refused-24 : i < segmentCount rs → stopped 24 (some i) ≡ sizedAll gop (framesIn rs)
       unfolding sizes andAlso
       refused-24 w =
           let l = frames-length rs in
@@ -148,10 +148,10 @@ module _ (gop : ℕ) (rs : List ℕ) (some-there : segmentCount rs ≡ 0 → ⊥
         filled : noneEmpty 0 (framesIn rs) ≡ made tt
         filled = all-filled 0 (framesIn rs) (omega (arith, frames-length rs))
 
-        pub refused-25 : 5000000 < t → stopped 25 none ≡ sized gop (framesIn rs)
+        pub refused-25 : 5000000 < t → stopped 25 none ≡ sizedAll gop (framesIn rs)
         unfolding sizes andAlso
         refused-25 k = sym (sized-there ∙ rw (le-ltb gop 2 g, le-ltb (total (framesIn rs)) 2 (omega arith), filled, lt-ltb 5000000 (total (framesIn rs)) (omega arith)))
 
-        pub sized-fit : t ≤ 5000000 → made tt ≡ sized gop (framesIn rs)
+        pub sized-fit : t ≤ 5000000 → made tt ≡ sizedAll gop (framesIn rs)
         unfolding sizes andAlso
         sized-fit k = sym (sized-there ∙ rw (le-ltb gop 2 g, le-ltb (total (framesIn rs)) 2 (omega arith), filled, le-ltb 5000000 (total (framesIn rs)) (omega arith)))

@@ -179,14 +179,14 @@ assemble room set s rs =
 
 -- ---- the unit that a list entry names
 
--- picture unit i, from where the one before it ends, the first from 0
-abbrev pub pictureUnit : List ℕ → List ℕ → ℕ → List ℕ
-pictureUnit picture ends i = part picture (getD (0 ∷ ends) i 0) (getD ends i 0)
+-- unit i of those that lie one behind the other in s, es being where each ends
+abbrev pub unitIn : List ℕ → List ℕ → ℕ → List ℕ
+unitIn s es i = part s (getD (0 ∷ es) i 0) (getD es i 0)
 
 -- the bytes that an entry n of a list stands for; of a number that names no unit, none
 unfoldable pub named : List ℕ → List ℕ → List ℕ → ℕ → List ℕ
 named picture ends shows n =
-    pick (ltb (n % 4) 2) (pictureUnit picture ends (2 * (n / 4) + n % 4)) (
+    pick (ltb (n % 4) 2) (unitIn picture ends (2 * (n / 4) + n % 4)) (
     pick (eqb (n % 4) 2) (part shows (5 * (n / 4)) (5 * (n / 4) + 5)) [])
 
 -- the list's units, in order

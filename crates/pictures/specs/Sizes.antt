@@ -16,9 +16,9 @@ checkedSays (Refused k) = stopped k none
 checkedSays (RefusedIn k i) = stopped k (some i)
 
 -- 21 no segments, then 22 to 25
-abbrev pub sized : ℕ → List ℕ → Outcome Unit
-sized gop [] = stopped 21 none
-sized gop (n ∷ ns) = sizes gop (n ∷ ns)
+abbrev pub sizedAll : ℕ → List ℕ → Outcome Unit
+sizedAll gop [] = stopped 21 none
+sizedAll gop (n ∷ ns) = sizes gop (n ∷ ns)
 
 -- how many segments stand before the first without frames
 unfoldable pub filledFirst : List ℕ → ℕ
