@@ -76,28 +76,28 @@ in-limit room n r e = e
 -- picture bytes and the header counted as far as a usize counts are judged alike
 module _ (room : Room) (n : Counts) (o : Output) (u : n .units ≡ length (o .list)) (c : n .cues ≡ length (o .cues)) (p : n .picture ≡ capped (length (o .picture)))
     (e : n .ends ≡ length (o .ends)) (w : n .shows ≡ length (o .shows)) (h : n .header ≡ capped (length (o .header))) where
-  abbrev bytes : ℕ
-  bytes = length (o .picture) + length (o .shows) + length (o .header)
+  abbrev allBytes : ℕ
+  allBytes = length (o .picture) + length (o .shows) + length (o .header)
 
   pub fits-same : fitsIn room n ≡ fits room o
   unfolding fitsIn fits
-  fits-same = go (leb bytes limit) refl
+  fits-same = go (leb allBytes limit) refl
     where
-      go : (t : Bool) → leb bytes limit ≡ t
+      go : (t : Bool) → leb allBytes limit ≡ t
           → (leb (n .picture + n .shows + n .header) limit && leb (n .units) (room .list) && leb (n .cues) (room .cues) && leb (n .picture) (room .picture) && leb (n .ends) (room .ends) && leb (n .shows) (room .shows) && leb (n .header) (room .header))
-          ≡ (leb bytes limit && leb (length (o .list)) (room .list) && leb (length (o .cues)) (room .cues) && leb (length (o .picture)) (room .picture) && leb (length (o .ends)) (room .ends) && leb (length (o .shows)) (room .shows) && leb (length (o .header)) (room .header))
+          ≡ (leb allBytes limit && leb (length (o .list)) (room .list) && leb (length (o .cues)) (room .cues) && leb (length (o .picture)) (room .picture) && leb (length (o .ends)) (room .ends) && leb (length (o .shows)) (room .shows) && leb (length (o .header)) (room .header))
       go true t =
-          let l = leb-true bytes limit t in
+          let l = leb-true allBytes limit t in
           let i : n .picture ≡ length (o .picture) = omega (arith, l, p) in
           let j : n .header ≡ length (o .header) = omega (arith, l, h) in
           rw (u, c, i, e, w, j)
       go false t =
-          let l = leb-false bytes limit t in
+          let l = leb-false allBytes limit t in
           let m : limit < n .picture + n .shows + n .header = omega (arith, l, p, h, w) in
           rw (lt-leb (n .picture + n .shows + n .header) limit m, t)
 
 -- each buffer has room
-pub record Roomy (room : Room) (o : Output) : Type 0 where
+pub record RoomForAll (room : Room) (o : Output) : Type 0 where
   pub bytes : length (o .picture) + length (o .shows) + length (o .header) ≤ limit
   pub list : length (o .list) ≤ room .list
   pub cues : length (o .cues) ≤ room .cues
@@ -106,7 +106,7 @@ pub record Roomy (room : Room) (o : Output) : Type 0 where
   pub shows : length (o .shows) ≤ room .shows
   pub header : length (o .header) ≤ room .header
 
-pub fits-roomy : (room : Room) (o : Output) → fits room o ≡ true → Roomy room o
+pub fits-roomy : (room : Room) (o : Output) → fits room o ≡ true → RoomForAll room o
 unfolding fits
 fits-roomy room o g =
     let (g, g7) = and-both _ _ g in

@@ -30,8 +30,8 @@ use Rattle.blocks.specs.Numbers.{headKey, framesIn}
 use Rattle.pictures.specs.Prepare.{isSequence, firstOf, timedSequence, Prepared}
 use Rattle.pictures.specs.declared.settings.Settings.{Settings}
 use Rattle.pictures.specs.Assemble.{Outcome, stopped, made, andAlso, inSegment, sameHeaders, headerObu, prepareAll, pictureOf}
-use Rattle.pictures.specs.Sizes.{sized, ranged}
-use Rattle.pictures.specs.Code.{allSegments, laterSegments, firstSequence, renewing, orElse, allPrepared, capped, measured}
+use Rattle.pictures.specs.Sizes.{sizedAll, ranged}
+use Rattle.pictures.specs.Code.{allSegments, laterSegments, firstSequence, renewing, answerOr, allPrepared, capped, measured}
 use Rattle.assemble.specs.Stages.{Going, going, WasRead, fromPictures, fromTiming, fromHeader, fromKey, checked, planned, headerIn, planSays, noPlan}
 use Rattle.pictures.specs.Rewrite.{obuIn}
 use Rattle.assemble.specs.declared.plan.Basis.{Basis}
@@ -67,7 +67,7 @@ module _ (s rs : List ℕ) where
   check-long gop h = rw (lt-ltb limit (length s) h)
 
   module _ (gop : ℕ) (h : length s ≤ limit) where
-    pub check-fit : made tt ≡ ranged s rs → sized gop (framesIn rs) ≡ checked s rs gop
+    pub check-fit : made tt ≡ ranged s rs → sizedAll gop (framesIn rs) ≡ checked s rs gop
     unfolding checked andAlso
     check-fit e = rw (le-ltb limit (length s) h, ← e)
 
@@ -108,23 +108,23 @@ module _ (s rs : List ℕ) where
 
   module _ (set : Settings) (o : Obu) (q : Sequence) where
     -- what goes out under the header y, sequence headers replaced by r
-    abbrev whole : Sequence → Option (List ℕ) → Outcome Going
-    whole y r = andAlso (prepareAll y r 0 (allSegments s rs)) (λ bs. made (going (headerObu r o) bs))
+    abbrev goingUnder : Sequence → Option (List ℕ) → Outcome Going
+    goingUnder y r = andAlso (prepareAll y r 0 (allSegments s rs)) (λ bs. made (going (headerObu r o) bs))
 
     -- there already: units go out as they are
     pub timing-there : (new header : List ℕ) → isTimed (q .header) ≡ true → header ≡ obuBytes o → fromPictures s rs q false new header ≡ fromTiming s rs set o q
     unfolding fromPictures fromTiming
     timing-there new header e h =
         ap (λ (l : List ℕ). andAlso (prepareAll q none 0 (allSegments s rs)) (λ bs. made (going l bs))) h
-        ∙ ap₂ whole (ap (λ (t : Bool). pick t q (timedSequence set q)) (sym e)) (ap (λ (t : Bool). pick t none (some (sequenceBytes (timedSequence set q)))) (sym e))
+        ∙ ap₂ goingUnder (ap (λ (t : Bool). pick t q (timedSequence set q)) (sym e)) (ap (λ (t : Bool). pick t none (some (sequenceBytes (timedSequence set q)))) (sym e))
 
     -- absent: sequence headers are replaced
     pub timing-new : (x : Sequence) → isTimed (q .header) ≡ false → x ≡ timedSequence set q
         → fromPictures s rs x true (sequenceBytes x) (obuBytes (obu 1 none (sequenceBytes x))) ≡ fromTiming s rs set o q
     unfolding fromPictures fromTiming
     timing-new x e t =
-        ap (λ (y : Sequence). whole y (some (sequenceBytes y))) t
-        ∙ ap₂ whole (ap (λ (t : Bool). pick t q (timedSequence set q)) (sym e)) (ap (λ (t : Bool). pick t none (some (sequenceBytes (timedSequence set q)))) (sym e))
+        ap (λ (y : Sequence). goingUnder y (some (sequenceBytes y))) t
+        ∙ ap₂ goingUnder (ap (λ (t : Bool). pick t q (timedSequence set q)) (sym e)) (ap (λ (t : Bool). pick t none (some (sequenceBytes (timedSequence set q)))) (sym e))
 
   -- sequence headers are replaced by the payload of q
   pub renewed-pictures : (q : Sequence) (new header : List ℕ) → new ≡ sequenceBytes q → header ≡ obuBytes (obu 1 none new)
@@ -206,15 +206,15 @@ module _ (s rs new : List ℕ) (b : Basis) where
   header-new r x = rw (r, x)
 
 module _ (h : SequenceHeader) (points : List OperatingPoint) (set : Settings) (w : WasRead (sequenceOf h points)) where
-  fine : support h ≡ accepted tt
-  fine = header-read (w .payload) (sequenceOf h points) (w .read) .1
+  was-supported : support h ≡ accepted tt
+  was-supported = header-read (w .payload) (sequenceOf h points) (w .read) .1
 
   pub never-refused : {A : Type 0} (k : ℕ) → refused k ≡ timed (set .fps) (set .den) h → A
-  never-refused k e = let i = e ∙ timed-of (set .fps) (set .den) h fine in let z : _≡_ {A = ℕ} 0 1 = cc in absurd (omega arith)
+  never-refused k e = let i = e ∙ timed-of (set .fps) (set .den) h was-supported in let z : _≡_ {A = ℕ} 0 1 = cc in absurd (omega arith)
 
   -- the header timed
   pub timed-header : (t : SequenceHeader) → accepted t ≡ timed (set .fps) (set .den) h → t ≡ withTiming (set .fps) (set .den) h
-  timed-header t e = let i = e ∙ timed-of (set .fps) (set .den) h fine in let w : t ≡ withTiming (set .fps) (set .den) h = cc in w
+  timed-header t e = let i = e ∙ timed-of (set .fps) (set .den) h was-supported in let w : t ≡ withTiming (set .fps) (set .den) h = cc in w
 
   pub timed-whole : (t : SequenceHeader) → accepted t ≡ timed (set .fps) (set .den) h → sequenceOf t points ≡ timedSequence set (sequenceOf h points)
   unfolding withTiming retimed
@@ -235,7 +235,7 @@ headed d xs h =
     rw (le-leb 0 (length xs) (omega arith), le-leb (length xs) (length (pasted d 0 xs)) l, z)
     (ap (λ (n : ℕ). take n (pasted d 0 xs)) (sym a) ∙ pasted-take-end d 0 xs (omega arith))
 
-pub new-there : (d array : List ℕ) (n : ℕ) (q : Sequence) → emittable q ≡ true → 400 ≤ length d → array ≡ emitLent d 0 q → n ≡ orElse 0 (emitPlaced d 0 q)
+pub new-there : (d array : List ℕ) (n : ℕ) (q : Sequence) → emittable q ≡ true → 400 ≤ length d → array ≡ emitLent d 0 q → n ≡ answerOr 0 (emitPlaced d 0 q)
     → part array 0 n ≡ sequenceBytes q
 unfolding emitLent emitPlaced
 new-there d array n q good room e f =

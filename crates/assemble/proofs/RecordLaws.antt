@@ -38,8 +38,8 @@ copied-room count room = pick-cases (λ n. n ≤ room / width) (leb count (room 
 -- ---- all segments
 
 -- what stands for a segment where there is none
-abbrev pub noSegment : Segment
-noSegment = record { «key_start» = 0; «key_end» = 0; «golden_start» = 0; «golden_end» = 0; frames = 0 }
+abbrev pub noRecord : Segment
+noRecord = record { «key_start» = 0; «key_end» = 0; «golden_start» = 0; «golden_end» = 0; frames = 0 }
 
 pub numbers-length : (xs : List Segment) → length (numbersOf xs) ≡ width * length xs
 unfolding numbersOf
@@ -89,14 +89,14 @@ module _ {xs : List Segment} {d₀ d : List ℕ} {at i : ℕ} (r : Copying xs d�
     pub copy-room : at < segmentCount d
     copy-room = omega (arith, copied-room (length xs) (length d₀), r .place, r .len)
 
-    pub copy-turn : (m : ℕ) (d′ : List ℕ) → m ≡ at + 1 → d′ ≡ pasted d (width * at) (recordIn (getD xs i noSegment)) → Copying xs d₀ d′ m (i + 1)
+    pub copy-turn : (m : ℕ) (d′ : List ℕ) → m ≡ at + 1 → d′ ≡ pasted d (width * at) (recordIn (getD xs i noRecord)) → Copying xs d₀ d′ m (i + 1)
     copy-turn m d′ e f =
         let n = copyCount (length xs) (length d₀) in
-        let x = getD xs i noSegment in
+        let x = getD xs i noRecord in
         let k : width * m ≡ width * at + width = omega (arith, e) in
         let l : i < length (take n xs) = omega (arith, length-take n xs, copied-within (length xs) (length d₀)) in
         let behind : drop i (take n xs) ≡ x ∷ drop (i + 1) (take n xs) =
-        drop-cons (take n xs) i noSegment l ∙ ap₂ (λ (y : Segment) (k : ℕ). y ∷ drop k (take n xs)) (getD-take n xs i noSegment h) (sym (add-one i)) in
+        drop-cons (take n xs) i noRecord l ∙ ap₂ (λ (y : Segment) (k : ℕ). y ∷ drop k (take n xs)) (getD-take n xs i noRecord h) (sym (add-one i)) in
         record {
           within = omega arith;
           place = omega (arith, r .place, e);

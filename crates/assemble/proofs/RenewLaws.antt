@@ -25,14 +25,14 @@ pub header-read : (s : List ℕ) (q : Sequence) → supportedSequence s ≡ acce
 unfolding supportedSequence andNext
 header-read s q e = go (parseSequence s) e
   where
-    fine : (p : Sequence) (y : Answer Unit) → andNext y (λ _. accepted p) ≡ accepted q → (accepted p ≡ accepted q) × (y ≡ accepted tt)
-    fine p (refused k) e = let z : _≡_ {A = ℕ} 0 1 = cc in absurd (omega arith)
-    fine p (accepted tt) e = (e, refl)
+    supported-fine : (p : Sequence) (y : Answer Unit) → andNext y (λ _. accepted p) ≡ accepted q → (accepted p ≡ accepted q) × (y ≡ accepted tt)
+    supported-fine p (refused k) e = let z : _≡_ {A = ℕ} 0 1 = cc in absurd (omega arith)
+    supported-fine p (accepted tt) e = (e, refl)
 
     go : (x : Answer Sequence) → andNext x (λ p. andNext (support (p .header)) (λ _. accepted p)) ≡ accepted q → (x ≡ accepted q) × (support (q .header) ≡ accepted tt)
     go (refused k) e = let z : _≡_ {A = ℕ} 0 1 = cc in absurd (omega arith)
     go (accepted p) e =
-        let f = fine p (support (p .header)) e in
+        let f = supported-fine p (support (p .header)) e in
         let same : p ≡ q = cc in
         (f .0, rw (sym same) (f .1))
 
@@ -41,6 +41,3 @@ module _ (set : Settings) (s : List ℕ) (q : Sequence) (read : supportedSequenc
   renewal-emittable =
       let (r, f) = header-read s q read in
       timed-emittable (set .fps) (set .den) q (supports (q .header) f .full) num den (parse-emittable s q r)
-
-  pub renewal-at-most : length (sequenceBytes (timedSequence set q)) ≤ 400
-  renewal-at-most = emitted-at-most (timedSequence set q) renewal-emittable

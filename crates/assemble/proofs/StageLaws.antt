@@ -10,7 +10,7 @@ use lib.Dec.{ltb, eqb}
 use borrow.Author.Tests.{ltb-false, eqb-false}
 use Rattle.header.specs.Support.{supportedSequence}
 use Rattle.blocks.proofs.NumberLaws.{frames-length}
-use Rattle.bitio.specs.Parse.{Answer, refused, accepted, answer, andNext, onto}
+use Rattle.bitio.specs.Parse.{Answer, refused, accepted, andNext, onto}
 use Rattle.bitio.specs.Limits.{limit}
 use Rattle.obu.specs.Obu.{obus}
 use Rattle.blocks.specs.Blocks.{total}
@@ -18,8 +18,8 @@ use Rattle.blocks.specs.Numbers.{headKey, headFrames, headInside, rest, segment
 use Rattle.pictures.specs.Segments.{Segment, framesOf, segmentIn, segmentAt, segmentsFrom, segmentsOf}
 use Rattle.pictures.specs.Prepare.{effective, renewal}
 use Rattle.pictures.specs.declared.settings.Settings.{Settings}
-use Rattle.pictures.specs.Assemble.{Outcome, stopped, made, andAlso, inSegment, overall, noneEmpty, sizes, sameHeaders, headerObu, prepareAll, pictureOf, Output, outputOf, Room, assembled, fitted, assemble}
-use Rattle.pictures.specs.Sizes.{sized, ranged}
+use Rattle.pictures.specs.Assemble.{Outcome, stopped, made, andAlso, verdict, inSegment, overall, noneEmpty, sizes, sameHeaders, headerObu, prepareAll, pictureOf, Output, outputOf, Room, assembled, fitted, assemble}
+use Rattle.pictures.specs.Sizes.{sizedAll, ranged}
 use Rattle.pictures.specs.Code.{allSegments, laterSegments, firstSequence, capped}
 use Rattle.assemble.specs.Stages.{Going, going, fromTiming, fromHeader, fromKey, checked, planned}
 
@@ -79,22 +79,18 @@ first-both {A} {B} {C} {D} {E} i (accepted a) p f g h k e = go (p a)
 abbrev fine : Outcome Unit
 fine = made tt
 
--- whether segments are accepted
-abbrev judged : Answer (List Segment) → Answer Unit
-judged a = answer (λ _. tt) a
-
 module _ (room : Room) (set : Settings) where
   -- what is handed out of what goes out, if it fits
-  abbrev pub handed : List ℕ → Going → Outcome Output
-  handed ns g = fitted room (outputOf (set .gop) ns (g .header) (g .units))
+  abbrev pub fittedOut : List ℕ → Going → Outcome Output
+  fittedOut ns g = fitted room (outputOf (set .gop) ns (g .header) (g .units))
 
   staged : (x : Segment) (xs all later : List Segment) (ns : List ℕ) → all ≡ x ∷ xs → later ≡ xs → ns ≡ framesOf (x ∷ xs)
       → andAlso (assembled set (x ∷ xs)) (fitted room)
-      ≡ andAlso (andAlso (sized (set .gop) ns) (λ _.
+      ≡ andAlso (andAlso (sizedAll (set .gop) ns) (λ _.
       andAlso (inSegment 0 (firstSequence (x .key))) (λ o.
       andAlso (inSegment 0 (supportedSequence (o .payload))) (λ q.
       andAlso (sameHeaders (o .payload) 1 later) (λ _.
-      andAlso (prepareAll (effective set q) (renewal set q) 0 all) (λ bs. made (going (headerObu (renewal set q) o) bs))))))) (handed ns)
+      andAlso (prepareAll (effective set q) (renewal set q) 0 all) (λ bs. made (going (headerObu (renewal set q) o) bs))))))) (fittedOut ns)
   unfolding assembled andAlso
   staged x xs all later ns a l n =
       rw (a, l, n) (also-both (sizes (set .gop) (framesOf (x ∷ xs))) _ _ _ _ (λ _.
@@ -104,11 +100,11 @@ module _ (room : Room) (set : Settings) where
       also-both (prepareAll (effective set q) (renewal set q) 0 (x ∷ xs)) _ _ _ _ (λ bs. refl))))))
 
   module _ (s rs : List ℕ) where
-    counted : (n : ℕ) → segmentCount rs ≡ n
-        → andAlso (assembled set (map (segmentIn s) (recordsFrom n rs))) (fitted room) ≡ andAlso (andAlso (sized (set .gop) (framesIn rs)) (λ _. fromKey s rs set)) (handed (framesIn rs))
+    staged-count : (n : ℕ) → segmentCount rs ≡ n
+        → andAlso (assembled set (map (segmentIn s) (recordsFrom n rs))) (fitted room) ≡ andAlso (andAlso (sizedAll (set .gop) (framesIn rs)) (λ _. fromKey s rs set)) (fittedOut (framesIn rs))
     unfolding assembled andAlso recordsFrom fromKey fromHeader fromTiming
-    counted zero e = let f : framesIn rs ≡ [] = ap (λ (k : ℕ). map headFrames (recordsFrom k rs)) e in rw f
-    counted (suc m) e =
+    staged-count zero e = let f : framesIn rs ≡ [] = ap (λ (k : ℕ). map headFrames (recordsFrom k rs)) e in rw f
+    staged-count (suc m) e =
         staged (segmentIn s rs) (map (segmentIn s) (recordsFrom m (rest rs))) (allSegments s rs) (laterSegments s rs) (framesIn rs)
         (ap (λ (k : ℕ). map (segmentIn s) (recordsFrom k rs)) e) (ap (λ (k : ℕ). map (segmentIn s) (recordsFrom k (rest rs))) less) (ap (λ (k : ℕ). map headFrames (recordsFrom k rs)) e ∙ frames-in s (recordsFrom (suc m) rs))
       where
@@ -116,16 +112,16 @@ module _ (room : Room) (set : Settings) where
         less = omega (arith, e)
 
     -- the whole is what goes out, handed out if it fits
-    pub assemble-staged : assemble room set s rs ≡ andAlso (planned s rs set) (handed (framesIn rs))
+    pub assemble-staged : assemble room set s rs ≡ andAlso (planned s rs set) (fittedOut (framesIn rs))
     unfolding assemble planned checked andAlso overall
     assemble-staged = go (ltb limit (length s)) (segmentsOf s rs) refl
       where
         go : (t : Bool) (a : Answer (List Segment)) → segmentsOf s rs ≡ a
             → pick t (stopped 34 none) (andAlso (overall a) (λ xs. andAlso (assembled set xs) (fitted room)))
-            ≡ andAlso (andAlso (pick t (stopped 34 none) (andAlso (overall (judged a)) (λ _. sized (set .gop) (framesIn rs)))) (λ _. fromKey s rs set)) (handed (framesIn rs))
+            ≡ andAlso (andAlso (pick t (stopped 34 none) (andAlso (overall (verdict a)) (λ _. sizedAll (set .gop) (framesIn rs)))) (λ _. fromKey s rs set)) (fittedOut (framesIn rs))
         go true a e = refl
         go false (refused k) e = refl
-        go false (accepted xs) e = ap (λ (l : List Segment). andAlso (assembled set l) (fitted room)) (segments-are s rs xs e) ∙ counted (segmentCount rs) refl
+        go false (accepted xs) e = ap (λ (l : List Segment). andAlso (assembled set l) (fitted room)) (segments-are s rs xs e) ∙ staged-count (segmentCount rs) refl
 
 -- ---- what the checks tell
 
@@ -149,7 +145,7 @@ pub record Sound (gop : ℕ) (rs : List ℕ) : Type 0 where
   pub some-there : 1 ≤ segmentCount rs
   pub count : segmentCount rs ≤ 5000000
 
-sized-sound : (gop : ℕ) (rs ns : List ℕ) → framesIn rs ≡ ns → sized gop ns ≡ fine → Sound gop rs
+sized-sound : (gop : ℕ) (rs ns : List ℕ) → framesIn rs ≡ ns → sizedAll gop ns ≡ fine → Sound gop rs
 unfolding sizes andAlso
 sized-sound gop rs [] f e = let z : _≡_ {A = ℕ} 0 1 = cc in absurd (omega arith)
 sized-sound gop rs (n ∷ ns) f e = go (ltb gop 2) (ltb (total (n ∷ ns)) 2) (noneEmpty 0 (n ∷ ns)) (ltb 5000000 (total (n ∷ ns))) refl refl refl e
@@ -172,7 +168,7 @@ pub checked-sound : (s rs : List ℕ) (gop : ℕ) → checked s rs gop ≡ fine 
 unfolding checked andAlso
 checked-sound s rs gop e = go (ltb limit (length s)) (ranged s rs) e
   where
-    go : (t : Bool) (x : Outcome Unit) → pick t (stopped 34 none) (andAlso x (λ _. sized gop (framesIn rs))) ≡ fine → Sound gop rs
+    go : (t : Bool) (x : Outcome Unit) → pick t (stopped 34 none) (andAlso x (λ _. sizedAll gop (framesIn rs))) ≡ fine → Sound gop rs
     go true x e = let z : _≡_ {A = ℕ} 0 1 = cc in absurd (omega arith)
     go false (stopped m l) e = let z : _≡_ {A = ℕ} 0 1 = cc in absurd (omega arith)
     go false (made tt) e = sized-sound gop rs (framesIn rs) refl e

@@ -17,9 +17,9 @@ use Rattle.pictures.specs.Segments.{segmentIn}
 use Rattle.pictures.specs.Prepare.{Prepared, showUnit}
 use Rattle.pictures.specs.declared.settings.Settings.{Settings}
 use Rattle.pictures.specs.Assemble.{Outcome, stopped, made, andAlso, pictureOf, endsFrom, showsOf, firstSlot, Output, outputOf, Room, fits, fitted}
-use Rattle.pictures.specs.Code.{allSegments, judged, orElse, allPrepared, allSent, slotsOf, capped}
+use Rattle.pictures.specs.Code.{allSegments, judged, answerOr, allPrepared, allSent, slotsOf, capped}
 use Rattle.assemble.specs.Whole.{counts, countsOf, assembledSays, Lent, outcome, lentAfter, Handed}
-use Rattle.assemble.specs.Stages.{Going, planned, headerIn, newIn, basisSays, answerSays, planSays, needed, fitsIn, roomOf}
+use Rattle.assemble.specs.Stages.{Going, planned, headerIn, newIn, basisSays, answerSays, planSays, needed, fitsIn, roomFor}
 use Rattle.assemble.specs.declared.multi.Counts.{Counts}
 use Rattle.assemble.specs.declared.multi.Assembled.{Assembled}
 use Rattle.assemble.specs.declared.multi.Assembled.the-variants.{Made, Refused as AllRefused, RefusedIn as SegmentRefused}
@@ -28,9 +28,9 @@ use Rattle.assemble.specs.declared.plan.Planned.the-variants.{Ready, Ref
 use Rattle.assemble.specs.declared.plan.Plan.{Plan}
 use Rattle.assemble.proofs.AnswerLaws.{kept}
 use Rattle.pictures.proofs.PrepareLaws.{picture-sent, ends-sent, shows-slots, length-prepared, length-ends, length-shows, length-all}
-use Rattle.assemble.proofs.StageLaws.{Sound, handed, assemble-staged, planned-sound, planned-weighed}
+use Rattle.assemble.proofs.StageLaws.{Sound, fittedOut, assemble-staged, planned-sound, planned-weighed}
 use Rattle.assemble.proofs.PlanLaws.{says-refused, says-refused-in}
-use Rattle.assemble.proofs.MultiLaws.{length-list, same-counts, fits-same, Roomy, fits-roomy}
+use Rattle.assemble.proofs.MultiLaws.{length-list, same-counts, fits-same, RoomForAll, fits-roomy}
 
 -- a plan that is ready, its new payload being `new`
 pub plan-ready : (s rs : List ℕ) (p : Plan) (b : Basis) (n : ℕ) (new : List ℕ) (x : Outcome Going) → p .answer ≡ Ready b n → new ≡ newIn (p .new) b → planSays s rs p ≡ x
@@ -40,7 +40,7 @@ plan-ready s rs p b n new x e i f = sym f ∙ ap (answerSays s rs (p .points) (p
 
 -- the first segment's slot
 slot-first : (s rs : List ℕ) (q : Sequence) (rewriting : Bool) (new : List ℕ) (n : ℕ) → 1 ≤ n
-    → orElse 0 (judged q rewriting (headKey s rs) (headGolden s rs)) ≡ firstSlot (allPrepared q rewriting new (map (segmentIn s) (recordsFrom n rs)))
+    → answerOr 0 (judged q rewriting (headKey s rs) (headGolden s rs)) ≡ firstSlot (allPrepared q rewriting new (map (segmentIn s) (recordsFrom n rs)))
 unfolding recordsFrom
 slot-first s rs q rewriting new zero h = absurd (omega arith)
 slot-first s rs q rewriting new (suc n) h = refl
@@ -52,14 +52,14 @@ same-lent a b d i j k = rw (a, b, d, i, j, k)
 
 module _ (s rs : List ℕ) (set : Settings) (d : Lent) where
   abbrev room : Room
-  room = roomOf (length (d .list)) (length (d .cues)) (length (d .pictures)) (length (d .ends)) (length (d .shows)) (length (d .header))
+  room = roomFor (length (d .list)) (length (d .cues)) (length (d .pictures)) (length (d .ends)) (length (d .shows)) (length (d .header))
 
   abbrev whole : Outcome Output
   whole = outcome s rs set d
 
-  staged : whole ≡ andAlso (planned s rs set) (handed room set (framesIn rs))
+  whole-staged : whole ≡ andAlso (planned s rs set) (fittedOut room set (framesIn rs))
   unfolding outcome
-  staged = assemble-staged room set s rs
+  whole-staged = assemble-staged room set s rs
 
   -- the answer r, the lent slices being d′ at exit
   abbrev Gives : Assembled → Lent → Type 0
@@ -69,7 +69,7 @@ module _ (s rs : List ℕ) (set : Settings) (d : Lent) where
 
   planned-stopped : (r : Assembled) (k : ℕ) (i : Option ℕ) → assembledSays r ≡ stopped k i → planned s rs set ≡ stopped k i → Gives r d
   unfolding andAlso
-  planned-stopped r k i e w = kept (outcome s rs set) d r e (staged ∙ ap (λ (x : Outcome Going). andAlso x (handed room set (framesIn rs))) w)
+  planned-stopped r k i e w = kept (outcome s rs set) d r e (whole-staged ∙ ap (λ (x : Outcome Going). andAlso x (fittedOut room set (framesIn rs))) w)
 
   module _ (p : Plan) (f : planSays s rs p ≡ planned s rs set) where
     pub plan-refused : (k : ℕ) → p .answer ≡ Refused k → Gives (AllRefused k) d
@@ -81,14 +81,14 @@ module _ (s rs : List ℕ) (set : Settings) (d : Lent) where
   -- ---- what goes out
 
   module _ (points : List OperatingPoint) (new : List ℕ) (b : Basis) (n : ℕ) (ready : planned s rs set ≡ made (basisSays s rs points new b n)) where
-    abbrev units : List Prepared
-    units = allPrepared (sequenceOf (b .header) points) (b .rewriting) new (allSegments s rs)
+    abbrev prepared : List Prepared
+    prepared = allPrepared (sequenceOf (b .header) points) (b .rewriting) new (allSegments s rs)
 
     abbrev sents : List Prepared
     sents = allSent (b .rewriting) new (allSegments s rs)
 
-    abbrev out : Output
-    out = outputOf (set .gop) (framesIn rs) (headerIn s rs new b) units
+    abbrev output : Output
+    output = outputOf (set .gop) (framesIn rs) (headerIn s rs new b) prepared
 
     abbrev need : Counts
     need = needed (set .gop) s rs points new b n
@@ -96,37 +96,37 @@ module _ (s rs : List ℕ) (set : Settings) (d : Lent) where
     pub sound : Sound (set .gop) rs
     sound = planned-sound s rs set (basisSays s rs points new b n) ready
 
-    weighed : n ≡ capped (length (pictureOf units))
+    weighed : n ≡ capped (length (pictureOf prepared))
     weighed = planned-weighed s rs set (basisSays s rs points new b n) ready
 
-    length-units : length units ≡ segmentCount rs
+    length-units : length prepared ≡ segmentCount rs
     length-units = length-prepared (sequenceOf (b .header) points) (b .rewriting) new (allSegments s rs) ∙ length-all s rs
 
-    ends-are : 2 * segmentCount rs ≡ length (endsFrom 0 units)
-    ends-are = omega (arith, length-ends 0 units, length-units)
+    ends-are : 2 * segmentCount rs ≡ length (endsFrom 0 prepared)
+    ends-are = omega (arith, length-ends 0 prepared, length-units)
 
-    shows-are : 5 * segmentCount rs ≡ length (showsOf units)
-    shows-are = omega (arith, length-shows units, length-units)
+    shows-are : 5 * segmentCount rs ≡ length (showsOf prepared)
+    shows-are = omega (arith, length-shows prepared, length-units)
 
-    whole-is : whole ≡ fitted room out
+    whole-is : whole ≡ fitted room output
     unfolding andAlso
-    whole-is = staged ∙ ap (λ (x : Outcome Going). andAlso x (handed room set (framesIn rs))) ready
+    whole-is = whole-staged ∙ ap (λ (x : Outcome Going). andAlso x (fittedOut room set (framesIn rs))) ready
 
-    fit-is : fitsIn room need ≡ fits room out
-    fit-is = fits-same room need out refl refl weighed ends-are shows-are refl
+    fit-is : fitsIn room need ≡ fits room output
+    fit-is = fits-same room need output refl refl weighed ends-are shows-are refl
 
     -- 35
     pub full : false ≡ fitsIn room need → Gives (AllRefused 35) d
-    full e = kept (outcome s rs set) d _ refl (whole-is ∙ ap (λ (t : Bool). pick t (made out) (stopped 35 none)) (sym (e ∙ fit-is)))
+    full e = kept (outcome s rs set) d _ refl (whole-is ∙ ap (λ (t : Bool). pick t (made output) (stopped 35 none)) (sym (e ∙ fit-is)))
 
     module _ (fit : true ≡ fitsIn room need) where
-      roomy : Roomy room out
-      roomy = fits-roomy room out (sym (fit ∙ fit-is))
+      roomy : RoomForAll room output
+      roomy = fits-roomy room output (sym (fit ∙ fit-is))
 
-      made-is : whole ≡ made out
-      made-is = whole-is ∙ ap (λ (t : Bool). pick t (made out) (stopped 35 none)) (sym (fit ∙ fit-is))
+      made-is : whole ≡ made output
+      made-is = whole-is ∙ ap (λ (t : Bool). pick t (made output) (stopped 35 none)) (sym (fit ∙ fit-is))
 
-      counts-are : need ≡ counts out
+      counts-are : need ≡ counts output
       counts-are =
           same-counts refl refl (omega (arith, weighed, roomy .bytes)) ends-are shows-are (omega (arith, roomy .bytes))
           (slot-first s rs (sequenceOf (b .header) points) (b .rewriting) new (segmentCount rs) (sound .some-there))

@@ -23,12 +23,12 @@ numbersOf [] = []
 numbersOf (x ∷ xs) = recordIn x ++ numbersOf xs
 
 -- room for so many records
-abbrev pub held : ℕ → List ℕ → Bool
-held count d = leb count (segmentCount d)
+abbrev pub hasRecords : ℕ → List ℕ → Bool
+hasRecords count d = leb count (segmentCount d)
 
 -- what the lent numbers hold afterwards: those of the segments at their head, or, without room, what they held
 unfoldable pub numbersAfter : List Segment → List ℕ → List ℕ
-numbersAfter xs d = pick (held (length xs) d) (pasted d 0 (numbersOf xs)) d
+numbersAfter xs d = pick (hasRecords (length xs) d) (pasted d 0 (numbersOf xs)) d
 
 -- without room for the numbers nothing more can be read: 35, behind 34 alone
 unfoldable pub noRoom : List ℕ → Outcome Output
@@ -37,7 +37,7 @@ noRoom s = pick (ltb limit (length s)) (stopped 34 none) (stopped 35 none)
 -- assembly from structs
 unfoldable pub recordsOutcome : (s : List ℕ) (xs : List Segment) (d : List ℕ) → Settings → Lent → Outcome Output
 recordsOutcome s xs d set l =
-    pick (held (length xs) d) (outcome s (numbersOf xs) set l) (noRoom s)
+    pick (hasRecords (length xs) d) (outcome s (numbersOf xs) set l) (noRoom s)
 
 -- ---- the parts of the code
 
@@ -48,4 +48,4 @@ copyCount count room = pick (leb count (room / width)) count 0
 -- assembly from the first count segments whose numbers stand in d, if it has room for so many
 unfoldable pub copiedOutcome : (s : List ℕ) (count : ℕ) (d : List ℕ) → Settings → Lent → Outcome Output
 copiedOutcome s count d set l =
-    pick (held count d) (outcome s (firstRecords count d) set l) (noRoom s)
+    pick (hasRecords count d) (outcome s (firstRecords count d) set l) (noRoom s)

@@ -20,8 +20,8 @@ use Rattle.blocks.specs.Numbers.{headKey, headGolden, segmentCount, framesIn}
 use Rattle.pictures.specs.Prepare.{effective, renewal, Prepared}
 use Rattle.pictures.specs.declared.settings.Settings.{Settings}
 use Rattle.pictures.specs.Assemble.{Outcome, stopped, made, andAlso, inSegment, sameHeaders, headerObu, prepareAll, pictureOf, Room}
-use Rattle.pictures.specs.Sizes.{sized, ranged}
-use Rattle.pictures.specs.Code.{allSegments, laterSegments, firstSequence, judged, renewing, orElse, allPrepared, capped}
+use Rattle.pictures.specs.Sizes.{sizedAll, ranged}
+use Rattle.pictures.specs.Code.{allSegments, laterSegments, firstSequence, judged, renewing, answerOr, allPrepared, capped}
 use Rattle.assemble.specs.declared.multi.Counts.{Counts}
 use Rattle.assemble.specs.declared.plan.Basis.{Basis}
 use Rattle.assemble.specs.declared.plan.Planned.{Planned}
@@ -68,7 +68,7 @@ module _ (s rs : List ℕ) where
 
   -- 34, 36, 21 to 25
   unfoldable pub checked : ℕ → Outcome Unit
-  checked gop = pick (ltb limit (length s)) (stopped 34 none) (andAlso (ranged s rs) (λ _. sized gop (framesIn rs)))
+  checked gop = pick (ltb limit (length s)) (stopped 34 none) (andAlso (ranged s rs) (λ _. sizedAll gop (framesIn rs)))
 
   -- all but 35
   unfoldable pub planned : Settings → Outcome Going
@@ -119,7 +119,7 @@ needed gop s rs points new b n =
       ends = 2 * segmentCount rs;
       shows = 5 * segmentCount rs;
       header = capped (length (headerIn s rs new b));
-      «golden_slot» = orElse 0 (judged (sequenceOf (b .header) points) (b .rewriting) (headKey s rs) (headGolden s rs));
+      «golden_slot» = answerOr 0 (judged (sequenceOf (b .header) points) (b .rewriting) (headKey s rs) (headGolden s rs));
     }
 
 -- the bytes, all together, are within the limit, and each lent slice has room
@@ -133,5 +133,5 @@ fitsIn room c =
     && leb (c .shows) (room .shows)
     && leb (c .header) (room .header)
 
-abbrev pub roomOf : ℕ → ℕ → ℕ → ℕ → ℕ → ℕ → Room
-roomOf list cues picture ends shows header = record { list = list; cues = cues; picture = picture; ends = ends; shows = shows; header = header }
+abbrev pub roomFor : ℕ → ℕ → ℕ → ℕ → ℕ → ℕ → Room
+roomFor list cues picture ends shows header = record { list = list; cues = cues; picture = picture; ends = ends; shows = shows; header = header }

@@ -8,7 +8,7 @@ use denote.Ref.{RefT, now}
 use denote.Triple.Both.{Both}
 use Rattle.bitio.specs.Lent.{pasted}
 use Rattle.pictures.specs.declared.settings.Settings.{Settings}
-use Rattle.pictures.specs.Assemble.{Outcome, stopped, made, andAlso, Output, Room, assemble}
+use Rattle.pictures.specs.Assemble.{Outcome, stopped, made, andAlso, Output, assemble}
 use Rattle.assemble.specs.declared.multi.Counts.{Counts}
 use Rattle.assemble.specs.declared.multi.Assembled.{Assembled}
 use Rattle.assemble.specs.declared.multi.Assembled.the-variants.{Made, Refused as AllRefused, RefusedIn as SegmentRefused}
@@ -43,6 +43,10 @@ pub record Lent : Type 0 where
   pub shows : List ℕ
   pub header : List ℕ
 
+abbrev pub six : (list cues pictures ends shows header : RefT (List ℕ)) → Lent
+six list cues pictures ends shows header =
+    record { list = now list; cues = now cues; pictures = now pictures; ends = now ends; shows = now shows; header = now header }
+
 -- the outcome of assembly into these
 unfoldable pub outcome : List ℕ → List ℕ → Settings → Lent → Outcome Output
 outcome s rs set d =
@@ -61,21 +65,6 @@ lentAfter (made o) d =
       ends = pasted (d .ends) 0 (o .ends);
       shows = pasted (d .shows) 0 (o .shows);
       header = pasted (d .header) 0 (o .header);
-    }
-
--- a lent slice at a function's entry and exit, and the six
-abbrev pub Slice : Type 0
-Slice = Both (RefT (List ℕ)) (RefT (List ℕ))
-
-abbrev pub six : (list cues pictures ends shows header : RefT (List ℕ)) → Lent
-six list cues pictures ends shows header =
-    record { list = now list; cues = now cues; pictures = now pictures; ends = now ends; shows = now shows; header = now header }
-
-abbrev pub slices : (list cues pictures ends shows header : Slice) → Both Lent Lent
-slices list cues pictures ends shows header =
-    record {
-      entry = six (list .entry) (cues .entry) (pictures .entry) (ends .entry) (shows .entry) (header .entry);
-      exit = six (list .exit) (cues .exit) (pictures .exit) (ends .exit) (shows .exit) (header .exit);
     }
 
 -- the answer, and the lent slices at exit, by the outcome into what they were at entry

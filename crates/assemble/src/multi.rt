@@ -6,9 +6,9 @@ ghost use Rattle.bitio.specs.Lent.{pasted};
 ghost use Rattle.header.specs.Sequence.{sequenceOf};
 ghost use Rattle.blocks.specs.Blocks.{total};
 ghost use Rattle.blocks.specs.Numbers.{headKey, headGolden, segmentCount, framesIn};
-ghost use Rattle.pictures.specs.Code.{judged, orElse, capped};
-ghost use Rattle.assemble.specs.Stages.{ownIn, headerIn, needed, fitsIn, roomOf};
-ghost use Rattle.assemble.specs.Whole.{outcome, slices, Handed};
+ghost use Rattle.pictures.specs.Code.{judged, answerOr, capped};
+ghost use Rattle.assemble.specs.Stages.{ownIn, headerIn, needed, fitsIn, roomFor};
+ghost use Rattle.assemble.specs.Whole.{outcome, six, Handed};
 use crate::plan::Basis;
 use crate::plan::Planned;
 use crate::plan::plan_multi;
@@ -50,7 +50,7 @@ pub enum Assembled {
 // The slot that the show units of the first segment name.
 fn first_slot(picture: &[u8], segments: &[u64], basis: Basis, points: [OperatingPoint; 32]) -> u64
     requires { ⌜ 1 ≤ segmentCount (now segments) ⌝ }
-    ensures { λ r. ⌜ r ≡ orElse 0 (judged (sequenceOf (basis .header) points) (basis .rewriting) (headKey (now (picture .entry)) (now (segments .entry))) (headGolden (now (picture .entry)) (now (segments .entry)))) ⌝ }
+    ensures { λ r. ⌜ r ≡ answerOr 0 (judged (sequenceOf (basis .header) points) (basis .rewriting) (headKey (now (picture .entry)) (now (segments .entry))) (headGolden (now (picture .entry)) (now (segments .entry)))) ⌝ }
 {
     let key = key_of(picture, segments, 0);
     let golden = golden_of(picture, segments, 0);
@@ -130,7 +130,7 @@ fn fits_room(
     header: &[u8],
 ) -> bool
     requires { ⌜ need .shows ≤ 25000000 ⌝ }
-    ensures { λ r. ⌜ r ≡ fitsIn (roomOf (length (now (list .entry))) (length (now (cues .entry))) (length (now (pictures .entry))) (length (now (ends .entry))) (length (now (shows .entry))) (length (now (header .entry)))) need ⌝ }
+    ensures { λ r. ⌜ r ≡ fitsIn (roomFor (length (now (list .entry))) (length (now (cues .entry))) (length (now (pictures .entry))) (length (now (ends .entry))) (length (now (shows .entry))) (length (now (header .entry)))) need ⌝ }
 {
     if need.picture > LIMIT {
         return false;
@@ -160,7 +160,10 @@ pub fn assemble_multi(
     shows: &mut [u8],
     header: &mut [u8],
 ) -> Assembled
-    ensures { λ r. ⌜ Handed (outcome (now (picture .entry)) (now (segments .entry)) settings) r (slices list cues pictures ends shows header) ⌝ }
+    ensures { λ r. ⌜ Handed (outcome (now (picture .entry)) (now (segments .entry)) settings) r (record {
+      entry = six (list .entry) (cues .entry) (pictures .entry) (ends .entry) (shows .entry) (header .entry);
+      exit = six (list .exit) (cues .exit) (pictures .exit) (ends .exit) (shows .exit) (header .exit);
+    }) ⌝ }
 {
     let plan = plan_multi(picture, segments, settings);
     let points = plan.points;

@@ -10,7 +10,7 @@ ghost use Rattle.header.specs.Sequence.{sequenceOf};
 ghost use Rattle.emit.specs.Emit.{sequenceBytes, emitSays};
 ghost use Rattle.emittable.specs.Emittable.{emittable};
 ghost use Rattle.pictures.specs.Sizes.{checkedSays};
-ghost use Rattle.pictures.specs.Code.{orElse};
+ghost use Rattle.pictures.specs.Code.{answerOr};
 ghost use Rattle.assemble.specs.Stages.{WasRead, fromPictures, fromTiming, fromHeader, checked, planned, newIn, headerIn, planSays, noPlan};
 ghost use Rattle.pictures.specs.Rewrite.{obuIn};
 use bitio::limits::LIMIT;
@@ -119,7 +119,7 @@ fn plan_pictures(
 
 // How many bytes were emitted.
 fn emitted_len(e: Emitted) -> usize
-    ensures { λ r. ⌜ r ≡ orElse 0 (emitSays e) ⌝ }
+    ensures { λ r. ⌜ r ≡ answerOr 0 (emitSays e) ⌝ }
 {
     match e {
         Emitted::Next(n) => n,

@@ -5,7 +5,7 @@ ghost use Prim.Native.Nat.{_+_, _*_, _<_};
 ghost use lib.ListN.{length};
 ghost use Rattle.bitio.specs.Lent.{pasted};
 ghost use Rattle.blocks.specs.Numbers.{width, segmentCount};
-ghost use Rattle.assemble.specs.Whole.{slices, Handed};
+ghost use Rattle.assemble.specs.Whole.{six, Handed};
 ghost use Rattle.assemble.specs.Records.{recordIn, copyCount, numbersAfter, copiedOutcome, recordsOutcome};
 use crate::multi::Assembled;
 use crate::multi::assemble_multi;
@@ -77,7 +77,10 @@ fn assemble_copied(
     shows: &mut [u8],
     header: &mut [u8],
 ) -> Assembled
-    ensures handed { λ r. ⌜ Handed (copiedOutcome (now (picture .entry)) count (now (numbers .entry)) settings) r (slices list cues pictures ends shows header) ⌝ }
+    ensures handed { λ r. ⌜ Handed (copiedOutcome (now (picture .entry)) count (now (numbers .entry)) settings) r (record {
+      entry = six (list .entry) (cues .entry) (pictures .entry) (ends .entry) (shows .entry) (header .entry);
+      exit = six (list .exit) (cues .exit) (pictures .exit) (ends .exit) (shows .exit) (header .exit);
+    }) ⌝ }
     ensures numbers { λ _. ⌜ now (numbers .exit) ≡ now (numbers .entry) ⌝ }
 {
     if count > numbers.len() / WIDTH {
@@ -113,7 +116,10 @@ pub fn assemble_segments(
     shows: &mut [u8],
     header: &mut [u8],
 ) -> Assembled
-    ensures handed { λ r. ⌜ Handed (recordsOutcome (now (picture .entry)) (now (segments .entry)) (now (numbers .entry)) settings) r (slices list cues pictures ends shows header) ⌝ }
+    ensures handed { λ r. ⌜ Handed (recordsOutcome (now (picture .entry)) (now (segments .entry)) (now (numbers .entry)) settings) r (record {
+      entry = six (list .entry) (cues .entry) (pictures .entry) (ends .entry) (shows .entry) (header .entry);
+      exit = six (list .exit) (cues .exit) (pictures .exit) (ends .exit) (shows .exit) (header .exit);
+    }) ⌝ }
     ensures numbers { λ _. ⌜ now (numbers .exit) ≡ numbersAfter (now (segments .entry)) (now (numbers .entry)) ⌝ }
 {
     let count = copy_segments(segments, &mut *numbers);

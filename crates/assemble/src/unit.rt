@@ -1,4 +1,4 @@
-// The unit that a list entry names: a part of the picture bytes or of the show bytes, never a copy.
+// The unit that a list entry names, lent on from where its bytes stand, never copied.
 ghost use mathlib.Core.Path.{_≡_};
 ghost use mathlib.Core.List.{_∷_};
 ghost use lib.ListN.{getD};

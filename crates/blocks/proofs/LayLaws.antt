@@ -47,15 +47,15 @@ pub entries-shows : (i n : ℕ) → entriesOf i (replicate n Show) ≡ replicate
 entries-shows i zero = refl
 entries-shows i (suc n) = ap (λ (l : List ℕ). (i * 4 + 2) ∷ l) (entries-shows i n)
 
-pub block-one : (i n : ℕ) (after : Bool) → 1 ≤ n → n < 2 → (i * 4 + code (pick after Show Key)) ∷ [] ≡ entriesOf i (block after n)
-block-one i zero after h k = absurd (omega arith)
-block-one i (suc zero) after h k = refl
-block-one i (suc (suc n)) after h k = absurd (omega arith)
+pub block-one : (i n : ℕ) (key : Bool) → 1 ≤ n → n < 2 → (i * 4 + code (pick key Key Show)) ∷ [] ≡ entriesOf i (block key n)
+block-one i zero key h k = absurd (omega arith)
+block-one i (suc zero) key h k = refl
+block-one i (suc (suc n)) key h k = absurd (omega arith)
 
-pub block-more : (i n : ℕ) (after : Bool) → 2 ≤ n → (i * 4) ∷ (i * 4 + 1) ∷ replicate (n - 2) (i * 4 + 2) ≡ entriesOf i (block after n)
-block-more i zero after h = absurd (omega arith)
-block-more i (suc zero) after h = absurd (omega arith)
-block-more i (suc (suc n)) after h =
+pub block-more : (i n : ℕ) (key : Bool) → 2 ≤ n → (i * 4) ∷ (i * 4 + 1) ∷ replicate (n - 2) (i * 4 + 2) ≡ entriesOf i (block key n)
+block-more i zero key h = absurd (omega arith)
+block-more i (suc zero) key h = absurd (omega arith)
+block-more i (suc (suc n)) key h =
     let e : i * 4 ≡ i * 4 + 0 = omega arith in
     let k : suc (suc n) - 2 ≡ n = omega arith in
     ap₂ (λ (x y : ℕ). x ∷ (i * 4 + 1) ∷ replicate y (i * 4 + 2)) e k ∙ ap (λ (l : List ℕ). (i * 4 + 0) ∷ (i * 4 + 1) ∷ l) (sym (entries-shows i n))
@@ -80,8 +80,8 @@ module _ (key : Bool) (c at : ℕ) where
 pub length-entries : (i : ℕ) (ks : List Kind) → length (entriesOf i ks) ≡ length ks
 length-entries i ks = rw (length-map, length-map)
 
-pub length-block-entries : (i n : ℕ) (after : Bool) → length (entriesOf i (block after n)) ≡ n
-length-block-entries i n after = length-entries i (block after n) ∙ length-block after n
+pub length-block-entries : (i n : ℕ) (key : Bool) → length (entriesOf i (block key n)) ≡ n
+length-block-entries i n key = length-entries i (block key n) ∙ length-block key n
 
 -- ---- positions
 
@@ -186,7 +186,7 @@ module _ (gop : ℕ) (s : Standing) {b : Block} (is : b ≡ nextBlock gop s) whe
   pub next-left : b .size + b .behind .left ≡ s .left
   next-left = omega (arith, ap (λ (x : Block). x .size) is, ap (λ (x : Block). x .behind .left) is)
 
-  pub blocks-more : (k : ℕ) → 1 ≤ s .left → s .left ≤ k → blocks k gop (s .after) (s .left) ≡ block (s .after) (b .size) ++ blocks (k - 1) gop (b .behind .after) (b .behind .left)
+  pub blocks-more : (k : ℕ) → 1 ≤ s .left → s .left ≤ k → blocks k gop (s .after) (s .left) ≡ block (b .key) (b .size) ++ blocks (k - 1) gop (b .behind .after) (b .behind .left)
   unfolding blocks
   blocks-more zero h w = absurd (omega arith)
   blocks-more (suc k) h w = let z : suc k - 1 ≡ k = omega arith in rw (z, is)
@@ -224,23 +224,23 @@ cues-shows : (p i n : ℕ) → cuesFrom p (entriesOf i (replicate n Show)) ≡ [
 cues-shows p i zero = cues-none p
 cues-shows p i (suc n) = cue-no p (i * 4 + 2) (entriesOf i (replicate n Show)) (key-show i) ∙ cues-shows (suc p) i n
 
-cues-more : (p i n : ℕ) (after : Bool) → cuesFrom p (entriesOf i (block after (suc (suc n)))) ≡ suc p ∷ []
-cues-more p i n after =
+cues-more : (p i n : ℕ) (key : Bool) → cuesFrom p (entriesOf i (block key (suc (suc n)))) ≡ suc p ∷ []
+cues-more p i n key =
     cue-yes p (i * 4 + 0) ((i * 4 + 1) ∷ entriesOf i (replicate n Show)) (key-yes i)
     ∙ ap (λ (l : List ℕ). suc p ∷ l) (cue-no (suc p) (i * 4 + 1) (entriesOf i (replicate n Show)) (key-golden i) ∙ cues-shows (suc (suc p)) i n)
 
-block-cue : (p i n : ℕ) (after : Bool) → 1 ≤ n → cuesFrom p (entriesOf i (block after n)) ≡ blockCue (not after || leb 2 n) p
+block-cue : (p i n : ℕ) (after : Bool) → 1 ≤ n → cuesFrom p (entriesOf i (block (not after || leb 2 n) n)) ≡ blockCue (not after || leb 2 n) p
 block-cue p i zero after h = absurd (omega arith)
 block-cue p i (suc zero) true h = cue-no p (i * 4 + 2) [] (key-show i) ∙ cues-none (suc p)
 block-cue p i (suc zero) false h = cue-yes p (i * 4 + 0) [] (key-yes i) ∙ ap (λ (l : List ℕ). suc p ∷ l) (cues-none (suc p))
 block-cue p i (suc (suc n)) true h = rw (le-leb 2 (suc (suc n)) (omega arith)) (cues-more p i n true)
 block-cue p i (suc (suc n)) false h = cues-more p i n false
 
-pub next-cue : (gop : ℕ) (s : Standing) {b : Block} (p i : ℕ) → b ≡ nextBlock gop s → 1 ≤ b .size → cuesFrom p (entriesOf i (block (s .after) (b .size))) ≡ blockCue (b .key) p
+pub next-cue : (gop : ℕ) (s : Standing) {b : Block} (p i : ℕ) → b ≡ nextBlock gop s → 1 ≤ b .size → cuesFrom p (entriesOf i (block (b .key) (b .size))) ≡ blockCue (b .key) p
 next-cue gop s {b} p i is h =
-    let n = ap (λ (x : Block). x .size) is in
-    block-cue p i (b .size) (s .after) h
-    ∙ ap (λ (k : Bool). blockCue k p) (ap (λ (m : ℕ). not (s .after) || leb 2 m) n ∙ sym (ap (λ (x : Block). x .key) is))
+    let k : b .key ≡ (not (s .after) || leb 2 (b .size)) =
+    ap (λ (x : Block). x .key) is ∙ sym (ap (λ (x : Block). not (s .after) || leb 2 (x .size)) is) in
+    ap (λ (t : Bool). cuesFrom p (entriesOf i (block t (b .size)))) k ∙ block-cue p i (b .size) (s .after) h ∙ sym (ap (λ (t : Bool). blockCue t p) k)
 
 -- ---- a turn: one block of the segment
 
@@ -260,37 +260,37 @@ module _ {d₀ e₀ : List ℕ} {p₀ c₀ i gop frames : ℕ} {d e : List ℕ} 
       (ap (λ (k : ℕ). entriesOf i (blocks (s .fuel) gop (t .after) k)) z ∙ ap (entriesOf i) (blocks-none (s .fuel) gop (t .after)))
 
   module _ {b : Block} (some : 1 ≤ t .left) (is : b ≡ nextBlock gop t) where
-    abbrev front : List ℕ
-    front = entriesOf i (block (t .after) (b .size))
+    abbrev blockEntries : List ℕ
+    blockEntries = entriesOf i (block (b .key) (b .size))
 
-    abbrev behind : List ℕ
-    behind = entriesOf i (blocks (s .fuel - 1) gop (b .behind .after) (b .behind .left))
+    abbrev laterEntries : List ℕ
+    laterEntries = entriesOf i (blocks (s .fuel - 1) gop (b .behind .after) (b .behind .left))
 
-    split : entriesOf i (blocks (s .fuel) gop (t .after) (t .left)) ≡ front ++ behind
-    split = ap (entriesOf i) (blocks-more gop t is (s .fuel) some (s .enough)) ∙ entries-append i (block (t .after) (b .size)) _
+    block-split : entriesOf i (blocks (s .fuel) gop (t .after) (t .left)) ≡ blockEntries ++ laterEntries
+    block-split = ap (entriesOf i) (blocks-more gop t is (s .fuel) some (s .enough)) ∙ entries-append i (block (b .key) (b .size)) _
 
-    here : Laying d₀ e₀ p₀ c₀ (entriesOf i (kinds gop frames)) d e p c (front ++ behind)
-    here = rw (← split) (s .laying)
+    block-here : Laying d₀ e₀ p₀ c₀ (entriesOf i (kinds gop frames)) d e p c (blockEntries ++ laterEntries)
+    block-here = rw (← block-split) (s .laying)
 
-    room : CanLay d e p c front
-    room = can-front front behind (laying-can (front ++ behind) here)
+    block-room : CanLay d e p c blockEntries
+    block-room = can-front blockEntries laterEntries (laying-can (blockEntries ++ laterEntries) block-here)
 
     pub segment-list-room : p + b .size ≤ length d
-    segment-list-room = omega (arith, room .list, length-block-entries i (b .size) (t .after))
+    segment-list-room = omega (arith, block-room .list, length-block-entries i (b .size) (b .key))
 
     pub segment-small : p + b .size < 4294967296
-    segment-small = omega (arith, room .small, length-block-entries i (b .size) (t .after))
+    segment-small = omega (arith, block-room .small, length-block-entries i (b .size) (b .key))
 
     pub segment-cue-room : 1 ≤ b .size → c + length (blockCue (b .key) p) ≤ length e
-    segment-cue-room h = omega (arith, room .cues, ap length (next-cue gop t p i is h))
+    segment-cue-room h = omega (arith, block-room .cues, ap length (next-cue gop t p i is h))
 
-    pub segment-turn : (d′ e′ : List ℕ) (c′ : ℕ) → 1 ≤ b .size → d′ ≡ pasted d p front → e′ ≡ pasted e c (blockCue (b .key) p) → c′ ≡ c + length (blockCue (b .key) p)
+    pub segment-turn : (d′ e′ : List ℕ) (c′ : ℕ) → 1 ≤ b .size → d′ ≡ pasted d p blockEntries → e′ ≡ pasted e c (blockCue (b .key) p) → c′ ≡ c + length (blockCue (b .key) p)
         → Segmenting d₀ e₀ p₀ c₀ i gop frames d′ e′ (p + b .size) c′ (b .behind)
     segment-turn d′ e′ c′ h x y k =
         let q = next-cue gop t p i is h in
-        let w : Laid d e d′ e′ p c c′ front = record { list = x; cues = y ∙ ap (pasted e c) (sym q); next = omega (arith, k, ap length q) } in
+        let w : Laid d e d′ e′ p c c′ blockEntries = record { list = x; cues = y ∙ ap (pasted e c) (sym q); next = omega (arith, k, ap length q) } in
         record {
           fuel = s .fuel - 1;
           enough = omega (arith, s .enough, next-left gop t is);
-          laying = subst (λ (m : ℕ). Laying d₀ e₀ p₀ c₀ (entriesOf i (kinds gop frames)) d′ e′ (p + m) c′ behind) (length-block-entries i (b .size) (t .after)) (laying-more front behind d′ e′ c′ here w);
+          laying = subst (λ (m : ℕ). Laying d₀ e₀ p₀ c₀ (entriesOf i (kinds gop frames)) d′ e′ (p + m) c′ laterEntries) (length-block-entries i (b .size) (b .key)) (laying-more blockEntries laterEntries d′ e′ c′ block-here w);
         }

@@ -26,13 +26,13 @@ unfolding layout
 list-none gop i = refl
 
 -- the entries of the segments from i on
-abbrev pub from : ℕ → List ℕ → ℕ → List ℕ
-from gop rs i = map number (layout gop i (map headFrames (recordsBehind rs i)))
+abbrev pub entriesFrom : ℕ → List ℕ → ℕ → List ℕ
+entriesFrom gop rs i = map number (layout gop i (map headFrames (recordsBehind rs i)))
 
 -- i segments are laid out
 pub record Listing (d₀ e₀ : List ℕ) (gop : ℕ) (rs d e : List ℕ) (i at c : ℕ) : Type 0 where
   pub within : i ≤ segmentCount rs
-  pub laying : Laying d₀ e₀ 0 0 (listOf gop (framesIn rs)) d e at c (from gop rs i)
+  pub laying : Laying d₀ e₀ 0 0 (listOf gop (framesIn rs)) d e at c (entriesFrom gop rs i)
 
 pub list-start : (d e : List ℕ) (gop : ℕ) (rs : List ℕ) → CanLayAll d e gop rs → Listing d e gop rs d e 0 0 0
 list-start d e gop rs h =
@@ -45,34 +45,34 @@ list-start d e gop rs h =
 module _ {d₀ e₀ : List ℕ} {gop : ℕ} {rs d e : List ℕ} {i at c : ℕ} (s : Listing d₀ e₀ gop rs d e i at c) where
   pub list-end : segmentCount rs ≤ i → Laid d₀ e₀ d e 0 0 c (listOf gop (framesIn rs))
   list-end h =
-      laying-end (from gop rs i) (s .laying)
+      laying-end (entriesFrom gop rs i) (s .laying)
       (ap (λ (l : List (List ℕ)). map number (layout gop i (map headFrames l))) (behind-end rs i h) ∙ list-none gop i)
 
   module _ (h : i < segmentCount rs) where
     abbrev frames : ℕ
     frames = framesAt rs i
 
-    abbrev front : List ℕ
-    front = entriesOf i (kinds gop frames)
+    abbrev segmentEntries : List ℕ
+    segmentEntries = entriesOf i (kinds gop frames)
 
-    split : from gop rs i ≡ front ++ from gop rs (i + 1)
-    split =
+    segment-split : entriesFrom gop rs i ≡ segmentEntries ++ entriesFrom gop rs (i + 1)
+    segment-split =
         ap (λ (l : List (List ℕ)). map number (layout gop i (map headFrames l))) (behind-more rs i h)
         ∙ list-more gop i frames (map headFrames (recordsBehind rs (i + 1)))
-        ∙ ap (λ (k : ℕ). front ++ map number (layout gop k (map headFrames (recordsBehind rs (i + 1))))) (sym (add-one i))
+        ∙ ap (λ (k : ℕ). segmentEntries ++ map number (layout gop k (map headFrames (recordsBehind rs (i + 1))))) (sym (add-one i))
 
-    here : Laying d₀ e₀ 0 0 (listOf gop (framesIn rs)) d e at c (front ++ from gop rs (i + 1))
-    here = subst (λ (l : List ℕ). Laying d₀ e₀ 0 0 (listOf gop (framesIn rs)) d e at c l) split (s .laying)
+    segment-here : Laying d₀ e₀ 0 0 (listOf gop (framesIn rs)) d e at c (segmentEntries ++ entriesFrom gop rs (i + 1))
+    segment-here = subst (λ (l : List ℕ). Laying d₀ e₀ 0 0 (listOf gop (framesIn rs)) d e at c l) segment-split (s .laying)
 
-    pub list-room : CanLay d e at c front
-    list-room = can-front front (from gop rs (i + 1)) (laying-can (front ++ from gop rs (i + 1)) here)
+    pub list-room : CanLay d e at c segmentEntries
+    list-room = can-front segmentEntries (entriesFrom gop rs (i + 1)) (laying-can (segmentEntries ++ entriesFrom gop rs (i + 1)) segment-here)
 
     pub list-small : 1 ≤ gop → at + frames < 4294967296
     list-small g = omega (arith, list-room .small, length-kinds i gop frames g)
 
-    pub list-turn : 1 ≤ gop → (d′ e′ : List ℕ) (c′ : ℕ) → Laid d e d′ e′ at c c′ front → Listing d₀ e₀ gop rs d′ e′ (i + 1) (at + frames) c′
+    pub list-turn : 1 ≤ gop → (d′ e′ : List ℕ) (c′ : ℕ) → Laid d e d′ e′ at c c′ segmentEntries → Listing d₀ e₀ gop rs d′ e′ (i + 1) (at + frames) c′
     list-turn g d′ e′ c′ w =
         record {
           within = omega arith;
-          laying = subst (λ (m : ℕ). Laying d₀ e₀ 0 0 (listOf gop (framesIn rs)) d′ e′ (at + m) c′ (from gop rs (i + 1))) (length-kinds i gop frames g) (laying-more front (from gop rs (i + 1)) d′ e′ c′ here w);
+          laying = subst (λ (m : ℕ). Laying d₀ e₀ 0 0 (listOf gop (framesIn rs)) d′ e′ (at + m) c′ (entriesFrom gop rs (i + 1))) (length-kinds i gop frames g) (laying-more segmentEntries (entriesFrom gop rs (i + 1)) d′ e′ c′ segment-here w);
         }

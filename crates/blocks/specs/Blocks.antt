@@ -13,11 +13,11 @@ pub data Kind : Type 0 where
 
 -- ---- the blocks of one segment
 
--- a block of so many units: key, golden, then show units. 01: a block of 1 after a golden is one show unit, a segment of 1 frame is its key
+-- a block of so many units: key, golden, then show units; of a single unit, key says whether it is a key
 abbrev pub block : Bool → ℕ → List Kind
-block after zero = []
-block after (suc zero) = pick after Show Key ∷ []
-block after (suc (suc n)) = Key ∷ Golden ∷ replicate n Show
+block key zero = []
+block key (suc zero) = pick key Key Show ∷ []
+block key (suc (suc n)) = Key ∷ Golden ∷ replicate n Show
 
 -- 01: the next block of a segment has min(frames left, gop_size) units, and starts with a key unless it is one unit after a golden
 abbrev pub nextBlock : ℕ → Standing → Block
@@ -35,7 +35,7 @@ standing after left = record { left = left; after = after }
 unfoldable pub blocks : ℕ → ℕ → Bool → ℕ → List Kind
 blocks zero gop after left = []
 blocks (suc k) gop after left =
-    block after (nextBlock gop (standing after left) .size)
+    block (nextBlock gop (standing after left) .key) (nextBlock gop (standing after left) .size)
     ++ blocks k gop (nextBlock gop (standing after left) .behind .after) (nextBlock gop (standing after left) .behind .left)
 
 -- the units of a segment of n frames

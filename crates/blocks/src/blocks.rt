@@ -1,8 +1,8 @@
-// The unit list and the cue list, laid out in lent memory in one pass: entries are segment * 4 + kind, key 0, golden 1,
-// show 2; cues count units from 1.
+// The unit list and the cue list, laid out in lent memory in one pass. An entry is four times its segment plus its kind: 0 for
+// a key, 1 for a golden, 2 for a show unit; cues count units from 1.
 ghost use mathlib.Core.Path.{_≡_};
 ghost use mathlib.Core.Bool.{cond as pick};
-ghost use Prim.Native.Nat.{_+_, _≤_, _<_, min};
+ghost use Prim.Native.Nat.{_+_, _≤_, _<_};
 ghost use lib.ListN.{length, replicate};
 ghost use Rattle.bitio.specs.Lent.{pasted};
 ghost use Rattle.blocks.specs.Blocks.{Show, Key, code, block, nextBlock, kinds, listOf, cuesOf, total};
@@ -52,32 +52,32 @@ fn fill(list: &mut [u32], at: usize, n: usize, v: u32)
     }
 }
 
-// The kind of a block of one unit: a show after a golden, else a key.
-fn lone(after: bool) -> u32
-    ensures { λ r. ⌜ r ≡ code (pick after Show Key) ⌝ }
+// The kind of a block's only unit.
+fn lone(key: bool) -> u32
+    ensures { λ r. ⌜ r ≡ code (pick key Key Show) ⌝ }
 {
-    if after {
-        return 2;
+    if key {
+        return 0;
     }
-    0
+    2
 }
 
 // Writes the entries of a block of n units.
-fn put_block(list: &mut [u32], at: usize, segment: u32, after: bool, n: usize)
+fn put_block(list: &mut [u32], at: usize, segment: u32, key: bool, n: usize)
     requires room { ⌜ at + n ≤ length (now list) ⌝ }
     requires units { ⌜ 1 ≤ n ⌝ }
     requires small { ⌜ segment < 1073741823 ⌝ }
-    ensures { λ _. ⌜ now (list .exit) ≡ pasted (now (list .entry)) at (entriesOf segment (block after n)) ⌝ }
+    ensures { λ _. ⌜ now (list .exit) ≡ pasted (now (list .entry)) at (entriesOf segment (block key n)) ⌝ }
 {
-    let key = segment * 4;
+    let first = segment * 4;
     if n < 2 {
-        list[at] = key + lone(after);
+        list[at] = first + lone(key);
         return;
     }
-    list[at] = key;
+    list[at] = first;
     let golden = at + 1;
-    list[golden] = key + 1;
-    fill(list, at + 2, n - 2, key + 2);
+    list[golden] = first + 1;
+    fill(list, at + 2, n - 2, first + 2);
 }
 
 // Writes the cue of a block behind `at` units, if it starts with a key, and returns the place of the next cue.
@@ -117,7 +117,7 @@ fn put_segment(
     let mut q = c;
     while s.left > 0 {
         let b = next_block(gop, s);
-        put_block(list, p, segment, s.after, b.size);
+        put_block(list, p, segment, b.key, b.size);
         q = put_cue(cues, q, p, b.key);
         p = p + b.size;
         s = b.behind;

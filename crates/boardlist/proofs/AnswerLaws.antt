@@ -1,28 +1,36 @@
 -- Laws of what boardlist prints: from lent memory, from answers, from a file.
 use Prim.Native.Nat.{ℕ, _+_, _-_, _*_, _≤_}
 use native.Mathlib.Omega.{arith}
-use mathlib.Core.Path.{_≡_, refl, sym, ap, ap₂, _∙_}
+use mathlib.Core.Path.{_≡_, refl, sym, ap, _∙_}
 use mathlib.Core.List.{List}
 use mathlib.Core.Option.{Option, none, some}
 use lib.ListN.{length, take}
-use Rattle.bitio.specs.Parse.{Answer, accepted}
+use Rattle.bitio.specs.Parse.{accepted}
 use Rattle.bitio.specs.Lent.{pasted, placed, lent}
 use Rattle.bitio.proofs.LentLaws.{pasted-take-end, pasted-length, placed-says-room}
 use Rattle.pictures.specs.Assemble.{Outcome, stopped, made, andAlso, Output}
+use denote.Triple.Both.{Both}
+use Rattle.bitio.specs.Leb.{putSays}
+use Rattle.bitio.specs.declared.leb128.Put.{Put}
 use Rattle.blocks.specs.Numbers.{width}
+use Rattle.assemble.proofs.MultiLaws.{RoomForAll}
 use Rattle.assemble.specs.Whole.{counts, countsOf, Lent, outcome, lentAfter, Handed}
 use Rattle.assemble.specs.declared.multi.Counts.{Counts}
 use Rattle.assemble.specs.declared.multi.Assembled.the-variants.{Made}
-use Rattle.listing.specs.File.{Reading, bad, full, read, pictureCount, numbersOf, readInto, numbersAfter}
-use Rattle.listing.specs.Text.{listing, refusedText, refusedInText, badFile}
+use Rattle.listing.specs.File.{FileReading, bad, full, read, fileNumbers, readInto, fileNumbersAfter}
+use Rattle.listing.specs.Text.{refusedText, refusedInText, badFile}
 use Rattle.listing.specs.declared.file.Layout.{Layout}
-use Rattle.listing.proofs.FileLaws.{ReadIs, read-is}
-use Rattle.boardlist.specs.Printed.{textOf, between, madeText, CountsFit, LayoutFits, settingsOf, printedOf, printed, leftOf, left}
-use Rattle.boardlist.proofs.MadeLaws.{Held}
+use Rattle.listing.proofs.FileLaws.{read-is}
+use Rattle.boardlist.specs.Printed.{textOf, between, madeText, CountsFit, Texted, settingsOf, printedOf, printed, leftOf, left}
+use Rattle.boardlist.proofs.MadeLaws.{roomIn}
 
 -- the same text by another name
-pub retold : (d : List ℕ) {t u : List ℕ} {p : Answer ℕ} {d′ : List ℕ} → t ≡ u → (p ≡ placed d 0 t) × (d′ ≡ lent d 0 t) → (p ≡ placed d 0 u) × (d′ ≡ lent d 0 u)
-retold d e h = (h .0 ∙ ap (placed d 0) e, h .1 ∙ ap (lent d 0) e)
+pub retold : {t u : List ℕ} {r : Put} {out : Both (List ℕ) (List ℕ)} → t ≡ u → Texted t r out → Texted u r out
+retold {out = out} e h = record { answer = h .answer ∙ ap (placed (out .entry) 0) e; bytes = h .bytes ∙ ap (lent (out .entry) 0) e }
+
+-- a text that was put
+pub texted : {t d d′ : List ℕ} {r : Put} → (putSays r ≡ placed d 0 t) × (d′ ≡ lent d 0 t) → Texted t r (record { entry = d; exit = d′ })
+texted w = record { answer = w .0; bytes = w .1 }
 
 -- what was put at the head of lent memory
 front-is : (d xs : List ℕ) (n : ℕ) → n ≡ length xs → length xs ≤ length d → between 0 n (pasted d 0 xs) ≡ xs
@@ -36,12 +44,12 @@ head-room d xs n e h = omega (arith, pasted-length d 0 xs (omega arith))
 -- ---- assembly's answers
 
 -- lent memory after an accepted assembly holds what its counts say
-pub made-is : (x : Lent → Outcome Output) (c : Counts) (d d′ : Lent) → ((o : Output) → x d ≡ made o → Held o d) → Handed x (Made c) (record { entry = d; exit = d′ })
+pub made-is : (x : Lent → Outcome Output) (c : Counts) (d d′ : Lent) → ((o : Output) → x d ≡ made o → RoomForAll (roomIn d) o) → Handed x (Made c) (record { entry = d; exit = d′ })
     → CountsFit c (d′ .list) (d′ .pictures) (d′ .ends) (d′ .shows) × (madeText c (d′ .list) (d′ .pictures) (d′ .ends) (d′ .shows) ≡ textOf (x d))
 unfolding andAlso
 made-is x c d d′ held w = go (x d) held (w .answer) (w .lent)
   where
-    go : (y : Outcome Output) → ((o : Output) → y ≡ made o → Held o d) → made c ≡ countsOf y → d′ ≡ lentAfter y d
+    go : (y : Outcome Output) → ((o : Output) → y ≡ made o → RoomForAll (roomIn d) o) → made c ≡ countsOf y → d′ ≡ lentAfter y d
         → CountsFit c (d′ .list) (d′ .pictures) (d′ .ends) (d′ .shows) × (madeText c (d′ .list) (d′ .pictures) (d′ .ends) (d′ .shows) ≡ textOf y)
     go (stopped n i) held e p = let z : _≡_ {A = ℕ} 0 1 = cc in absurd (omega arith)
     go (made o) held e p =
@@ -49,12 +57,12 @@ made-is x c d d′ held w = go (x d) held (w .answer) (w .lent)
         let h = held o refl in
         rw (p, w) (
           record {
-            units = head-room (d .list) (o .list) _ refl (h .list-room);
-            picture = head-room (d .pictures) (o .picture) _ refl (h .picture-room);
-            ends-there = head-room (d .ends) (o .ends) _ refl (h .ends-room);
-            shows-there = head-room (d .shows) (o .shows) _ refl (h .shows-room);
+            units = head-room (d .list) (o .list) _ refl (h .list);
+            picture = head-room (d .pictures) (o .picture) _ refl (h .picture);
+            ends-there = head-room (d .ends) (o .ends) _ refl (h .ends);
+            shows-there = head-room (d .shows) (o .shows) _ refl (h .shows);
           },
-          rw (front-is (d .list) (o .list) _ refl (h .list-room), front-is (d .pictures) (o .picture) _ refl (h .picture-room), front-is (d .ends) (o .ends) _ refl (h .ends-room), front-is (d .shows) (o .shows) _ refl (h .shows-room)),
+          rw (front-is (d .list) (o .list) _ refl (h .list), front-is (d .pictures) (o .picture) _ refl (h .picture), front-is (d .ends) (o .ends) _ refl (h .ends), front-is (d .shows) (o .shows) _ refl (h .shows)),
         )
 
 stopped-is : (x : Outcome Output) (k : ℕ) (i : Option ℕ) → stopped k i ≡ countsOf x → x ≡ stopped k i
@@ -79,48 +87,37 @@ module _ (s numbers : List ℕ) (d : Lent) where
 
   pub bad-is : bad ≡ readInto numbers s → badFile ≡ text
   unfolding printed
-  bad-is e = ap (λ (r : Reading). printedOf r s d) e
+  bad-is e = ap (λ (r : FileReading). printedOf r s d) e
 
   pub full-is : full ≡ readInto numbers s → refusedText 35 ≡ text
   unfolding printed
-  full-is e = ap (λ (r : Reading). printedOf r s d) e
+  full-is e = ap (λ (r : FileReading). printedOf r s d) e
 
   -- nothing is lent on
   pub bad-left : bad ≡ readInto numbers s → d ≡ left s numbers d
   unfolding left
-  bad-left e = ap (λ (r : Reading). leftOf r s d) e
+  bad-left e = ap (λ (r : FileReading). leftOf r s d) e
 
   pub full-left : full ≡ readInto numbers s → d ≡ left s numbers d
   unfolding left
-  full-left e = ap (λ (r : Reading). leftOf r s d) e
+  full-left e = ap (λ (r : FileReading). leftOf r s d) e
 
-  module _ (l : Layout) (numbers′ : List ℕ) (e : read l ≡ readInto numbers s) (w : numbers′ ≡ numbersAfter numbers s) where
-    after : ReadIs numbers s l
-    after = read-is numbers s l e
-
-    pub layout-fits : LayoutFits l s numbers′
-    layout-fits =
-        let a = after in
-        let x : l .start ≡ 4 = ap (λ (k : Layout). k .start) (a .whole .layout) in
-        let y : l .end ≡ 4 + pictureCount s = ap (λ (k : Layout). k .end) (a .whole .layout) in
-        let n = ap length (w ∙ a .after) ∙ pasted-length numbers 0 (numbersOf s) (omega (arith, a .room)) in
-        record { start-first = omega (arith, x, y); picture = omega (arith, y, a .whole .sized); numbers-there = omega (arith, n, a .room, a .count) }
-
-    numbers-are : between 0 (width * l .segments) numbers′ ≡ numbersOf s
+  module _ (l : Layout) (numbers′ : List ℕ) (e : read l ≡ readInto numbers s) (w : numbers′ ≡ fileNumbersAfter numbers s) where
+    numbers-are : between 0 (width * l .segments) numbers′ ≡ fileNumbers s
     numbers-are =
-        let a = after in
-        ap (between 0 (width * l .segments)) (w ∙ a .after) ∙ front-is numbers (numbersOf s) (width * l .segments) (sym (a .count)) (a .room)
+        let a = read-is numbers s l e in
+        ap (between 0 (width * l .segments)) (w ∙ a .after) ∙ front-is numbers (fileNumbers s) (width * l .segments) (sym (a .count)) (a .room)
 
     abbrev from : List ℕ → Outcome Output
     from rs = outcome (between (l .start) (l .end) s) rs (settingsOf l) d
 
     pub read-text : textOf (from (between 0 (width * l .segments) numbers′)) ≡ text
     unfolding printed
-    read-text = ap (λ (rs : List ℕ). textOf (from rs)) numbers-are ∙ ap (λ (r : Reading). printedOf r s d) e
+    read-text = ap (λ (rs : List ℕ). textOf (from rs)) numbers-are ∙ ap (λ (r : FileReading). printedOf r s d) e
 
     pub read-left : lentAfter (from (between 0 (width * l .segments) numbers′)) d ≡ left s numbers d
     unfolding left
-    read-left = ap (λ (rs : List ℕ). lentAfter (from rs) d) numbers-are ∙ ap (λ (r : Reading). leftOf r s d) e
+    read-left = ap (λ (rs : List ℕ). lentAfter (from rs) d) numbers-are ∙ ap (λ (r : FileReading). leftOf r s d) e
 
 -- ---- the end of the text lies within the memory that it was put into
 

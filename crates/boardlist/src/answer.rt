@@ -1,12 +1,9 @@
 // The text that boardlist prints for any bytes, made in lent memory.
-ghost use mathlib.Core.Path.{_≡_};
 ghost use Prim.Native.Nat.{_*_};
-ghost use Rattle.bitio.specs.Lent.{placed, lent};
-ghost use Rattle.bitio.specs.Leb.{putSays};
 ghost use Rattle.blocks.specs.Numbers.{width};
-ghost use Rattle.assemble.specs.Whole.{outcome, slices, lentAfter};
-ghost use Rattle.listing.specs.File.{numbersAfter};
-ghost use Rattle.boardlist.specs.Printed.{textOf, settingsOf, madeText, CountsFit, LayoutFits, between, printed, left};
+ghost use Rattle.assemble.specs.Whole.{outcome, six};
+ghost use Rattle.listing.specs.File.{LayoutFits};
+ghost use Rattle.boardlist.specs.Printed.{settingsOf, between, madeText, CountsFit, Texted, Prints, Answers};
 use assemble::multi::Assembled;
 use assemble::multi::Counts;
 use assemble::multi::assemble_multi;
@@ -31,8 +28,7 @@ fn put_made<'a>(
     out: &mut [u8],
 ) -> Put
     requires { ⌜ CountsFit counts (now list) (now pictures) (now ends) (now shows) ⌝ }
-    ensures answer { λ r. ⌜ putSays r ≡ placed (now (out .entry)) 0 (madeText counts (now (list .entry)) (now (pictures .entry)) (now (ends .entry)) (now (shows .entry))) ⌝ }
-    ensures out { λ _. ⌜ now (out .exit) ≡ lent (now (out .entry)) 0 (madeText counts (now (list .entry)) (now (pictures .entry)) (now (ends .entry)) (now (shows .entry))) ⌝ }
+    ensures { λ r. ⌜ Texted (madeText counts (now (list .entry)) (now (pictures .entry)) (now (ends .entry)) (now (shows .entry))) r (record { entry = now (out .entry); exit = now (out .exit) }) ⌝ }
 {
     let units = counts.units;
     let picture = counts.picture;
@@ -62,9 +58,10 @@ fn put_assembly(
     out: &mut [u8],
 ) -> Put
     requires { ⌜ LayoutFits layout (now file) (now numbers) ⌝ }
-    ensures answer { λ r. ⌜ putSays r ≡ placed (now (out .entry)) 0 (textOf (outcome (between (layout .start) (layout .end) (now (file .entry))) (between 0 (width * layout .segments) (now (numbers .entry))) (settingsOf layout) (slices list cues pictures ends shows header .entry))) ⌝ }
-    ensures out { λ _. ⌜ now (out .exit) ≡ lent (now (out .entry)) 0 (textOf (outcome (between (layout .start) (layout .end) (now (file .entry))) (between 0 (width * layout .segments) (now (numbers .entry))) (settingsOf layout) (slices list cues pictures ends shows header .entry))) ⌝ }
-    ensures lent { λ _. ⌜ slices list cues pictures ends shows header .exit ≡ lentAfter (outcome (between (layout .start) (layout .end) (now (file .entry))) (between 0 (width * layout .segments) (now (numbers .entry))) (settingsOf layout) (slices list cues pictures ends shows header .entry)) (slices list cues pictures ends shows header .entry) ⌝ }
+    ensures { λ r. ⌜ Prints (outcome (between (layout .start) (layout .end) (now (file .entry))) (between 0 (width * layout .segments) (now (numbers .entry))) (settingsOf layout)) r (record { entry = now (out .entry); exit = now (out .exit) }) (record {
+      entry = six (list .entry) (cues .entry) (pictures .entry) (ends .entry) (shows .entry) (header .entry);
+      exit = six (list .exit) (cues .exit) (pictures .exit) (ends .exit) (shows .exit) (header .exit);
+    }) ⌝ }
 {
     let start = layout.start;
     let end = layout.end;
@@ -103,10 +100,10 @@ pub(crate) fn answer(
     header: &mut [u8],
     out: &mut [u8],
 ) -> Put
-    ensures answer { λ r. ⌜ putSays r ≡ placed (now (out .entry)) 0 (printed (now (file .entry)) (now (numbers .entry)) (slices list cues pictures ends shows header .entry)) ⌝ }
-    ensures out { λ _. ⌜ now (out .exit) ≡ lent (now (out .entry)) 0 (printed (now (file .entry)) (now (numbers .entry)) (slices list cues pictures ends shows header .entry)) ⌝ }
-    ensures numbers { λ _. ⌜ now (numbers .exit) ≡ numbersAfter (now (numbers .entry)) (now (file .entry)) ⌝ }
-    ensures lent { λ _. ⌜ slices list cues pictures ends shows header .exit ≡ left (now (file .entry)) (now (numbers .entry)) (slices list cues pictures ends shows header .entry) ⌝ }
+    ensures { λ r. ⌜ Answers (now (file .entry)) r (record { entry = now (out .entry); exit = now (out .exit) }) (record { entry = now (numbers .entry); exit = now (numbers .exit) }) (record {
+      entry = six (list .entry) (cues .entry) (pictures .entry) (ends .entry) (shows .entry) (header .entry);
+      exit = six (list .exit) (cues .exit) (pictures .exit) (ends .exit) (shows .exit) (header .exit);
+    }) ⌝ }
 {
     match read_file(file, numbers) {
         FileAnswer::Read(layout) => put_assembly(

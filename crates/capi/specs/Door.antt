@@ -10,7 +10,7 @@ use Rattle.bitio.specs.Parse.{Answer, refused, accepted}
 use Rattle.container.specs.Limits.{Room}
 use Rattle.container.specs.Units.{Sizes, sizesOf, bytesAfter, endsAfter}
 use Rattle.pictures.specs.Assemble.{Outcome, stopped, made, Output}
-use Rattle.assemble.specs.Whole.{Slice, Lent, lentAfter, countsOf}
+use Rattle.assemble.specs.Whole.{Lent, lentAfter, countsOf}
 use Rattle.assemble.specs.declared.multi.Counts.{Counts}
 
 -- 0, or 01's number
@@ -19,39 +19,33 @@ codeOf (refused k) = k
 codeOf (accepted x) = 0
 
 -- what a number that is lent holds afterwards, d being what it held
-abbrev pub bytesOf : Answer Sizes → ℕ → ℕ
-bytesOf (refused k) d = d
-bytesOf (accepted x) d = x .bytes
+abbrev pub byteCountAfter : Answer Sizes → ℕ → ℕ
+byteCountAfter (refused k) d = d
+byteCountAfter (accepted x) d = x .bytes
 
-abbrev pub unitsOf : Answer Sizes → ℕ → ℕ
-unitsOf (refused k) d = d
-unitsOf (accepted x) d = x .units
+abbrev pub unitCountAfter : Answer Sizes → ℕ → ℕ
+unitCountAfter (refused k) d = d
+unitCountAfter (accepted x) d = x .units
 
 -- the memory lent to stream reading, at one moment
-pub record Units : Type 0 where
+pub record StreamLent : Type 0 where
   pub out : List ℕ
   pub ends : List ℕ
   pub bytes : ℕ
   pub units : ℕ
 
-abbrev pub unitsAfter : Answer (List (List ℕ)) → Units → Units
-unitsAfter x d =
-    record { out = bytesAfter x (d .out); ends = endsAfter x (d .ends); bytes = bytesOf (sizesOf x) (d .bytes); units = unitsOf (sizesOf x) (d .units) }
+abbrev pub four : (out ends : RefT (List ℕ)) (bytes units : RefT ℕ) → StreamLent
+four out ends bytes units = record { out = now out; ends = now ends; bytes = now bytes; units = now units }
 
-abbrev pub unitsIn : (out ends : RefT (List ℕ)) (bytes units : RefT ℕ) → Units
-unitsIn out ends bytes units = record { out = now out; ends = now ends; bytes = now bytes; units = now units }
-
-abbrev pub unitsLent : (out ends : Slice) (bytes units : Both (RefT ℕ) (RefT ℕ)) → Both Units Units
-unitsLent out ends bytes units =
-    record {
-      entry = unitsIn (out .entry) (ends .entry) (bytes .entry) (units .entry);
-      exit = unitsIn (out .exit) (ends .exit) (bytes .exit) (units .exit);
-    }
+-- what it holds afterwards
+abbrev pub streamLentAfter : Answer (List (List ℕ)) → StreamLent → StreamLent
+streamLentAfter x d =
+    record { out = bytesAfter x (d .out); ends = endsAfter x (d .ends); bytes = byteCountAfter (sizesOf x) (d .bytes); units = unitCountAfter (sizesOf x) (d .units) }
 
 -- the code, and what is lent at exit; x: the units, by the room for them
-pub record UnitsRead (x : Room → Answer (List (List ℕ))) (r : ℕ) (d : Both Units Units) : Type 0 where
+pub record UnitsRead (x : Room → Answer (List (List ℕ))) (r : ℕ) (d : Both StreamLent StreamLent) : Type 0 where
   pub code : r ≡ codeOf (sizesOf (x (record { bytes = length (d .entry .out); ends = length (d .entry .ends) })))
-  pub lent : d .exit ≡ unitsAfter (x (record { bytes = length (d .entry .out); ends = length (d .entry .ends) })) (d .entry)
+  pub lent : d .exit ≡ streamLentAfter (x (record { bytes = length (d .entry .out); ends = length (d .entry .ends) })) (d .entry)
 
 -- ---- assembly
 
@@ -70,22 +64,15 @@ pub record Numbers : Type 0 where
   pub slot : ℕ
 
 -- what they hold afterwards
-abbrev pub numbersAfter : Outcome Counts → Numbers → Numbers
-numbersAfter (made c) n = record { units = c .units; cues = c .cues; picture = c .picture; header = c .header; slot = c .«golden_slot» }
-numbersAfter (stopped k i) n = n
+abbrev pub countsAfter : Outcome Counts → Numbers → Numbers
+countsAfter (made c) n = record { units = c .units; cues = c .cues; picture = c .picture; header = c .header; slot = c .«golden_slot» }
+countsAfter (stopped k i) n = n
 
 abbrev pub five : (units cues picture header slot : RefT ℕ) → Numbers
 five units cues picture header slot = record { units = now units; cues = now cues; picture = now picture; header = now header; slot = now slot }
-
-abbrev pub numbers : (units cues picture header slot : Both (RefT ℕ) (RefT ℕ)) → Both Numbers Numbers
-numbers units cues picture header slot =
-    record {
-      entry = five (units .entry) (cues .entry) (picture .entry) (header .entry) (slot .entry);
-      exit = five (units .exit) (cues .exit) (picture .exit) (header .exit) (slot .exit);
-    }
 
 -- the code, and the lent slices and numbers at exit
 pub record Called (x : Lent → Outcome Output) (r : ℕ) (d : Both Lent Lent) (n : Both Numbers Numbers) : Type 0 where
   pub code : r ≡ assembledCode (countsOf (x (d .entry)))
   pub lent : d .exit ≡ lentAfter (x (d .entry)) (d .entry)
-  pub numbers : n .exit ≡ numbersAfter (countsOf (x (d .entry))) (n .entry)
+  pub numbers : n .exit ≡ countsAfter (countsOf (x (d .entry))) (n .entry)

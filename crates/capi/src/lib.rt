@@ -1,7 +1,7 @@
 // What a packaging host calls from C: numbers and byte slices only. Declared in include/magbelo.h.
 ghost use Rattle.container.specs.Container.{stream, read};
-ghost use Rattle.assemble.specs.Whole.{outcome, slices};
-ghost use Rattle.capi.specs.Door.{UnitsRead, unitsLent, numbers, Called};
+ghost use Rattle.assemble.specs.Whole.{outcome, six};
+ghost use Rattle.capi.specs.Door.{four, UnitsRead, five, Called};
 use assemble::multi::Assembled;
 use assemble::multi::assemble_multi;
 use container::units::Split;
@@ -17,7 +17,10 @@ pub extern "C" fn magbelo_split_obu_stream(
     bytes: &mut usize,
     units: &mut usize,
 ) -> u32
-    ensures { λ r. ⌜ UnitsRead (λ room. read stream room (now («data» .entry))) r (unitsLent out ends bytes units) ⌝ }
+    ensures { λ r. ⌜ UnitsRead (λ room. read stream room (now («data» .entry))) r (record {
+      entry = four (out .entry) (ends .entry) (bytes .entry) (units .entry);
+      exit = four (out .exit) (ends .exit) (bytes .exit) (units .exit);
+    }) ⌝ }
 {
     match container::stream::split_obu_stream(data, out, ends) {
         Split::Refused(k) => k,
@@ -50,7 +53,13 @@ pub extern "C" fn magbelo_assemble(
     header_len: &mut usize,
     golden_slot: &mut u64,
 ) -> u64
-    ensures { λ r. ⌜ Called (outcome (now (picture .entry)) (now (segments .entry)) (record { gop = «gop_size»; fps = fps; den = «fps_den» })) r (slices list cues pictures ends shows header) (numbers units «cue_count» «picture_len» «header_len» «golden_slot») ⌝ }
+    ensures { λ r. ⌜ Called (outcome (now (picture .entry)) (now (segments .entry)) (record { gop = «gop_size»; fps = fps; den = «fps_den» })) r (record {
+      entry = six (list .entry) (cues .entry) (pictures .entry) (ends .entry) (shows .entry) (header .entry);
+      exit = six (list .exit) (cues .exit) (pictures .exit) (ends .exit) (shows .exit) (header .exit);
+    }) (record {
+      entry = five (units .entry) («cue_count» .entry) («picture_len» .entry) («header_len» .entry) («golden_slot» .entry);
+      exit = five (units .exit) («cue_count» .exit) («picture_len» .exit) («header_len» .exit) («golden_slot» .exit);
+    }) ⌝ }
 {
     match assemble_multi(
         picture,

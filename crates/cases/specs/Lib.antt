@@ -1,1 +1,6 @@
+pub mod Rows
+pub mod MarkedRows
+pub mod AssemblyRows
+pub mod BoardlistRows
+pub mod PlayerRows
 pub mod Cases

@@ -4,7 +4,7 @@ use native.Mathlib.Omega.{arith}
 use mathlib.Core.Path.{_≡_, refl, ap, subst, _∙_}
 use mathlib.Core.List.{List, [], _∷_, _++_, map}
 use mathlib.Core.Logic.{_⊎_, inl, inr}
-use mathlib.Core.Bool.{Bool, true, false, cond, _||_}
+use mathlib.Core.Bool.{Bool, true, false, not, cond, _||_}
 use mathlib.Core.Option.{Option, none, some}
 use lib.ListN.{length, getD, replicate, length-append, length-map, List·getD-append}
 use lib.Seq.{getD-append-add}
@@ -112,7 +112,7 @@ proper-shows zero b rest a h = h b a
 proper-shows (suc c) b rest a h = (a, proper-shows c (some Show) rest (inr refl) h)
 
 pub proper-block : (c : ℕ) (after : Bool) (b : Option Kind) (rest : List Kind) → (after ≡ true → Led b)
-    → ((b′ : Option Kind) → ((after || leb 2 c) ≡ true → Led b′) → proper b′ rest) → proper b (block after c ++ rest)
+    → ((b′ : Option Kind) → ((after || leb 2 c) ≡ true → Led b′) → proper b′ rest) → proper b (block (not after || leb 2 c) c ++ rest)
 unfolding proper
 proper-block zero true b rest a h = h b a
 proper-block zero false b rest a h = h b a

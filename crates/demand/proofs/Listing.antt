@@ -33,7 +33,7 @@ use Rattle.pictures.specs.Segments.{Segment, segmentAt, segmentsFrom, segmentsO
 use Rattle.pictures.specs.Prepare.{effective, showUnit}
 use Rattle.pictures.specs.declared.settings.Settings.{Settings}
 use Rattle.pictures.specs.Assemble.{Outcome, stopped, Output, named, unitsOf}
-use Rattle.assemble.specs.Checks.{unitK, unitG, timedPayload, timedK, otherK, otherG, timedOtherK, pictureKG, rangesKG, roomKG, settingsKG, outputKG, listing, pictureTwo, rangesTwo, pictureTimed, rangesTimed, roomTwo, outputTwo, two}
+use Rattle.assemble.specs.Examples.{unitK, unitG, timedPayload, timedK, otherK, otherG, timedOtherK, pictureKG, rangesKG, roomKG, settingsKG, outputKG, pictureTwo, rangesTwo, pictureTimed, rangesTimed, roomTwo, outputTwo, examples-made}
 use Rattle.frame.specs.UnitFrame.{framePayload, unitFrame}
 use Rattle.player.specs.Player.{State, start, refresh, keepAs, play, leaves}
 use Rattle.demand.specs.Kinds.{unitKind, unitAt}
@@ -231,18 +231,18 @@ outAt i l = getD l i (stopped 0 none)
 pub demandedKG : Demand3 settingsKG segmentsKG outputKG
 demandedKG =
     demand3 roomKG settingsKG pictureKG (rangesKG 4 1) segmentsKG outputKG (record { fps = omega arith; den = omega arith }) (ap (cutAt 0) given)
-    (premises-of segmentsKG (all-formed .0) (ap (modelAt 0) models)) listing
+    (premises-of segmentsKG (all-formed .0) (ap (modelAt 0) models)) (ap (outAt 0) examples-made)
 
 pub demandedTwo : Demand3 settingsKG segmentsTwo outputTwo
 demandedTwo =
     demand3 roomTwo settingsKG pictureTwo rangesTwo segmentsTwo outputTwo (record { fps = omega arith; den = omega arith }) (ap (cutAt 1) given)
-    (premises-of segmentsTwo (all-formed .1) (ap (modelAt 0) models)) (ap (outAt 0) two)
+    (premises-of segmentsTwo (all-formed .1) (ap (modelAt 0) models)) (ap (outAt 1) examples-made)
 
 -- nothing is rewritten here
 pub demandedTimed : Demand3 settingsKG segmentsTimed outputTwo
 demandedTimed =
     demand3 roomTwo settingsKG pictureTimed rangesTimed segmentsTimed outputTwo (record { fps = omega arith; den = omega arith }) (ap (cutAt 2) given)
-    (premises-of segmentsTimed (all-formed .2) (ap (modelAt 1) models)) (ap (outAt 1) two)
+    (premises-of segmentsTimed (all-formed .2) (ap (modelAt 1) models)) (ap (outAt 2) examples-made)
 
 -- ---- what is shown
 

@@ -1,14 +1,14 @@
--- Laws of decimal digits: one more digit, their number, and that they are right.
-use Prim.Native.Nat.{ℕ, zero, suc, _+_, _-_, _*_, _/_, _%_, _^_, _≤_, _<_}
+-- Laws of decimal digits: one more digit, and how many there are.
+use Prim.Native.Nat.{ℕ, zero, suc, _+_, _-_, _/_, _%_, _^_, _≤_, _<_}
 use native.Mathlib.Omega.{arith}
 use native.Mathlib.Nat.{pow-suc}
 use mathlib.Core.Path.{_≡_, refl, ap, _∙_}
 use mathlib.Core.List.{List, [], _∷_, _++_}
 use mathlib.Core.Bool.{cond as pick}
-use lib.ListN.{length, getD, length-append, List·getD-append}
+use lib.ListN.{length, length-append}
 use lib.Dec.{ltb}
-use borrow.Author.Tests.{lt-ltb, le-ltb, ltb-false}
-use Rattle.bitio.proofs.ParseLaws.{pick-both, pick-cases}
+use borrow.Author.Tests.{lt-ltb, le-ltb}
+use Rattle.bitio.proofs.ParseLaws.{pick-both}
 use Rattle.listing.specs.Decimal.{digitsIn, decimal}
 
 -- ---- one more digit
@@ -65,43 +65,3 @@ in-most (suc j) (suc k) n h =
 pub decimal-most : (n : ℕ) → n < 2 ^ 64 → length (decimal n) ≤ 20
 unfolding decimal
 decimal-most n h = in-most n 19 n (omega arith)
-
--- ---- the digits are right
-
--- what digits come to, those before them having come to v
-unfoldable pub valueFrom : ℕ → List ℕ → ℕ
-valueFrom v [] = v
-valueFrom v (c ∷ s) = valueFrom (10 * v + (c - 48)) s
-
-value-last : (v : ℕ) (s : List ℕ) (d : ℕ) → valueFrom v (s ++ ((48 + d) ∷ [])) ≡ 10 * valueFrom v s + d
-unfolding valueFrom
-value-last v [] d = omega arith
-value-last v (c ∷ s) d = value-last (10 * v + (c - 48)) s d
-
-in-back : (k n : ℕ) → n ≤ k → valueFrom 0 (digitsIn k n) ≡ n
-unfolding digitsIn valueFrom
-in-back zero n h = omega arith
-in-back (suc k) n h =
-    let i = in-back k (n / 10) (omega arith) in
-    pick-both (λ (l : List ℕ). valueFrom 0 l ≡ n) (ltb n 10) (omega arith) (value-last 0 (digitsIn k (n / 10)) (n % 10) ∙ omega arith)
-
--- reading the digits of a number gives the number back
-pub decimal-back : (n : ℕ) → valueFrom 0 (decimal n) ≡ n
-unfolding decimal
-decimal-back n = in-back n n (omega arith)
-
-in-led : (k n : ℕ) → n ≤ k → 1 ≤ n → 49 ≤ getD (digitsIn k n) 0 0
-unfolding digitsIn
-in-led zero n h g = absurd (omega arith)
-in-led (suc k) n h g =
-    pick-cases (λ (l : List ℕ). 49 ≤ getD l 0 0) (ltb n 10) (λ e. omega arith)
-    (λ e.
-    let w = ltb-false n 10 e in
-    let i = in-led k (n / 10) (omega arith) (omega arith) in
-    let a = List·getD-append (digitsIn k (n / 10)) ((48 + n % 10) ∷ []) 0 0 (in-some k (n / 10)) in
-    omega (arith, a, i))
-
--- the first digit of a number other than 0 is no 0
-pub decimal-led : (n : ℕ) → 1 ≤ n → 49 ≤ getD (decimal n) 0 0
-unfolding decimal
-decimal-led n h = in-led n n (omega arith) h

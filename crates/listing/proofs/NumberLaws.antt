@@ -1,17 +1,14 @@
 -- Laws of the file's numbers: read, summed, and written a record a segment.
-use Prim.Native.Nat.{ℕ, zero, suc, _+_, _-_, _*_, _/_, _%_, _^_, _≤_, _<_}
+use Prim.Native.Nat.{ℕ, zero, suc, _+_, _-_, _*_, _^_, _≤_, _<_}
 use native.Mathlib.Omega.{arith}
-use native.Mathlib.Nat.{pow-suc}
-use native.Mathlib.Numerals.{add-one}
 use mathlib.Core.Path.{_≡_, refl, sym, ap, ap₂, _∙_}
-use mathlib.Core.List.{List, [], _∷_, _++_, append-assoc}
-use lib.ListN.{length, getD, length-append}
+use mathlib.Core.List.{List, [], _++_}
+use lib.ListN.{length, getD}
 use lib.Pow.{pow-mono, pow-add}
-use lib.Seq.{getD-append-seam}
 use Rattle.bitio.specs.Lent.{pasted}
 use Rattle.bitio.proofs.LentLaws.{pasted-nil, pasted-more, pasted-length}
 use Rattle.blocks.specs.Numbers.{width, recordOf, segmentCount}
-use Rattle.listing.specs.File.{numberAt, u32At, lengths, segmentEnd, segmentNumbers, numbersFrom}
+use Rattle.listing.specs.File.{numberAt, u32At, unitsLength, segmentEnd, segmentNumbers, fileNumbersFrom}
 
 -- ---- a number, from its highest byte down
 
@@ -55,31 +52,31 @@ module _ {s : List ℕ} {at n i v : ℕ} (r : Reads s at n i v) where
 pub record Summing (s : List ℕ) (from count i sum : ℕ) : Type 0 where
   pub within : i ≤ count
   pub small : sum ≤ i * 8589934592
-  pub whole : sum + lengths s (count - i) (from + 16 * i) ≡ lengths s count from
+  pub whole : sum + unitsLength s (count - i) (from + 16 * i) ≡ unitsLength s count from
 
 pub sum-start : (s : List ℕ) (from count : ℕ) → Summing s from count 0 0
 sum-start s from count =
     let a : from + 16 * 0 ≡ from = omega arith in
     let k : count - 0 ≡ count = omega arith in
-    record { within = omega arith; small = omega arith; whole = omega (arith, ap₂ (lengths s) k a) }
+    record { within = omega arith; small = omega arith; whole = omega (arith, ap₂ (unitsLength s) k a) }
 
 module _ {s : List ℕ} {from count i sum : ℕ} (r : Summing s from count i sum) where
-  lengths-more : i < count → lengths s (count - i) (from + 16 * i) ≡ u32At s (from + 16 * i) + u32At s (from + 16 * i + 4) + lengths s (count - (i + 1)) (from + 16 * (i + 1))
-  unfolding lengths
+  lengths-more : i < count → unitsLength s (count - i) (from + 16 * i) ≡ u32At s (from + 16 * i) + u32At s (from + 16 * i + 4) + unitsLength s (count - (i + 1)) (from + 16 * (i + 1))
+  unfolding unitsLength
   lengths-more h =
       let k : count - i ≡ suc (count - (i + 1)) = omega arith in
       let a : from + 16 * i + 16 ≡ from + 16 * (i + 1) = omega arith in
-      rw k (ap (λ (q : ℕ). u32At s (from + 16 * i) + u32At s (from + 16 * i + 4) + lengths s (count - (i + 1)) q) a)
+      rw k (ap (λ (q : ℕ). u32At s (from + 16 * i) + u32At s (from + 16 * i + 4) + unitsLength s (count - (i + 1)) q) a)
 
   pub sum-turn : (x y : ℕ) → i < count → (x ≡ u32At s (from + 16 * i)) × (x < 2 ^ 32) → (y ≡ u32At s (from + 16 * i + 4)) × (y < 2 ^ 32) → Summing s from count (i + 1) (sum + x + y)
   sum-turn x y h p q =
       record { within = omega arith; small = omega (arith, r .small, p .1, q .1); whole = omega (arith, r .whole, lengths-more h, p .0, q .0) }
 
-  pub sum-end : count ≤ i → sum ≡ lengths s count from
-  unfolding lengths
+  pub sum-end : count ≤ i → sum ≡ unitsLength s count from
+  unfolding unitsLength
   sum-end h =
       let k : count - i ≡ 0 = omega arith in
-      let z : lengths s (count - i) (from + 16 * i) ≡ 0 = rw k in
+      let z : unitsLength s (count - i) (from + 16 * i) ≡ 0 = rw k in
       omega (arith, r .whole, z)
 
 -- ---- a record a segment
@@ -91,15 +88,15 @@ segment-put s d {d′} w q a {x} {y} {z} e f g h =
     h ∙ ap₂ (λ (m n : ℕ). pasted d w (recordOf a (a + m) (a + m) (a + m + n) z)) e f
     ∙ ap (λ (n : ℕ). pasted d w (recordOf a (a + u32At s q) (a + u32At s q) (segmentEnd s q a) n)) g
 
-numbers-none : (s : List ℕ) (q a : ℕ) → numbersFrom s 0 q a ≡ []
-unfolding numbersFrom
+numbers-none : (s : List ℕ) (q a : ℕ) → fileNumbersFrom s 0 q a ≡ []
+unfolding fileNumbersFrom
 numbers-none s q a = refl
 
-numbers-more : (s : List ℕ) (k q a : ℕ) → numbersFrom s (suc k) q a ≡ segmentNumbers s q a ++ numbersFrom s k (q + 16) (segmentEnd s q a)
-unfolding numbersFrom
+numbers-more : (s : List ℕ) (k q a : ℕ) → fileNumbersFrom s (suc k) q a ≡ segmentNumbers s q a ++ fileNumbersFrom s k (q + 16) (segmentEnd s q a)
+unfolding fileNumbersFrom
 numbers-more s k q a = refl
 
-pub numbers-length : (s : List ℕ) (k q a : ℕ) → length (numbersFrom s k q a) ≡ width * k
+pub numbers-length : (s : List ℕ) (k q a : ℕ) → length (fileNumbersFrom s k q a) ≡ width * k
 numbers-length s zero q a = ap length (numbers-none s q a)
 numbers-length s (suc k) q a =
     let i = numbers-length s k (q + 16) (segmentEnd s q a) in
@@ -110,13 +107,13 @@ pub record Numbering (s d₀ : List ℕ) (from count : ℕ) (d : List ℕ) (i a 
   pub within : i ≤ count
   pub small : a ≤ i * 8589934592
   pub kept : length d ≡ length d₀
-  pub same : pasted d (width * i) (numbersFrom s (count - i) (from + 16 * i) a) ≡ pasted d₀ 0 (numbersFrom s count from 0)
+  pub same : pasted d (width * i) (fileNumbersFrom s (count - i) (from + 16 * i) a) ≡ pasted d₀ 0 (fileNumbersFrom s count from 0)
 
 pub numbering-start : (s d : List ℕ) (from count : ℕ) → Numbering s d from count d 0 0
 numbering-start s d from count =
     let q : from + 16 * 0 ≡ from = omega arith in
     let k : count - 0 ≡ count = omega arith in
-    record { within = omega arith; small = omega arith; kept = refl; same = ap₂ (λ (m n : ℕ). pasted d 0 (numbersFrom s m n 0)) k q }
+    record { within = omega arith; small = omega arith; kept = refl; same = ap₂ (λ (m n : ℕ). pasted d 0 (fileNumbersFrom s m n 0)) k q }
 
 module _ {s d₀ : List ℕ} {from count : ℕ} {d : List ℕ} {i a : ℕ} (r : Numbering s d₀ from count d i a) where
   pub numbering-turn : (d′ : List ℕ) (b : ℕ) → i < count → count ≤ segmentCount d₀ → (b ≡ segmentEnd s (from + 16 * i) a) × (b < a + 2 ^ 33)
@@ -126,10 +123,10 @@ module _ {s d₀ : List ℕ} {from count : ℕ} {d : List ℕ} {i a : ℕ} (r : 
       let k : count - i ≡ suc (count - (i + 1)) = omega arith in
       let t : width * i + width ≡ width * (i + 1) = omega arith in
       let x = segmentNumbers s (from + 16 * i) a in
-      let y = numbersFrom s (count - (i + 1)) (from + 16 * (i + 1)) b in
-      let m : numbersFrom s (count - i) (from + 16 * i) a ≡ x ++ y =
-      ap (λ (n : ℕ). numbersFrom s n (from + 16 * i) a) k ∙ numbers-more s (count - (i + 1)) (from + 16 * i) a
-      ∙ ap₂ (λ (n o : ℕ). x ++ numbersFrom s (count - (i + 1)) n o) q (sym (e .0)) in
+      let y = fileNumbersFrom s (count - (i + 1)) (from + 16 * (i + 1)) b in
+      let m : fileNumbersFrom s (count - i) (from + 16 * i) a ≡ x ++ y =
+      ap (λ (n : ℕ). fileNumbersFrom s n (from + 16 * i) a) k ∙ numbers-more s (count - (i + 1)) (from + 16 * i) a
+      ∙ ap₂ (λ (n o : ℕ). x ++ fileNumbersFrom s (count - (i + 1)) n o) q (sym (e .0)) in
       record {
         within = omega arith;
         small = omega (arith, e .1, r .small);
@@ -138,36 +135,8 @@ module _ {s d₀ : List ℕ} {from count : ℕ} {d : List ℕ} {i a : ℕ} (r : 
             ap₂ (λ (l : List ℕ) (n : ℕ). pasted l n y) w (sym t) ∙ pasted-more d (width * i) x (omega (arith, r .kept)) y ∙ ap (pasted d (width * i)) (sym m) ∙ r .same;
       }
 
-  pub numbering-end : count ≤ i → d ≡ pasted d₀ 0 (numbersFrom s count from 0)
+  pub numbering-end : count ≤ i → d ≡ pasted d₀ 0 (fileNumbersFrom s count from 0)
   numbering-end h =
       let k : count - i ≡ 0 = omega arith in
-      let z : numbersFrom s (count - i) (from + 16 * i) a ≡ [] = ap (λ (n : ℕ). numbersFrom s n (from + 16 * i) a) k ∙ numbers-none s (from + 16 * i) a in
+      let z : fileNumbersFrom s (count - i) (from + 16 * i) a ≡ [] = ap (λ (n : ℕ). fileNumbersFrom s n (from + 16 * i) a) k ∙ numbers-none s (from + 16 * i) a in
       sym (pasted-nil d (width * i)) ∙ ap (pasted d (width * i)) (sym z) ∙ r .same
-
--- ---- a number written, the lowest byte first, and read back
-
-unfoldable pub bytesOf : ℕ → ℕ → List ℕ
-bytesOf zero v = []
-bytesOf (suc n) v = (v % 256) ∷ bytesOf n (v / 256)
-
-number-none : (s : List ℕ) (at : ℕ) → numberAt s at 0 ≡ 0
-unfolding numberAt
-number-none s at = refl
-
-number-more : (s : List ℕ) (at n : ℕ) → numberAt s at (suc n) ≡ getD s at 0 + 256 * numberAt s (suc at) n
-unfolding numberAt
-number-more s at n = refl
-
--- wherever it stands, with any bytes before and behind it
-pub number-back : (front : List ℕ) (n v : ℕ) (behind : List ℕ) → v < 256 ^ n → numberAt (front ++ (bytesOf n v ++ behind)) (length front) n ≡ v
-unfolding bytesOf
-number-back front zero v behind h = number-none (front ++ behind) (length front) ∙ omega arith
-number-back front (suc n) v behind h =
-    let x = v % 256 in
-    let l = bytesOf n (v / 256) ++ behind in
-    let a : getD (front ++ (x ∷ l)) (length front) 0 ≡ x = getD-append-seam front x l 0 in
-    let k : suc (length front) ≡ length (front ++ (x ∷ [])) = sym (length-append front (x ∷ []) ∙ add-one (length front)) in
-    let e : numberAt (front ++ (x ∷ l)) (suc (length front)) n ≡ v / 256 =
-    ap₂ (λ (s : List ℕ) (at : ℕ). numberAt s at n) (sym (append-assoc front (x ∷ []) l)) k
-    ∙ number-back (front ++ (x ∷ [])) n (v / 256) behind (omega (arith, pow-suc 256 n)) in
-    number-more (front ++ (x ∷ l)) (length front) n ∙ omega (arith, a, e)

@@ -22,33 +22,33 @@ pasted-behind d w xs i a e h =
     ∙ ap (λ (l : List ℕ). take w d ++ l) (sym (append-assoc xs (a ∷ []) (drop (suc i) d)))
     ∙ ap (λ (k : ℕ). take w d ++ ((xs ++ (a ∷ [])) ++ drop k d)) (sym n)
 
-module _ {d d′ : List ℕ} {at r : ℕ} {xs : List ℕ} (w : Wrote d d′ at r xs) where
+module _ {d d′ : List ℕ} {at r : ℕ} {xs : List ℕ} (w : Wrote d at xs r d′) where
   -- the length stays
   pub wrote-length : at + length xs ≤ length d → length d′ ≡ length d
-  wrote-length h = ap length (w .bytes) ∙ pasted-length d at xs h
+  wrote-length h = ap length (w .out) ∙ pasted-length d at xs h
 
   -- one piece behind the other
-  pub wrote-more : {d″ : List ℕ} {t : ℕ} (ys : List ℕ) → at ≤ length d → Wrote d′ d″ r t ys → Wrote d d″ at t (xs ++ ys)
-  wrote-more ys h v =
+  pub wrote-more : at ≤ length d → {ys : List ℕ} {t : ℕ} {d″ : List ℕ} → Wrote d′ r ys t d″ → Wrote d at (xs ++ ys) t d″
+  wrote-more h {ys} v =
       record {
         next = omega (arith, v .next, w .next, length-append xs ys);
-        bytes = v .bytes ∙ ap₂ (λ (l : List ℕ) (k : ℕ). pasted l k ys) (w .bytes) (w .next) ∙ pasted-more d at xs h ys;
+        out = v .out ∙ ap₂ (λ (l : List ℕ) (k : ℕ). pasted l k ys) (w .out) (w .next) ∙ pasted-more d at xs h ys;
       }
 
   -- a store behind it
-  pub wrote-store : (a : ℕ) → at + length xs < length d → Wrote d (set d′ r a) at (r + 1) (xs ++ (a ∷ []))
+  pub wrote-store : (a : ℕ) → at + length xs < length d → Wrote d at (xs ++ (a ∷ [])) (r + 1) (set d′ r a)
   wrote-store a h =
       record {
         next = omega (arith, w .next, length-append xs (a ∷ []));
-        bytes = ap₂ (λ (l : List ℕ) (k : ℕ). set l k a) (w .bytes) (w .next) ∙ pasted-set d at xs a h;
+        out = ap₂ (λ (l : List ℕ) (k : ℕ). set l k a) (w .out) (w .next) ∙ pasted-set d at xs a h;
       }
 
 -- all of a text, at the head of lent memory that has room for it
-pub wrote-all : {d d′ : List ℕ} {r : ℕ} {xs : List ℕ} → Wrote d d′ 0 r xs → length xs ≤ length d → (accepted r ≡ placed d 0 xs) × (d′ ≡ lent d 0 xs)
-wrote-all {d} {d′} {r} {xs} w h = (ap accepted (w .next) ∙ sym (placed-room d 0 xs (omega arith)), w .bytes ∙ sym (lent-room d 0 xs (omega arith)))
+pub wrote-all : {d d′ : List ℕ} {r : ℕ} {xs : List ℕ} → Wrote d 0 xs r d′ → length xs ≤ length d → (accepted r ≡ placed d 0 xs) × (d′ ≡ lent d 0 xs)
+wrote-all {d} {d′} {r} {xs} w h = (ap accepted (w .next) ∙ sym (placed-room d 0 xs (omega arith)), w .out ∙ sym (lent-room d 0 xs (omega arith)))
 
 -- two stores
-pub wrote-two : (d : List ℕ) (w a b : ℕ) → w + 2 ≤ length d → Wrote d (set (set d w a) (w + 1) b) w (w + 2) (a ∷ b ∷ [])
+pub wrote-two : (d : List ℕ) (w a b : ℕ) → w + 2 ≤ length d → Wrote d w (a ∷ b ∷ []) (w + 2) (set (set d w a) (w + 1) b)
 wrote-two d w a b h =
     let e : set d w a ≡ pasted d w (a ∷ []) = pasted-one d w a (omega arith) in
-    record { next = refl; bytes = ap (λ (l : List ℕ). set l (w + 1) b) e ∙ pasted-set d w (a ∷ []) b (omega arith) }
+    record { next = refl; out = ap (λ (l : List ℕ). set l (w + 1) b) e ∙ pasted-set d w (a ∷ []) b (omega arith) }

@@ -24,7 +24,7 @@ field n last = decimal n ++ (last ∷ [])
 abbrev pub counted : List ℕ → ℕ → ℕ → List ℕ
 counted word n last = word ++ field n last
 
--- d became d′ by xs put at `at`, and the next place is r
-pub record Wrote (d d′ : List ℕ) (at r : ℕ) (xs : List ℕ) : Type 0 where
-  pub next : r ≡ at + length xs
-  pub bytes : d′ ≡ pasted d at xs
+-- xs was put into d at w: e is lent memory afterwards, r the place behind xs
+pub record Wrote (d : List ℕ) (w : ℕ) (xs : List ℕ) (r : ℕ) (e : List ℕ) : Type 0 where
+  pub next : r ≡ w + length xs
+  pub out : e ≡ pasted d w xs

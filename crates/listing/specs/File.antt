@@ -7,7 +7,7 @@ use mathlib.Core.Option.{Option, none, some}
 use lib.ListN.{length, getD}
 use lib.Dec.{leb, eqb}
 use Rattle.bitio.specs.Lent.{hasRoom, lent}
-use Rattle.blocks.specs.Numbers.{recordOf}
+use Rattle.blocks.specs.Numbers.{width, recordOf}
 use Rattle.listing.specs.declared.file.Layout.{Layout}
 
 -- ---- numbers
@@ -23,13 +23,13 @@ u32At s at = numberAt s at 4
 abbrev pub u64At : List ℕ → ℕ → ℕ
 u64At s at = numberAt s at 8
 
--- ---- 01: sections in this order, each after its u32 count: picture bytes, segments, settings
+-- ---- where things stand: three sections, led by their counts
 
 abbrev pub pictureCount : List ℕ → ℕ
 pictureCount s = u32At s 0
 
-abbrev pub segmentCount : List ℕ → ℕ
-segmentCount s = u32At s (4 + pictureCount s)
+abbrev pub fileSegments : List ℕ → ℕ
+fileSegments s = u32At s (4 + pictureCount s)
 
 -- the first segment, behind both counts and the picture bytes
 abbrev pub segmentsAt : List ℕ → ℕ
@@ -37,7 +37,7 @@ segmentsAt s = 8 + pictureCount s
 
 -- the settings' count, behind 16 bytes a segment
 abbrev pub settingsAt : List ℕ → ℕ
-settingsAt s = segmentsAt s + 16 * segmentCount s
+settingsAt s = segmentsAt s + 16 * fileSegments s
 
 -- 01: gop_size, fps, fps_den, u64 each
 abbrev pub gopAt : List ℕ → ℕ
@@ -49,7 +49,7 @@ fpsAt s = u64At s (settingsAt s + 12)
 abbrev pub denAt : List ℕ → ℕ
 denAt s = u64At s (settingsAt s + 20)
 
--- ---- 01: segments (key length, golden length as u32, frames as u64)
+-- ---- a segment: two lengths of four bytes, then its frames in eight
 
 abbrev pub keyLength : List ℕ → ℕ → ℕ
 keyLength s q = u32At s q
@@ -57,13 +57,13 @@ keyLength s q = u32At s q
 abbrev pub goldenLength : List ℕ → ℕ → ℕ
 goldenLength s q = u32At s (q + 4)
 
-abbrev pub framesAt : List ℕ → ℕ → ℕ
-framesAt s q = u64At s (q + 8)
+abbrev pub fileFrames : List ℕ → ℕ → ℕ
+fileFrames s q = u64At s (q + 8)
 
 -- the bytes of the units of k segments, of which the first stands at q
-unfoldable pub lengths : List ℕ → ℕ → ℕ → ℕ
-lengths s zero q = 0
-lengths s (suc k) q = keyLength s q + goldenLength s q + lengths s k (q + 16)
+unfoldable pub unitsLength : List ℕ → ℕ → ℕ → ℕ
+unitsLength s zero q = 0
+unitsLength s (suc k) q = keyLength s q + goldenLength s q + unitsLength s k (q + 16)
 
 -- the golden of the segment at q ends here, if its key starts at a
 abbrev pub segmentEnd : List ℕ → ℕ → ℕ → ℕ
@@ -71,26 +71,26 @@ segmentEnd s q a = a + keyLength s q + goldenLength s q
 
 -- its record: the golden starts where the key ends
 abbrev pub segmentNumbers : List ℕ → ℕ → ℕ → List ℕ
-segmentNumbers s q a = recordOf a (a + keyLength s q) (a + keyLength s q) (segmentEnd s q a) (framesAt s q)
+segmentNumbers s q a = recordOf a (a + keyLength s q) (a + keyLength s q) (segmentEnd s q a) (fileFrames s q)
 
 -- 01: units lie in segment order: those of k segments, the first standing at q and its key starting at a
-unfoldable pub numbersFrom : List ℕ → ℕ → ℕ → ℕ → List ℕ
-numbersFrom s zero q a = []
-numbersFrom s (suc k) q a = segmentNumbers s q a ++ numbersFrom s k (q + 16) (segmentEnd s q a)
+unfoldable pub fileNumbersFrom : List ℕ → ℕ → ℕ → ℕ → List ℕ
+fileNumbersFrom s zero q a = []
+fileNumbersFrom s (suc k) q a = segmentNumbers s q a ++ fileNumbersFrom s k (q + 16) (segmentEnd s q a)
 
-abbrev pub numbersOf : List ℕ → List ℕ
-numbersOf s = numbersFrom s (segmentCount s) (segmentsAt s) 0
+abbrev pub fileNumbers : List ℕ → List ℕ
+fileNumbers s = fileNumbersFrom s (fileSegments s) (segmentsAt s) 0
 
 -- ---- 01: a short, long or unfit file
 
 -- 65,536 bytes at most; as long as its sections; a settings count of 3; units that fill the picture bytes exactly; fps and
 -- fps_den fit a u32, as in AssembleParams, gop_size a u64
-unfoldable pub isWhole : List ℕ → Bool
-isWhole s =
+unfoldable pub isFile : List ℕ → Bool
+isFile s =
     leb (length s) 65536
     && eqb (length s) (settingsAt s + 28)
     && eqb (u32At s (settingsAt s)) 3
-    && eqb (lengths s (segmentCount s) (segmentsAt s)) (pictureCount s)
+    && eqb (unitsLength s (fileSegments s) (segmentsAt s)) (pictureCount s)
     && leb (fpsAt s) 4294967295
     && leb (denAt s) 4294967295
 
@@ -99,7 +99,7 @@ layoutOf s =
     record {
       start = 4;
       end = 4 + pictureCount s;
-      segments = segmentCount s;
+      segments = fileSegments s;
       «gop_size» = gopAt s;
       fps = fpsAt s;
       «fps_den» = denAt s;
@@ -107,21 +107,21 @@ layoutOf s =
 
 -- what any bytes say as a file
 abbrev pub layoutIn : List ℕ → Option Layout
-layoutIn s = pick (isWhole s) (some (layoutOf s)) none
+layoutIn s = pick (isFile s) (some (layoutOf s)) none
 
 -- ---- reading a file, the segments' numbers going into lent memory d
 
-pub data Reading : Type 0 where
-  bad : Reading
-  full : Reading
-  read : Layout → Reading
+pub data FileReading : Type 0 where
+  bad : FileReading
+  full : FileReading
+  read : Layout → FileReading
 
-unfoldable pub readInto : List ℕ → List ℕ → Reading
-readInto d s = pick (isWhole s) (pick (hasRoom d 0 (numbersOf s)) (read (layoutOf s)) full) bad
+unfoldable pub readInto : List ℕ → List ℕ → FileReading
+readInto d s = pick (isFile s) (pick (hasRoom d 0 (fileNumbers s)) (read (layoutOf s)) full) bad
 
 -- d afterwards
-unfoldable pub numbersAfter : List ℕ → List ℕ → List ℕ
-numbersAfter d s = pick (isWhole s) (lent d 0 (numbersOf s)) d
+unfoldable pub fileNumbersAfter : List ℕ → List ℕ → List ℕ
+fileNumbersAfter d s = pick (isFile s) (lent d 0 (fileNumbers s)) d
 
 -- ---- what the functions behind the first tests are told
 
@@ -131,8 +131,16 @@ pub record Records (s : List ℕ) (from count : ℕ) : Type 0 where
   pub there : from + 16 * count ≤ length s
 
 -- the two counts, and that the file is as long as its sections
-pub record Sized (s : List ℕ) (picture count : ℕ) : Type 0 where
+pub record FileSized (s : List ℕ) (picture count : ℕ) : Type 0 where
   pub small : length s ≤ 65536
   pub pictures : picture ≡ pictureCount s
-  pub segments : count ≡ segmentCount s
+  pub segments : count ≡ fileSegments s
   pub whole : length s ≡ settingsAt s + 28
+
+-- ---- what a layout promises to those that use it
+
+-- the picture bytes lie within the file, and the numbers of all segments are there
+pub record LayoutFits (l : Layout) (s numbers : List ℕ) : Type 0 where
+  pub start-first : l .start ≤ l .end
+  pub picture : l .end ≤ length s
+  pub numbers-there : width * l .segments ≤ length numbers

@@ -2,4 +2,3 @@ pub mod File
 pub mod Says
 pub mod Decimal
 pub mod Text
-pub mod Checks

@@ -21,7 +21,7 @@ pub(crate) fn decimal_len(v: u64) -> usize
 // Writes the digits of v, the last first.
 fn put_decimal(out: &mut [u8], at: usize, v: u64) -> usize
     requires { ⌜ at + length (decimal v) ≤ length (now out) ⌝ }
-    ensures { λ r. ⌜ Wrote (now (out .entry)) (now (out .exit)) at r (decimal v) ⌝ }
+    ensures { λ r. ⌜ Wrote (now (out .entry)) at (decimal v) r (now (out .exit)) ⌝ }
 {
     let end = at + decimal_len(v);
     let mut x = v;
@@ -38,7 +38,7 @@ fn put_decimal(out: &mut [u8], at: usize, v: u64) -> usize
 // Writes v and a character behind it. For crates that have measured the room.
 pub fn put_field(out: &mut [u8], at: usize, v: u64, last: u8) -> usize
     requires { ⌜ at + length (field v last) ≤ length (now out) ⌝ }
-    ensures { λ r. ⌜ Wrote (now (out .entry)) (now (out .exit)) at r (field v last) ⌝ }
+    ensures { λ r. ⌜ Wrote (now (out .entry)) at (field v last) r (now (out .exit)) ⌝ }
 {
     let end = put_decimal(out, at, v);
     out[end] = last;
@@ -48,7 +48,7 @@ pub fn put_field(out: &mut [u8], at: usize, v: u64, last: u8) -> usize
 // Writes a word, v, and a character behind it. For crates that have measured the room.
 pub fn put_counted(out: &mut [u8], at: usize, word: &[u8], v: u64, last: u8) -> usize
     requires { ⌜ at + length (counted (now word) v last) ≤ length (now out) ⌝ }
-    ensures { λ r. ⌜ Wrote (now (out .entry)) (now (out .exit)) at r (counted (now (word .entry)) v last) ⌝ }
+    ensures { λ r. ⌜ Wrote (now (out .entry)) at (counted (now (word .entry)) v last) r (now (out .exit)) ⌝ }
 {
     let to = put_bytes(out, at, word);
     put_field(out, to, v, last)

@@ -4,8 +4,8 @@ ghost use Prim.Native.Nat.{_+_, _*_, _≤_, _<_, _^_};
 ghost use lib.ListN.{length};
 ghost use Rattle.bitio.specs.Lent.{pasted};
 ghost use Rattle.blocks.specs.Numbers.{width, segmentCount};
-ghost use Rattle.listing.specs.File.{numberAt, lengths, segmentNumbers, segmentEnd, numbersFrom, Sized, Records, layoutIn, readInto, numbersAfter};
-ghost use Rattle.listing.specs.Says.{foundSays, fileSays};
+ghost use Rattle.listing.specs.File.{numberAt, unitsLength, segmentNumbers, segmentEnd, fileNumbersFrom, FileSized, Records, layoutIn, readInto, fileNumbersAfter};
+ghost use Rattle.listing.specs.Says.{layoutSays, fileSays};
 use blocks::numbers::WIDTH;
 use blocks::numbers::put_record;
 
@@ -50,7 +50,7 @@ fn number(file: &[u8], at: usize, n: usize) -> u64
 // How many bytes the units of so many segments have.
 fn units_len(file: &[u8], from: usize, count: usize) -> u64
     requires { ⌜ Records (now file) from count ⌝ }
-    ensures { λ r. ⌜ r ≡ lengths (now (file .entry)) count from ⌝ }
+    ensures { λ r. ⌜ r ≡ unitsLength (now (file .entry)) count from ⌝ }
 {
     let mut sum: u64 = 0;
     let mut i: usize = 0;
@@ -64,8 +64,8 @@ fn units_len(file: &[u8], from: usize, count: usize) -> u64
 
 // The layout of a file whose length is that of its sections.
 fn settings(file: &[u8], picture: usize, count: usize) -> Found
-    requires { ⌜ Sized (now file) picture count ⌝ }
-    ensures { λ r. ⌜ foundSays r ≡ layoutIn (now (file .entry)) ⌝ }
+    requires { ⌜ FileSized (now file) picture count ⌝ }
+    ensures { λ r. ⌜ layoutSays r ≡ layoutIn (now (file .entry)) ⌝ }
 {
     let from = 8 + picture;
     let at = from + 16 * count;
@@ -96,7 +96,7 @@ fn settings(file: &[u8], picture: usize, count: usize) -> Found
 
 // The layout of any bytes that are a file.
 fn find(file: &[u8]) -> Found
-    ensures { λ r. ⌜ foundSays r ≡ layoutIn (now (file .entry)) ⌝ }
+    ensures { λ r. ⌜ layoutSays r ≡ layoutIn (now (file .entry)) ⌝ }
 {
     let len = file.len();
     if len > 65536 {
@@ -135,7 +135,7 @@ fn put_segment(numbers: &mut [u64], i: usize, file: &[u8], from: usize, start: u
 fn put_numbers(numbers: &mut [u64], file: &[u8], from: usize, count: usize)
     requires there { ⌜ Records (now file) from count ⌝ }
     requires room { ⌜ count ≤ segmentCount (now numbers) ⌝ }
-    ensures { λ _. ⌜ now (numbers .exit) ≡ pasted (now (numbers .entry)) 0 (numbersFrom (now (file .entry)) count from 0) ⌝ }
+    ensures { λ _. ⌜ now (numbers .exit) ≡ pasted (now (numbers .entry)) 0 (fileNumbersFrom (now (file .entry)) count from 0) ⌝ }
 {
     let mut start: u64 = 0;
     let mut i: usize = 0;
@@ -148,7 +148,7 @@ fn put_numbers(numbers: &mut [u64], file: &[u8], from: usize, count: usize)
 // Reads a file. Where it is whole and there is room, a record is written for each segment.
 pub fn read_file(file: &[u8], numbers: &mut [u64]) -> FileAnswer
     ensures answer { λ r. ⌜ fileSays r ≡ readInto (now (numbers .entry)) (now (file .entry)) ⌝ }
-    ensures numbers { λ _. ⌜ now (numbers .exit) ≡ numbersAfter (now (numbers .entry)) (now (file .entry)) ⌝ }
+    ensures numbers { λ _. ⌜ now (numbers .exit) ≡ fileNumbersAfter (now (numbers .entry)) (now (file .entry)) ⌝ }
 {
     let Found::Whole(layout) = find(file) else {
         return FileAnswer::Bad;

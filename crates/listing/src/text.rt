@@ -53,7 +53,7 @@ fn slot_of(shows: &[u8], segment: usize) -> u64
 // Writes two characters.
 fn put_two(out: &mut [u8], at: usize, a: u8, b: u8) -> usize
     requires { ⌜ at + 2 ≤ length (now out) ⌝ }
-    ensures { λ r. ⌜ Wrote (now (out .entry)) (now (out .exit)) at r (a ∷ b ∷ []) ⌝ }
+    ensures { λ r. ⌜ Wrote (now (out .entry)) at (a ∷ b ∷ []) r (now (out .exit)) ⌝ }
 {
     out[at] = a;
     out[at + 1] = b;
@@ -62,7 +62,7 @@ fn put_two(out: &mut [u8], at: usize, a: u8, b: u8) -> usize
 
 fn put_slot(out: &mut [u8], at: usize, shows: &[u8], entry: u32) -> usize
     requires { ⌜ at + length (slotField (now shows) entry) ≤ length (now out) ⌝ }
-    ensures { λ r. ⌜ Wrote (now (out .entry)) (now (out .exit)) at r (slotField (now (shows .entry)) entry) ⌝ }
+    ensures { λ r. ⌜ Wrote (now (out .entry)) at (slotField (now (shows .entry)) entry) r (now (out .exit)) ⌝ }
 {
     if entry % 4 == 0 {
         return put_two(out, at, b'-', b' ');
@@ -92,7 +92,7 @@ fn put_line<'a>(
     entry: u32,
 ) -> usize
     requires { ⌜ at + length (line (now pictures) (now ends) (now shows) position entry) ≤ length (now out) ⌝ }
-    ensures { λ r. ⌜ Wrote (now (out .entry)) (now (out .exit)) at r (line (now (pictures .entry)) (now (ends .entry)) (now (shows .entry)) position entry) ⌝ }
+    ensures { λ r. ⌜ Wrote (now (out .entry)) at (line (now (pictures .entry)) (now (ends .entry)) (now (shows .entry)) position entry) r (now (out .exit)) ⌝ }
 {
     let len = unit_len(pictures, ends, shows, entry);
     let kind = put_field(out, at, position, b' ');
@@ -149,7 +149,7 @@ fn put_lines<'a>(
     shows: &'a [u8],
 ) -> usize
     requires { ⌜ at + length (lines (now pictures) (now ends) (now shows) 1 (now list)) ≤ length (now out) ⌝ }
-    ensures { λ r. ⌜ Wrote (now (out .entry)) (now (out .exit)) at r (lines (now (pictures .entry)) (now (ends .entry)) (now (shows .entry)) 1 (now (list .entry))) ⌝ }
+    ensures { λ r. ⌜ Wrote (now (out .entry)) at (lines (now (pictures .entry)) (now (ends .entry)) (now (shows .entry)) 1 (now (list .entry))) r (now (out .exit)) ⌝ }
 {
     let mut to = at;
     let mut i: usize = 0;

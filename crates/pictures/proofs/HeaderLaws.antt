@@ -6,7 +6,7 @@ use mathlib.Core.Bool.{Bool, true, false, cond as pick}
 use mathlib.Core.Option.{Option, none, some, Option·map}
 use Rattle.bitio.specs.Parse.{Answer, refused, accepted, answer, andNext}
 use Rattle.obu.specs.Obu.{Obu, obus}
-use Rattle.obu.specs.Unit.{Located, locatedObus, orElse, sought, foundSays}
+use Rattle.obu.specs.Unit.{locatedObus, orElse, sought, foundSays}
 use Rattle.obu.specs.declared.reader.ObuAt.{ObuAt}
 use Rattle.obu.proofs.UnitLaws.{obuAt, sought-obus}
 use Rattle.header.specs.Sequence.{Sequence, sequenceOf, sequenceRead}

@@ -3,14 +3,15 @@ use Prim.Native.Nat.{ℕ}
 use mathlib.Core.Path.{_≡_, refl, sym, _∙_}
 use mathlib.Core.List.{List, [], map}
 use mathlib.Core.Bool.{Bool, true, false, cond as pick}
-use Rattle.bitio.specs.Parse.{Answer, refused, accepted, answer, andNext}
+use Rattle.bitio.specs.Parse.{Answer, refused, accepted, andNext}
 use Rattle.obu.specs.Obu.{Obu, obus, unitBytes}
 use Rattle.obu.specs.Unit.{has}
 use Rattle.header.specs.Sequence.{Sequence}
 use Rattle.pictures.specs.Segments.{Segment}
 use Rattle.frame.specs.UnitFrame.{unitFrame}
 use Rattle.pictures.specs.Prepare.{isSequence, renewed, sent, keyOk, goldenFlags, asked, Prepared, prepare}
-use Rattle.pictures.specs.Code.{judged, renewing, orElse, sentBytes}
+use Rattle.pictures.specs.Assemble.{verdict}
+use Rattle.pictures.specs.Code.{judged, renewing, answerOr, sentBytes}
 
 -- ---- chains of answers
 
@@ -38,18 +39,15 @@ asked-out q k g f =
 
 module _ (q : Sequence) (new : List ℕ) (x : Segment) where
   -- a unit whose OBUs are a, rewritten
-  abbrev rewritten : List ℕ → Answer (List Obu) → Answer (List ℕ)
-  rewritten u a = andNext a (λ os. accepted (pick (has isSequence os) (unitBytes (map (renewed new) os)) u))
+  abbrev rewrittenOf : List ℕ → Answer (List Obu) → Answer (List ℕ)
+  rewrittenOf u a = andNext a (λ os. accepted (pick (has isSequence os) (unitBytes (map (renewed new) os)) u))
 
-  abbrev legible : Answer (List Obu) → Answer Unit
-  legible a = answer (λ _. tt) a
-
-  abbrev out : List ℕ → List ℕ → ℕ → Answer Prepared
-  out k g n = accepted (record { key = k; golden = g; slot = n })
+  abbrev preparedBy : List ℕ → List ℕ → ℕ → Answer Prepared
+  preparedBy k g n = accepted (record { key = k; golden = g; slot = n })
 
   by-obus : (a b : Answer (List Obu))
-      → andNext (rewritten (x .key) a) (λ k. andNext (rewritten (x .golden) b) (λ g. asked q (x .key) (x .golden) (out k g)))
-      ≡ andNext (andNext (legible a) (λ _. andNext (legible b) (λ _. asked q (x .key) (x .golden) (λ n. accepted n)))) (out (orElse [] (rewritten (x .key) a)) (orElse [] (rewritten (x .golden) b)))
+      → andNext (rewrittenOf (x .key) a) (λ k. andNext (rewrittenOf (x .golden) b) (λ g. asked q (x .key) (x .golden) (preparedBy k g)))
+      ≡ andNext (andNext (verdict a) (λ _. andNext (verdict b) (λ _. asked q (x .key) (x .golden) (λ n. accepted n)))) (preparedBy (answerOr [] (rewrittenOf (x .key) a)) (answerOr [] (rewrittenOf (x .golden) b)))
   unfolding andNext
   by-obus (refused k) b = refl
   by-obus (accepted os) (refused k) = refl

@@ -19,7 +19,7 @@ use Rattle.pictures.specs.declared.pictures.Measured.{Measured}
 use Rattle.pictures.specs.declared.pictures.Measured.the-variants.{Bytes, RefusedIn}
 use Rattle.pictures.proofs.JudgeLaws.{prepare-judged}
 use Rattle.pictures.proofs.SizeLaws.{most}
-use Rattle.pictures.proofs.SegmentLaws.{behind, behind-start, behind-end, behind-is}
+use Rattle.pictures.proofs.SegmentLaws.{segmentsBehind, segments-start, segments-end, segments-next}
 
 also-same : {A B : Type 0} (o : Outcome A) (f g : A → Outcome B) → ((a : A) → f a ≡ g a) → andAlso o f ≡ andAlso o g
 unfolding andAlso
@@ -38,13 +38,13 @@ module _ (q : Sequence) (rewriting : Bool) (new : List ℕ) where
   unfolding prepareAll andAlso flatMap
   counted-none i sum = refl
 
-  both : (k g : List ℕ) (sum i : ℕ) (a : Answer ℕ) (o : Outcome (List Prepared))
+  segment-counted : (k g : List ℕ) (sum i : ℕ) (a : Answer ℕ) (o : Outcome (List Prepared))
       → andAlso (andAlso (inSegment i (andNext a (λ n. accepted (record { key = k; golden = g; slot = n })))) (λ b. andAlso o (λ bs. made (b ∷ bs)))) (λ bs. made (capped (sum + length (pictureOf bs))))
       ≡ andAlso (inSegment i a) (λ _. andAlso o (λ bs. made (capped (sum + (length k + length g) + length (pictureOf bs)))))
   unfolding andAlso inSegment andNext flatMap
-  both k g sum i (refused n) o = refl
-  both k g sum i (accepted n) (stopped m j) = refl
-  both k g sum i (accepted n) (made bs) =
+  segment-counted k g sum i (refused n) o = refl
+  segment-counted k g sum i (accepted n) (stopped m j) = refl
+  segment-counted k g sum i (accepted n) (made bs) =
       let e : sum + length ((k ++ g) ++ pictureOf bs) ≡ sum + (length k + length g) + length (pictureOf bs) =
       omega (arith, length-append (k ++ g) (pictureOf bs), length-append k g) in
       ap (λ (m : ℕ). made (capped m)) e
@@ -57,7 +57,7 @@ module _ (q : Sequence) (rewriting : Bool) (new : List ℕ) where
       let k = sentBytes rewriting new (x .key) in
       let g = sentBytes rewriting new (x .golden) in
       ap (λ a. andAlso (andAlso (inSegment i a) (λ b. andAlso (prepareAll q (renewing rewriting new) (suc i) xs) (λ bs. made (b ∷ bs)))) (λ bs. made (capped (sum + length (pictureOf bs))))) (prepare-judged q rewriting new x)
-      ∙ both k g sum i (judged q rewriting (x .key) (x .golden)) (prepareAll q (renewing rewriting new) (suc i) xs)
+      ∙ segment-counted k g sum i (judged q rewriting (x .key) (x .golden)) (prepareAll q (renewing rewriting new) (suc i) xs)
 
 -- the units of one segment: refused, or counted
 pub units-refused : (q : Sequence) (rewriting : Bool) (new k g : List ℕ) (i n : ℕ) → judged q rewriting k g ≡ refused n → stopped n (some i) ≡ inSegment i (measuredUnits q rewriting new k g)
@@ -80,21 +80,21 @@ stays i f (accepted n) o m k j w e =
     let z : _≡_ {A = ℕ} 0 1 = cc in
     absurd (omega arith)
 
-goes : (i size : ℕ) (a : Answer ℕ) (o : Outcome ℕ) (m : Measured) (n : ℕ) → m ≡ Bytes n → measuredSays m ≡ inSegment i (answer (λ _. size) a) → (n ≡ size) × (andAlso (inSegment i a) (λ _. o) ≡ o)
+goes : (i unitsSize : ℕ) (a : Answer ℕ) (o : Outcome ℕ) (m : Measured) (n : ℕ) → m ≡ Bytes n → measuredSays m ≡ inSegment i (answer (λ _. unitsSize) a) → (n ≡ unitsSize) × (andAlso (inSegment i a) (λ _. o) ≡ o)
 unfolding andAlso inSegment
-goes i size (refused k) o m n w e =
+goes i unitsSize (refused k) o m n w e =
     let x : made n ≡ stopped k (some i) = sym (ap measuredSays w) ∙ e in
     let z : _≡_ {A = ℕ} 0 1 = cc in
     absurd (omega arith)
-goes i size (accepted k) o m n w e =
-    let x : made n ≡ made size = sym (ap measuredSays w) ∙ e in
+goes i unitsSize (accepted k) o m n w e =
+    let x : made n ≡ made unitsSize = sym (ap measuredSays w) ∙ e in
     (cc, refl)
 
 -- `sum` is the saturated sum of i segments
 pub record Measuring (q : Sequence) (rewriting : Bool) (new s rs : List ℕ) (i sum : ℕ) : Type 0 where
   pub within : i ≤ segmentCount rs
   pub small : sum ≤ most
-  pub whole : measured q rewriting new (allSegments s rs) ≡ countedFrom q rewriting new i (behind s rs i) sum
+  pub whole : measured q rewriting new (allSegments s rs) ≡ countedFrom q rewriting new i (segmentsBehind s rs i) sum
 
 pub measure-start : (q : Sequence) (rewriting : Bool) (new s rs : List ℕ) → Measuring q rewriting new s rs 0 0
 measure-start q rewriting new s rs =
@@ -104,36 +104,36 @@ measure-start q rewriting new s rs =
       small = omega arith;
       whole =
           also-same (prepareAll q (renewing rewriting new) 0 (allSegments s rs)) _ _ e
-          ∙ ap (λ (xs : List Segment). countedFrom q rewriting new 0 xs 0) (sym (behind-start s rs));
+          ∙ ap (λ (xs : List Segment). countedFrom q rewriting new 0 xs 0) (sym (segments-start s rs));
     }
 
 module _ {q : Sequence} {rewriting : Bool} {new s rs : List ℕ} {i sum : ℕ} (r : Measuring q rewriting new s rs i sum) where
   pub measure-end : segmentCount rs ≤ i → made sum ≡ measured q rewriting new (allSegments s rs)
   measure-end h =
       let e : capped (sum + 0) ≡ sum = omega (arith, r .small) in
-      sym (r .whole ∙ ap (λ (xs : List Segment). countedFrom q rewriting new i xs sum) (behind-end s rs i h) ∙ counted-none q rewriting new i sum ∙ ap made e)
+      sym (r .whole ∙ ap (λ (xs : List Segment). countedFrom q rewriting new i xs sum) (segments-end s rs i h) ∙ counted-none q rewriting new i sum ∙ ap made e)
 
   module _ (h : i < segmentCount rs) (m : Measured) (key golden : List ℕ) (is-key : key ≡ keyAt s rs i) (is-golden : golden ≡ goldenAt s rs i)
       (says : measuredSays m ≡ inSegment i (measuredUnits q rewriting new key golden)) where
-    abbrev size : ℕ
-    size = length (sentBytes rewriting new key) + length (sentBytes rewriting new golden)
+    abbrev unitsSize : ℕ
+    unitsSize = length (sentBytes rewriting new key) + length (sentBytes rewriting new golden)
 
-    here : measured q rewriting new (allSegments s rs) ≡ andAlso (inSegment i (judged q rewriting key golden)) (λ _. countedFrom q rewriting new (suc i) (behind s rs (i + 1)) (sum + size))
-    here =
-        r .whole ∙ ap (λ (xs : List Segment). countedFrom q rewriting new i xs sum) (behind-is s rs i h key golden is-key is-golden)
-        ∙ counted-more q rewriting new i (record { key = key; golden = golden; frames = framesAt rs i }) (behind s rs (i + 1)) sum
+    measure-here : measured q rewriting new (allSegments s rs) ≡ andAlso (inSegment i (judged q rewriting key golden)) (λ _. countedFrom q rewriting new (suc i) (segmentsBehind s rs (i + 1)) (sum + unitsSize))
+    measure-here =
+        r .whole ∙ ap (λ (xs : List Segment). countedFrom q rewriting new i xs sum) (segments-next s rs i h key golden is-key is-golden)
+        ∙ counted-more q rewriting new i (record { key = key; golden = golden; frames = framesAt rs i }) (segmentsBehind s rs (i + 1)) sum
 
     pub measure-stop : (k j : ℕ) → m ≡ RefusedIn k j → measuredSays m ≡ measured q rewriting new (allSegments s rs)
-    measure-stop k j w = stays i (λ _. capped size) (judged q rewriting key golden) _ m k j w says ∙ sym here
+    measure-stop k j w = stays i (λ _. capped unitsSize) (judged q rewriting key golden) _ m k j w says ∙ sym measure-here
 
     pub measure-turn : (n sum′ : ℕ) → m ≡ Bytes n → sum′ ≡ min (sum + n) most → Measuring q rewriting new s rs (i + 1) sum′
     measure-turn n sum′ w e =
-        let t = goes i (capped size) (judged q rewriting key golden) (countedFrom q rewriting new (suc i) (behind s rs (i + 1)) (sum + size)) m n w says in
-        let c : (bs : List Prepared) → made (capped (sum + size + length (pictureOf bs))) ≡ made (capped (sum′ + length (pictureOf bs))) = λ bs. ap made (omega (arith, t .0, e, r .small)) in
+        let t = goes i (capped unitsSize) (judged q rewriting key golden) (countedFrom q rewriting new (suc i) (segmentsBehind s rs (i + 1)) (sum + unitsSize)) m n w says in
+        let c : (bs : List Prepared) → made (capped (sum + unitsSize + length (pictureOf bs))) ≡ made (capped (sum′ + length (pictureOf bs))) = λ bs. ap made (omega (arith, t .0, e, r .small)) in
         record {
           within = omega arith;
           small = omega arith;
           whole =
-              here ∙ t .1 ∙ also-same (prepareAll q (renewing rewriting new) (suc i) (behind s rs (i + 1))) _ _ c
-              ∙ ap (λ (j : ℕ). countedFrom q rewriting new j (behind s rs (i + 1)) sum′) (sym (add-one i));
+              measure-here ∙ t .1 ∙ also-same (prepareAll q (renewing rewriting new) (suc i) (segmentsBehind s rs (i + 1))) _ _ c
+              ∙ ap (λ (j : ℕ). countedFrom q rewriting new j (segmentsBehind s rs (i + 1)) sum′) (sym (add-one i));
         }

@@ -12,7 +12,7 @@ use Rattle.blocks.proofs.NumberLaws.{records-length}
 use Rattle.pictures.specs.Segments.{Segment, segmentIn}
 use Rattle.pictures.specs.Prepare.{Prepared, prepare, showUnit}
 use Rattle.pictures.specs.Assemble.{Outcome, stopped, made, andAlso, inSegment, prepareAll, pictureOf, endsFrom, showsOf}
-use Rattle.pictures.specs.Code.{allSegments, judged, renewing, orElse, sentBytes, preparedOf, allPrepared, allSent, slotsOf}
+use Rattle.pictures.specs.Code.{allSegments, judged, renewing, answerOr, sentBytes, preparedOf, allPrepared, allSent, slotsOf}
 use Rattle.pictures.proofs.JudgeLaws.{prepare-judged}
 
 -- ---- all segments prepared
@@ -23,7 +23,7 @@ module _ (q : Sequence) (rewriting : Bool) (new : List ℕ) where
   one-prepared x b e = go (judged q rewriting (x .key) (x .golden)) (sym (prepare-judged q rewriting new x) ∙ e)
     where
       go : (a : Answer ℕ) → andNext a (λ n. accepted (record { key = sentBytes rewriting new (x .key); golden = sentBytes rewriting new (x .golden); slot = n })) ≡ accepted b
-          → b ≡ record { key = sentBytes rewriting new (x .key); golden = sentBytes rewriting new (x .golden); slot = orElse 0 a }
+          → b ≡ record { key = sentBytes rewriting new (x .key); golden = sentBytes rewriting new (x .golden); slot = answerOr 0 a }
       go (refused k) e = let z : _≡_ {A = ℕ} 0 1 = cc in absurd (omega arith)
       go (accepted n) e = cc
 
@@ -63,7 +63,7 @@ module _ (q : Sequence) (rewriting : Bool) (new : List ℕ) where
   pub shows-slots : (xs : List Segment) → showsOf (allPrepared q rewriting new xs) ≡ flatMap showUnit (slotsOf q rewriting xs)
   unfolding flatMap
   shows-slots [] = refl
-  shows-slots (x ∷ xs) = ap (λ (l : List ℕ). showUnit (orElse 0 (judged q rewriting (x .key) (x .golden))) ++ l) (shows-slots xs)
+  shows-slots (x ∷ xs) = ap (λ (l : List ℕ). showUnit (answerOr 0 (judged q rewriting (x .key) (x .golden))) ++ l) (shows-slots xs)
 
   pub length-prepared : (xs : List Segment) → length (allPrepared q rewriting new xs) ≡ length xs
   length-prepared xs = length-map xs (preparedOf q rewriting new)

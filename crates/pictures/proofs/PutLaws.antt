@@ -12,13 +12,13 @@ use Rattle.pictures.specs.Segments.{Segment}
 use Rattle.pictures.specs.Assemble.{pictureOf, endsFrom}
 use Rattle.pictures.specs.Code.{allSegments, sentBytes, allSent}
 use Rattle.pictures.proofs.PrepareLaws.{length-all}
-use Rattle.pictures.proofs.SegmentLaws.{behind, behind-start, behind-end, behind-is}
+use Rattle.pictures.proofs.SegmentLaws.{segmentsBehind, segments-start, segments-end, segments-next}
 
 -- ---- one segment
 
 -- two units, one behind the other
-pub two-units : (d d₁ d₂ k g : List ℕ) (at m : ℕ) → at + length (k ++ g) ≤ length d → m ≡ at + length k → d₁ ≡ pasted d at k → d₂ ≡ pasted d₁ m g → d₂ ≡ pasted d at (k ++ g)
-two-units d d₁ d₂ k g at m h n e f = f ∙ ap₂ (λ (l : List ℕ) (j : ℕ). pasted l j g) e n ∙ pasted-more d at k (omega arith) g
+pub two-units : (d d₁ d₂ keyBytes goldenBytes : List ℕ) (at m : ℕ) → at + length (keyBytes ++ goldenBytes) ≤ length d → m ≡ at + length keyBytes → d₁ ≡ pasted d at keyBytes → d₂ ≡ pasted d₁ m goldenBytes → d₂ ≡ pasted d at (keyBytes ++ goldenBytes)
+two-units d d₁ d₂ keyBytes goldenBytes at m h n e f = f ∙ ap₂ (λ (l : List ℕ) (j : ℕ). pasted l j goldenBytes) e n ∙ pasted-more d at keyBytes (omega arith) goldenBytes
 
 -- their ends
 pub two-ends : (e : List ℕ) (w x y z : ℕ) → w + 2 ≤ length e → x ≡ z → set (set e w x) (w + 1) y ≡ pasted e w (z ∷ y ∷ [])
@@ -31,15 +31,15 @@ two-ends e w x y z h n =
 -- the units of i segments stand there, and their ends
 pub record Putting (rewriting : Bool) (new s rs d₀ e₀ d e : List ℕ) (i at : ℕ) : Type 0 where
   pub within : i ≤ segmentCount rs
-  pub pictures : pasted d at (pictureOf (allSent rewriting new (behind s rs i))) ≡ pasted d₀ 0 (pictureOf (allSent rewriting new (allSegments s rs)))
-  pub ends : pasted e (2 * i) (endsFrom at (allSent rewriting new (behind s rs i))) ≡ pasted e₀ 0 (endsFrom 0 (allSent rewriting new (allSegments s rs)))
-  pub place : at + length (pictureOf (allSent rewriting new (behind s rs i))) ≡ length (pictureOf (allSent rewriting new (allSegments s rs)))
+  pub pictures : pasted d at (pictureOf (allSent rewriting new (segmentsBehind s rs i))) ≡ pasted d₀ 0 (pictureOf (allSent rewriting new (allSegments s rs)))
+  pub ends : pasted e (2 * i) (endsFrom at (allSent rewriting new (segmentsBehind s rs i))) ≡ pasted e₀ 0 (endsFrom 0 (allSent rewriting new (allSegments s rs)))
+  pub place : at + length (pictureOf (allSent rewriting new (segmentsBehind s rs i))) ≡ length (pictureOf (allSent rewriting new (allSegments s rs)))
   pub pictures-len : length d ≡ length d₀
   pub ends-len : length e ≡ length e₀
 
 pub put-start : (rewriting : Bool) (new s rs d e : List ℕ) → Putting rewriting new s rs d e d e 0 0
 put-start rewriting new s rs d e =
-    let b = behind-start s rs in
+    let b = segments-start s rs in
     record {
       within = omega arith;
       pictures = ap (λ (xs : List Segment). pasted d 0 (pictureOf (allSent rewriting new xs))) b;
@@ -53,56 +53,56 @@ module _ {rewriting : Bool} {new s rs d₀ e₀ d e : List ℕ} {i at : ℕ} (r 
   pub put-end : segmentCount rs ≤ i → (d ≡ pasted d₀ 0 (pictureOf (allSent rewriting new (allSegments s rs)))) × (e ≡ pasted e₀ 0 (endsFrom 0 (allSent rewriting new (allSegments s rs))))
   unfolding flatMap endsFrom
   put-end h =
-      let b = sym (behind-end s rs i h) in (
+      let b = sym (segments-end s rs i h) in (
         sym (pasted-nil d at) ∙ ap (λ (xs : List Segment). pasted d at (pictureOf (allSent rewriting new xs))) b ∙ r .pictures,
         sym (pasted-nil e (2 * i)) ∙ ap (λ (xs : List Segment). pasted e (2 * i) (endsFrom at (allSent rewriting new xs))) b ∙ r .ends,
       )
 
   module _ (h : i < segmentCount rs) (key golden : List ℕ) (is-key : key ≡ keyAt s rs i) (is-golden : golden ≡ goldenAt s rs i) where
-    abbrev k : List ℕ
-    k = sentBytes rewriting new key
+    abbrev keyBytes : List ℕ
+    keyBytes = sentBytes rewriting new key
 
-    abbrev g : List ℕ
-    g = sentBytes rewriting new golden
+    abbrev goldenBytes : List ℕ
+    goldenBytes = sentBytes rewriting new golden
 
-    abbrev front : List ℕ
-    front = k ++ g
+    abbrev segmentBytes : List ℕ
+    segmentBytes = keyBytes ++ goldenBytes
 
-    abbrev rest : List ℕ
-    rest = pictureOf (allSent rewriting new (behind s rs (i + 1)))
+    abbrev laterBytes : List ℕ
+    laterBytes = pictureOf (allSent rewriting new (segmentsBehind s rs (i + 1)))
 
-    picture-split : pictureOf (allSent rewriting new (behind s rs i)) ≡ front ++ rest
+    picture-split : pictureOf (allSent rewriting new (segmentsBehind s rs i)) ≡ segmentBytes ++ laterBytes
     unfolding flatMap
-    picture-split = ap (λ (xs : List Segment). pictureOf (allSent rewriting new xs)) (behind-is s rs i h key golden is-key is-golden)
+    picture-split = ap (λ (xs : List Segment). pictureOf (allSent rewriting new xs)) (segments-next s rs i h key golden is-key is-golden)
 
-    ends-split : endsFrom at (allSent rewriting new (behind s rs i)) ≡ (at + length k) ∷ (at + length k + length g) ∷ endsFrom (at + length k + length g) (allSent rewriting new (behind s rs (i + 1)))
+    ends-split : endsFrom at (allSent rewriting new (segmentsBehind s rs i)) ≡ (at + length keyBytes) ∷ (at + length keyBytes + length goldenBytes) ∷ endsFrom (at + length keyBytes + length goldenBytes) (allSent rewriting new (segmentsBehind s rs (i + 1)))
     unfolding endsFrom
-    ends-split = ap (λ (xs : List Segment). endsFrom at (allSent rewriting new xs)) (behind-is s rs i h key golden is-key is-golden)
+    ends-split = ap (λ (xs : List Segment). endsFrom at (allSent rewriting new xs)) (segments-next s rs i h key golden is-key is-golden)
 
     -- the units of this segment are a part of the whole
-    pub put-front : at + length front ≤ length (pictureOf (allSent rewriting new (allSegments s rs)))
-    put-front = omega (arith, r .place, ap length picture-split, length-append front rest)
+    pub put-front : at + length segmentBytes ≤ length (pictureOf (allSent rewriting new (allSegments s rs)))
+    put-front = omega (arith, r .place, ap length picture-split, length-append segmentBytes laterBytes)
 
     pub put-ends : 2 * length (allSegments s rs) ≤ length e₀ → 2 * i + 2 ≤ length e
     put-ends w = omega (arith, r .ends-len, length-all s rs)
 
     pub put-turn : length (pictureOf (allSent rewriting new (allSegments s rs))) ≤ length d₀ → 2 * length (allSegments s rs) ≤ length e₀ → (d′ e′ : List ℕ) (at′ : ℕ)
-        → at′ ≡ at + length k + length g → d′ ≡ pasted d at front → e′ ≡ pasted e (2 * i) ((at + length k) ∷ at′ ∷ []) → Putting rewriting new s rs d₀ e₀ d′ e′ (i + 1) at′
+        → at′ ≡ at + length keyBytes + length goldenBytes → d′ ≡ pasted d at segmentBytes → e′ ≡ pasted e (2 * i) ((at + length keyBytes) ∷ at′ ∷ []) → Putting rewriting new s rs d₀ e₀ d′ e′ (i + 1) at′
     put-turn room ends-room d′ e′ at′ next put ended =
-        let n : at′ ≡ at + length front = omega (arith, next, length-append k g) in
+        let n : at′ ≡ at + length segmentBytes = omega (arith, next, length-append keyBytes goldenBytes) in
         let m : 2 * (i + 1) ≡ 2 * i + 2 = omega arith in
-        let w : at + length front ≤ length d = omega (arith, put-front, r .pictures-len) in
+        let w : at + length segmentBytes ≤ length d = omega (arith, put-front, r .pictures-len) in
         let v : 2 * i + 2 ≤ length e = put-ends ends-room in
-        let more = endsFrom at′ (allSent rewriting new (behind s rs (i + 1))) in
+        let more = endsFrom at′ (allSent rewriting new (segmentsBehind s rs (i + 1))) in
         record {
           within = omega arith;
           pictures =
-              ap₂ (λ (l : List ℕ) (j : ℕ). pasted l j rest) put n ∙ pasted-more d at front (omega arith) rest ∙ ap (pasted d at) (sym picture-split) ∙ r .pictures;
+              ap₂ (λ (l : List ℕ) (j : ℕ). pasted l j laterBytes) put n ∙ pasted-more d at segmentBytes (omega arith) laterBytes ∙ ap (pasted d at) (sym picture-split) ∙ r .pictures;
           ends =
-              ap₂ (λ (l : List ℕ) (j : ℕ). pasted l j more) ended m ∙ pasted-more e (2 * i) ((at + length k) ∷ at′ ∷ []) (omega arith) more
-              ∙ ap (λ (j : ℕ). pasted e (2 * i) ((at + length k) ∷ j ∷ endsFrom j (allSent rewriting new (behind s rs (i + 1))))) next
+              ap₂ (λ (l : List ℕ) (j : ℕ). pasted l j more) ended m ∙ pasted-more e (2 * i) ((at + length keyBytes) ∷ at′ ∷ []) (omega arith) more
+              ∙ ap (λ (j : ℕ). pasted e (2 * i) ((at + length keyBytes) ∷ j ∷ endsFrom j (allSent rewriting new (segmentsBehind s rs (i + 1))))) next
               ∙ ap (pasted e (2 * i)) (sym ends-split) ∙ r .ends;
-          place = omega (arith, n, r .place, ap length picture-split, length-append front rest);
-          pictures-len = ap length put ∙ pasted-length d at front w ∙ r .pictures-len;
-          ends-len = ap length ended ∙ pasted-length e (2 * i) ((at + length k) ∷ at′ ∷ []) v ∙ r .ends-len;
+          place = omega (arith, n, r .place, ap length picture-split, length-append segmentBytes laterBytes);
+          pictures-len = ap length put ∙ pasted-length d at segmentBytes w ∙ r .pictures-len;
+          ends-len = ap length ended ∙ pasted-length e (2 * i) ((at + length keyBytes) ∷ at′ ∷ []) v ∙ r .ends-len;
         }

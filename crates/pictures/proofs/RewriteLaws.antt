@@ -6,7 +6,7 @@ use mathlib.Core.List.{List, [], _∷_, _++_, flatMap, append-nil, append-assoc}
 use mathlib.Core.Option.{Option}
 use mathlib.Core.Bool.{true, false}
 use lib.ListN.{length, drop, length-append}
-use Rattle.bitio.specs.Parse.{Answer, refused, accepted, answer}
+use Rattle.bitio.specs.Parse.{Answer, refused, accepted}
 use Rattle.bitio.specs.Lent.{pasted}
 use Rattle.bitio.proofs.LentLaws.{pasted-nil, pasted-more, pasted-length}
 use Rattle.obu.specs.Obu.{Obu, passes, obus, obuBytes, unitBytes}
@@ -15,6 +15,7 @@ use Rattle.obu.specs.Write.{obu}
 use Rattle.obu.proofs.ObuLaws.{infront}
 use Rattle.obu.proofs.PlaceLaws.{IsPlaced, Walked, walk-start, walk-next, walk-end, walk-stop, part-placed}
 use Rattle.pictures.specs.Prepare.{isSequence, renewed}
+use Rattle.pictures.specs.Assemble.{verdict}
 use Rattle.pictures.specs.Code.{readable, capped}
 use Rattle.pictures.specs.Rewrite.{renewedBytes, rewritten}
 
@@ -88,12 +89,12 @@ module _ {s new : List ℕ} {at n : ℕ} (m : Sizing s new at n) where
 -- ---- writing
 
 -- a unit that is read through has OBUs
-reads-through : (x : Answer (List Obu)) → answer (λ _. tt {0}) x ≡ accepted tt → (os : List Obu) × (x ≡ accepted os)
+reads-through : (x : Answer (List Obu)) → verdict x ≡ accepted tt → (os : List Obu) × (x ≡ accepted os)
 reads-through (refused k) e = let z : _≡_ {A = ℕ} 0 1 = cc in absurd (omega arith)
 reads-through (accepted os) e = (os, refl)
 
 -- OBUs are written from w on; lent memory d is o
-pub record Putting (s new d : List ℕ) (w at to : ℕ) (o : List ℕ) : Type 0 where
+pub record PuttingRewritten (s new d : List ℕ) (w at to : ℕ) (o : List ℕ) : Type 0 where
   pub all : List Obu
   pub reads : obus s ≡ accepted all
   pub room : w + length (renewedBytes new all) ≤ length d
@@ -116,9 +117,9 @@ front-most new {front = front} w e =
     let (rest, q) = walked-front w e in
     omega (arith, ap (λ (os : List Obu). length (renewedBytes new os)) q, ap length (renewed-append new front rest), length-append (renewedBytes new front) (renewedBytes new rest))
 
-pub put-start : (s new d : List ℕ) (w : ℕ) → readable true s ≡ accepted tt → w + length (rewritten new s) ≤ length d → Putting s new d w 0 w d
+pub rewrite-start : (s new d : List ℕ) (w : ℕ) → readable true s ≡ accepted tt → w + length (rewritten new s) ≤ length d → PuttingRewritten s new d w 0 w d
 unfolding rewritten
-put-start s new d w r h =
+rewrite-start s new d w r h =
     let (all, e) = reads-through (obus s) r in
     let n = renewed-nil new in
     record {
@@ -131,20 +132,20 @@ put-start s new d w r h =
       lent = sym (ap (pasted d w) n ∙ pasted-nil d w);
     }
 
-module _ {s new d : List ℕ} {w at to : ℕ} {o : List ℕ} (m : Putting s new d w at to o) where
-  pub put-long : length o ≡ length d
-  put-long = ap length (m .lent) ∙ pasted-length d w (renewedBytes new (m .front)) (omega (arith, m .room, front-most new (m .walked) (m .reads)))
+module _ {s new d : List ℕ} {w at to : ℕ} {o : List ℕ} (m : PuttingRewritten s new d w at to o) where
+  pub rewrite-long : length o ≡ length d
+  rewrite-long = ap length (m .lent) ∙ pasted-length d w (renewedBytes new (m .front)) (omega (arith, m .room, front-most new (m .walked) (m .reads)))
 
-  pub put-stop : (k : ℕ) → obuPlace s at ≡ wrong k → ⊥
-  put-stop k q = let e = walk-stop (m .walked) k q in let r = m .reads in let z : _≡_ {A = ℕ} 0 1 = cc in omega arith
+  pub rewrite-stop : (k : ℕ) → obuPlace s at ≡ wrong k → ⊥
+  rewrite-stop k q = let e = walk-stop (m .walked) k q in let r = m .reads in let z : _≡_ {A = ℕ} 0 1 = cc in omega arith
 
-  pub put-end : obuPlace s at ≡ nothing → (to ≡ w + length (rewritten new s)) × (o ≡ pasted d w (rewritten new s))
+  pub rewrite-end : obuPlace s at ≡ nothing → (to ≡ w + length (rewritten new s)) × (o ≡ pasted d w (rewritten new s))
   unfolding rewritten
-  put-end q = rw (walk-end (m .walked) q) (m .next, m .lent)
+  rewrite-end q = rw (walk-end (m .walked) q) (m .next, m .lent)
 
   module _ {t : ℕ} {e : Option ℕ} {a b : ℕ} (g : IsPlaced s at t e a b) where
-    pub put-passes : passes t ≡ true
-    put-passes = rw (g .type) at (g .placed .passing)
+    pub rewrite-passes : passes t ≡ true
+    rewrite-passes = rw (g .type) at (g .placed .passing)
 
     abbrev bytes : List ℕ
     bytes = obuBytes (renewed new (record { type = t; ext = e; payload = part s a b }))
@@ -152,12 +153,12 @@ module _ {s new d : List ℕ} {w at to : ℕ} {o : List ℕ} (m : Putting s new 
     bytes-is : bytes ≡ obuBytes (renewed new (g .obu))
     bytes-is = ap (λ (x : Obu). obuBytes (renewed new x)) (found-is g)
 
-    pub put-room : to + length bytes ≤ length o
-    put-room =
-        omega (arith, m .room, m .next, put-long, ap length bytes-is, length-next new (m .front) (g .obu), front-most new (walk-next (m .walked) (g .placed)) (m .reads))
+    pub rewrite-room : to + length bytes ≤ length o
+    rewrite-room =
+        omega (arith, m .room, m .next, rewrite-long, ap length bytes-is, length-next new (m .front) (g .obu), front-most new (walk-next (m .walked) (g .placed)) (m .reads))
 
-    pub put-next : {v : ℕ} {n : List ℕ} → (v ≡ to + length bytes) × (n ≡ pasted o to bytes) → Putting s new d w b v n
-    put-next {v} {n} x =
+    pub rewrite-next : {v : ℕ} {n : List ℕ} → (v ≡ to + length bytes) × (n ≡ pasted o to bytes) → PuttingRewritten s new d w b v n
+    rewrite-next {v} {n} x =
         let f = renewedBytes new (m .front) in
         let c = obuBytes (renewed new (g .obu)) in
         let k = front-most new (m .walked) (m .reads) in

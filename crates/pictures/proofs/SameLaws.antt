@@ -16,9 +16,9 @@ use Rattle.obu.specs.Unit.{count, has, lastPayload, ofUnit}
 use Rattle.obu.proofs.UnitLaws.{has-count}
 use Rattle.blocks.specs.Numbers.{segmentCount, keyAt, goldenAt}
 use Rattle.pictures.specs.Prepare.{isSequence}
-use Rattle.pictures.specs.Assemble.{Outcome, stopped, made, andAlso, inSegment, sameBytes, sameHeader, sameHeaders}
+use Rattle.pictures.specs.Assemble.{Outcome, stopped, made, andAlso, verdict, inSegment, sameBytes, sameHeader, sameHeaders}
 use Rattle.pictures.specs.Code.{laterSegments}
-use Rattle.pictures.proofs.SegmentLaws.{behind, behind-end, behind-is}
+use Rattle.pictures.proofs.SegmentLaws.{segmentsBehind, segments-end, segments-next}
 use Rattle.pictures.proofs.RangeLaws.{denied, granted}
 
 -- ---- bytes compared
@@ -52,19 +52,19 @@ module _ {a b : List ℕ} {i : ℕ} (s : Alike a b i) where
       sym (s .same ∙ ap₂ sameBytes x y)
 
   module _ (h : i < length a) where
-    here : sameBytes a b ≡ (eqb (getD a i 0) (getD b i 0) && sameBytes (drop (suc i) a) (drop (suc i) b))
+    same-here : sameBytes a b ≡ (eqb (getD a i 0) (getD b i 0) && sameBytes (drop (suc i) a) (drop (suc i) b))
     unfolding sameBytes
-    here = s .same ∙ ap₂ sameBytes (drop-cons a i 0 h) (drop-cons b i 0 (omega (arith, s .long)))
+    same-here = s .same ∙ ap₂ sameBytes (drop-cons a i 0 h) (drop-cons b i 0 (omega (arith, s .long)))
 
     pub alike-not : (getD a i 0 ≡ getD b i 0 → ⊥) → false ≡ sameBytes a b
-    alike-not e = sym (here ∙ rw (ne-eqb (getD a i 0) (getD b i 0) e))
+    alike-not e = sym (same-here ∙ rw (ne-eqb (getD a i 0) (getD b i 0) e))
 
     pub alike-turn : getD a i 0 ≡ getD b i 0 → Alike a b (i + 1)
     alike-turn e =
         record {
           within = omega arith;
           long = s .long;
-          same = here ∙ rw (eq-eqb (getD a i 0) (getD b i 0) e, add-one i);
+          same = same-here ∙ rw (eq-eqb (getD a i 0) (getD b i 0) e, add-one i);
         }
 
 -- ---- the last sequence payload of a key
@@ -76,7 +76,7 @@ tally : (t : Bool) (n : ℕ) → pick t (accepted n) (refused 27) ≡ answer (λ
 tally true n = refl
 tally false n = refl
 
-told : (t : Bool) (n : ℕ) → ruled t ≡ answer (λ _. tt) (answer (λ _. n) (ruled t))
+told : (t : Bool) (n : ℕ) → ruled t ≡ verdict (answer (λ _. n) (ruled t))
 told true n = refl
 told false n = refl
 
@@ -88,20 +88,20 @@ module _ (s : List ℕ) where
   abbrev tallied : Answer (List Obu) → Answer ℕ
   tallied x = andNext x (λ os. answer (λ _. count isSequence os) (sameHeader s os))
 
-  pub compared-is : (x : Answer (List Obu)) → compared x ≡ answer (λ _. tt) (tallied x)
+  pub compared-is : (x : Answer (List Obu)) → compared x ≡ verdict (tallied x)
   unfolding andNext
   compared-is (refused k) = refl
   compared-is (accepted os) = told (has isSequence os && sameBytes (lastPayload isSequence os) s) (count isSequence os)
 
-  abbrev counted : Answer (List Obu) → Answer ℕ
-  counted x = answer (count isSequence) x
+  abbrev sequencesIn : Answer (List Obu) → Answer ℕ
+  sequencesIn x = answer (count isSequence) x
 
-  pub last-refused : (x : Answer (List Obu)) (k : ℕ) → refused k ≡ counted x → refused k ≡ tallied x
+  pub last-refused : (x : Answer (List Obu)) (k : ℕ) → refused k ≡ sequencesIn x → refused k ≡ tallied x
   unfolding andNext
   last-refused (refused j) k e = let i : k ≡ j = cc in ap (λ y. refused y) i
   last-refused (accepted os) k e = let z : _≡_ {A = ℕ} 0 1 = cc in absurd (omega arith)
 
-  pub last-missing : (x : Answer (List Obu)) (n : ℕ) → accepted n ≡ counted x → n ≡ 0 → refused 27 ≡ tallied x
+  pub last-missing : (x : Answer (List Obu)) (n : ℕ) → accepted n ≡ sequencesIn x → n ≡ 0 → refused 27 ≡ tallied x
   unfolding andNext
   last-missing (refused j) n e h = let z : _≡_ {A = ℕ} 0 1 = cc in absurd (omega arith)
   last-missing (accepted os) n e h =
@@ -109,7 +109,7 @@ module _ (s : List ℕ) where
       let z : has isSequence os ≡ false = sym (has-count isSequence os) ∙ ap (leb 1) (i ∙ h) in
       rw z
 
-  last-there : (x : Answer (List Obu)) (n : ℕ) → accepted n ≡ counted x → (n ≡ 0 → ⊥)
+  last-there : (x : Answer (List Obu)) (n : ℕ) → accepted n ≡ sequencesIn x → (n ≡ 0 → ⊥)
       → (b : Bool) (p : List ℕ) → b ≡ sameBytes p s → p ≡ ofUnit [] (lastPayload isSequence) x → pick b (accepted n) (refused 27) ≡ tallied x
   unfolding andNext
   last-there (refused j) n e h b p g i = let z : _≡_ {A = ℕ} 0 1 = cc in absurd (omega arith)
@@ -119,7 +119,7 @@ module _ (s : List ℕ) where
       let y : b ≡ sameBytes (lastPayload isSequence os) s = g ∙ ap (λ l. sameBytes l s) i in
       rw (z, ← y, w) (tally b n)
 
-  module _ (x : Answer (List Obu)) (n : ℕ) (e : accepted n ≡ counted x) (h : n ≡ 0 → ⊥) (b : Bool) (p : List ℕ) (g : b ≡ sameBytes p s) (i : p ≡ ofUnit [] (lastPayload isSequence) x) where
+  module _ (x : Answer (List Obu)) (n : ℕ) (e : accepted n ≡ sequencesIn x) (h : n ≡ 0 → ⊥) (b : Bool) (p : List ℕ) (g : b ≡ sameBytes p s) (i : p ≡ ofUnit [] (lastPayload isSequence) x) where
     pub last-other : not b ≡ true → refused 27 ≡ tallied x
     last-other t = ap (λ (y : Bool). pick y (accepted n) (refused 27)) (sym (denied b t)) ∙ last-there x n e h b p g i
 
@@ -128,30 +128,30 @@ module _ (s : List ℕ) where
 
 -- ---- later keys, one after the other
 
-abbrev all : List ℕ → List ℕ → List ℕ → Outcome Unit
-all f s rs = sameHeaders f 1 (laterSegments s rs)
+abbrev allSame : List ℕ → List ℕ → List ℕ → Outcome Unit
+allSame f s rs = sameHeaders f 1 (laterSegments s rs)
 
 -- the keys before i, but for the first, have the header f
 pub record Agree (f s rs : List ℕ) (i : ℕ) : Type 0 where
-  pub same : all f s rs ≡ sameHeaders f i (behind s rs i)
+  pub same : allSame f s rs ≡ sameHeaders f i (segmentsBehind s rs i)
 
 pub agree-start : (f s rs : List ℕ) → Agree f s rs 1
 agree-start f s rs = record { same = refl }
 
 module _ {f s rs : List ℕ} {i : ℕ} (a : Agree f s rs i) where
-  pub agree-end : segmentCount rs ≤ i → made tt ≡ all f s rs
+  pub agree-end : segmentCount rs ≤ i → made tt ≡ allSame f s rs
   unfolding sameHeaders
-  agree-end h = sym (a .same ∙ ap (sameHeaders f i) (behind-end s rs i h))
+  agree-end h = sym (a .same ∙ ap (sameHeaders f i) (segments-end s rs i h))
 
   module _ (h : i < segmentCount rs) (u : List ℕ) (e : u ≡ keyAt s rs i) where
-    next-key : all f s rs ≡ andAlso (inSegment i (compared f (obus u))) (λ _. sameHeaders f (suc i) (behind s rs (i + 1)))
+    next-key : allSame f s rs ≡ andAlso (inSegment i (compared f (obus u))) (λ _. sameHeaders f (suc i) (segmentsBehind s rs (i + 1)))
     unfolding sameHeaders
-    next-key = a .same ∙ ap (sameHeaders f i) (behind-is s rs i h u (goldenAt s rs i) e refl)
+    next-key = a .same ∙ ap (sameHeaders f i) (segments-next s rs i h u (goldenAt s rs i) e refl)
 
-    pub agree-refused : (k : ℕ) → compared f (obus u) ≡ refused k → stopped k (some i) ≡ all f s rs
+    pub agree-refused : (k : ℕ) → compared f (obus u) ≡ refused k → stopped k (some i) ≡ allSame f s rs
     unfolding andAlso inSegment
     agree-refused k g = sym (next-key ∙ rw g)
 
     pub agree-turn : compared f (obus u) ≡ accepted tt → Agree f s rs (i + 1)
     unfolding andAlso inSegment
-    agree-turn g = record { same = next-key ∙ rw g (ap (λ (n : ℕ). sameHeaders f n (behind s rs (i + 1))) (sym (add-one i))) }
+    agree-turn g = record { same = next-key ∙ rw g (ap (λ (n : ℕ). sameHeaders f n (segmentsBehind s rs (i + 1))) (sym (add-one i))) }

@@ -8,19 +8,19 @@ use Rattle.pictures.specs.Segments.{Segment, segmentIn}
 use Rattle.pictures.specs.Code.{allSegments}
 
 -- the segments from i on
-abbrev pub behind : List ℕ → List ℕ → ℕ → List Segment
-behind s rs i = map (segmentIn s) (recordsBehind rs i)
+abbrev pub segmentsBehind : List ℕ → List ℕ → ℕ → List Segment
+segmentsBehind s rs i = map (segmentIn s) (recordsBehind rs i)
 
 module _ (s rs : List ℕ) where
-  pub behind-start : behind s rs 0 ≡ allSegments s rs
-  behind-start = ap (map (segmentIn s)) (N.behind-start rs)
+  pub segments-start : segmentsBehind s rs 0 ≡ allSegments s rs
+  segments-start = ap (map (segmentIn s)) (N.behind-start rs)
 
-  pub behind-end : (i : ℕ) → segmentCount rs ≤ i → behind s rs i ≡ []
-  behind-end i h = ap (map (segmentIn s)) (N.behind-end rs i h)
+  pub segments-end : (i : ℕ) → segmentCount rs ≤ i → segmentsBehind s rs i ≡ []
+  segments-end i h = ap (map (segmentIn s)) (N.behind-end rs i h)
 
   -- segment i, by its units, and those behind it
-  pub behind-is : (i : ℕ) → i < segmentCount rs → (key golden : List ℕ) → key ≡ keyAt s rs i → golden ≡ goldenAt s rs i
-      → behind s rs i ≡ record { key = key; golden = golden; frames = framesAt rs i } ∷ behind s rs (i + 1)
-  behind-is i h key golden k g =
+  pub segments-next : (i : ℕ) → i < segmentCount rs → (key golden : List ℕ) → key ≡ keyAt s rs i → golden ≡ goldenAt s rs i
+      → segmentsBehind s rs i ≡ record { key = key; golden = golden; frames = framesAt rs i } ∷ segmentsBehind s rs (i + 1)
+  segments-next i h key golden k g =
       ap (map (segmentIn s)) (N.behind-more rs i h)
-      ∙ ap₂ (λ (u v : List ℕ). record { key = u; golden = v; frames = framesAt rs i } ∷ behind s rs (i + 1)) (sym k) (sym g)
+      ∙ ap₂ (λ (u v : List ℕ). record { key = u; golden = v; frames = framesAt rs i } ∷ segmentsBehind s rs (i + 1)) (sym k) (sym g)

@@ -11,14 +11,15 @@ use Rattle.obu.specs.Obu.{Obu, obus}
 use Rattle.obu.specs.Unit.{count, has, ofUnit}
 use Rattle.obu.proofs.UnitLaws.{has-count}
 use Rattle.pictures.specs.Prepare.{isSequence, sent}
-use Rattle.pictures.specs.Code.{readable, orElse, sentBytes}
+use Rattle.pictures.specs.Assemble.{verdict}
+use Rattle.pictures.specs.Code.{readable, answerOr, sentBytes}
 use Rattle.pictures.specs.Rewrite.{renewedBytes, rewritten}
 use Rattle.pictures.proofs.RangeLaws.{denied, granted}
 
 module _ (new u : List ℕ) where
   -- what goes out of the OBUs of u
   abbrev outgoing : Answer (List Obu) → List ℕ
-  outgoing x = orElse [] (andNext x (λ os. accepted (pick (has isSequence os) (renewedBytes new os) u)))
+  outgoing x = answerOr [] (andNext x (λ os. accepted (pick (has isSequence os) (renewedBytes new os) u)))
 
   no-sequence : (x : Answer (List Obu)) → answer (count isSequence) x ≡ accepted 0 → outgoing x ≡ u
   unfolding andNext
@@ -28,7 +29,7 @@ module _ (new u : List ℕ) where
       let h : has isSequence os ≡ false = sym (has-count isSequence os) ∙ ap (leb 1) c in
       rw h
 
-  some-sequence : (n : ℕ) → 1 ≤ n → (x : Answer (List Obu)) → answer (count isSequence) x ≡ accepted n → (outgoing x ≡ ofUnit [] (renewedBytes new) x) × (answer (λ _. tt {0}) x ≡ accepted tt)
+  some-sequence : (n : ℕ) → 1 ≤ n → (x : Answer (List Obu)) → answer (count isSequence) x ≡ accepted n → (outgoing x ≡ ofUnit [] (renewedBytes new) x) × (verdict x ≡ accepted tt)
   unfolding andNext
   some-sequence n l (refused k) e = let z : _≡_ {A = ℕ} 0 1 = cc in absurd (omega arith)
   some-sequence n l (accepted os) e =

@@ -21,9 +21,9 @@ use Rattle.blocks.specs.Numbers.{segmentCount, keyAt, goldenAt, framesAt}
 use Rattle.pictures.specs.Segments.{Segment}
 use Rattle.frame.specs.UnitFrame.{framePayload, unitFrame}
 use Rattle.pictures.specs.Prepare.{keyOk, goldenFlags, lowest, showUnit}
-use Rattle.pictures.specs.Code.{allSegments, readable, judged, orElse, slotsOf}
+use Rattle.pictures.specs.Code.{allSegments, readable, judged, answerOr, slotsOf}
 use Rattle.pictures.proofs.PrepareLaws.{length-all}
-use Rattle.pictures.proofs.SegmentLaws.{behind, behind-start, behind-end, behind-is}
+use Rattle.pictures.proofs.SegmentLaws.{segmentsBehind, segments-start, segments-end, segments-next}
 
 -- ---- a slot that is named is below 8
 
@@ -83,10 +83,10 @@ judged-accepts q rewriting k g =
     next-accepts HeaderIs (λ n. n < 8) (unitFrame false q g) _ (frame-accepts q g) (λ z i.
     next-accepts Flags (λ n. n < 8) (goldenFlags z) _ (flags-accepts z i) (λ flags b. lowest-lt 8 flags (b .0) (b .1)))))))
 
-pub slot-small : (q : Sequence) (rewriting : Bool) (k g : List ℕ) → orElse 0 (judged q rewriting k g) < 8
+pub slot-small : (q : Sequence) (rewriting : Bool) (k g : List ℕ) → answerOr 0 (judged q rewriting k g) < 8
 slot-small q rewriting k g = go (judged q rewriting k g) (judged-accepts q rewriting k g)
   where
-    go : (a : Answer ℕ) → Accepts (λ n. n < 8) a → orElse 0 a < 8
+    go : (a : Answer ℕ) → Accepts (λ n. n < 8) a → answerOr 0 a < 8
     go (refused n) h = omega arith
     go (accepted n) h = h
 
@@ -111,40 +111,40 @@ unfolding flatMap
 shows-none q rewriting = refl
 
 shows-more : (q : Sequence) (rewriting : Bool) (x : Segment) (xs : List Segment)
-    → showsFrom q rewriting (x ∷ xs) ≡ showUnit (orElse 0 (judged q rewriting (x .key) (x .golden))) ++ showsFrom q rewriting xs
+    → showsFrom q rewriting (x ∷ xs) ≡ showUnit (answerOr 0 (judged q rewriting (x .key) (x .golden))) ++ showsFrom q rewriting xs
 unfolding flatMap
 shows-more q rewriting x xs = refl
 
 pub record Showing (q : Sequence) (rewriting : Bool) (s rs d₀ d : List ℕ) (i : ℕ) : Type 0 where
   pub within : i ≤ segmentCount rs
-  pub shows : pasted d (5 * i) (showsFrom q rewriting (behind s rs i)) ≡ pasted d₀ 0 (showsFrom q rewriting (allSegments s rs))
+  pub shows : pasted d (5 * i) (showsFrom q rewriting (segmentsBehind s rs i)) ≡ pasted d₀ 0 (showsFrom q rewriting (allSegments s rs))
   pub len : length d ≡ length d₀
 
 pub show-start : (q : Sequence) (rewriting : Bool) (s rs d : List ℕ) → Showing q rewriting s rs d d 0
 show-start q rewriting s rs d =
-    record { within = omega arith; shows = ap (λ (xs : List Segment). pasted d 0 (showsFrom q rewriting xs)) (behind-start s rs); len = refl }
+    record { within = omega arith; shows = ap (λ (xs : List Segment). pasted d 0 (showsFrom q rewriting xs)) (segments-start s rs); len = refl }
 
 module _ {q : Sequence} {rewriting : Bool} {s rs d₀ d : List ℕ} {i : ℕ} (r : Showing q rewriting s rs d₀ d i) where
   pub show-end : segmentCount rs ≤ i → d ≡ pasted d₀ 0 (showsFrom q rewriting (allSegments s rs))
   show-end h =
-      sym (pasted-nil d (5 * i)) ∙ ap (pasted d (5 * i)) (sym (ap (showsFrom q rewriting) (behind-end s rs i h) ∙ shows-none q rewriting)) ∙ r .shows
+      sym (pasted-nil d (5 * i)) ∙ ap (pasted d (5 * i)) (sym (ap (showsFrom q rewriting) (segments-end s rs i h) ∙ shows-none q rewriting)) ∙ r .shows
 
   module _ (h : i < segmentCount rs) (room : 5 * length (allSegments s rs) ≤ length d₀) where
     pub show-room : 5 * i + 5 ≤ length d
     show-room = omega (arith, r .len, length-all s rs)
 
     pub show-turn : (d′ key golden : List ℕ) (slot : ℕ) → key ≡ keyAt s rs i → golden ≡ goldenAt s rs i
-        → slot ≡ orElse 0 (judged q rewriting key golden) → d′ ≡ pasted d (5 * i) (showUnit slot) → Showing q rewriting s rs d₀ d′ (i + 1)
+        → slot ≡ answerOr 0 (judged q rewriting key golden) → d′ ≡ pasted d (5 * i) (showUnit slot) → Showing q rewriting s rs d₀ d′ (i + 1)
     show-turn d′ key golden slot is-key is-golden is put =
         let n : 5 * (i + 1) ≡ 5 * i + 5 = omega arith in
-        let rest = showsFrom q rewriting (behind s rs (i + 1)) in
+        let rest = showsFrom q rewriting (segmentsBehind s rs (i + 1)) in
         record {
           within = omega arith;
           shows =
               ap₂ (λ (l : List ℕ) (m : ℕ). pasted l m rest) put n
               ∙ pasted-more d (5 * i) (showUnit slot) (omega (arith, show-room)) rest
               ∙ ap (λ (m : ℕ). pasted d (5 * i) (showUnit m ++ rest)) is
-              ∙ ap (pasted d (5 * i)) (sym (ap (showsFrom q rewriting) (behind-is s rs i h key golden is-key is-golden) ∙ shows-more q rewriting (record { key = key; golden = golden; frames = framesAt rs i }) (behind s rs (i + 1))))
+              ∙ ap (pasted d (5 * i)) (sym (ap (showsFrom q rewriting) (segments-next s rs i h key golden is-key is-golden) ∙ shows-more q rewriting (record { key = key; golden = golden; frames = framesAt rs i }) (segmentsBehind s rs (i + 1))))
               ∙ r .shows;
           len = ap length put ∙ pasted-length d (5 * i) (showUnit slot) show-room ∙ r .len;
         }

@@ -5,7 +5,7 @@ use mathlib.Core.Bool.{Bool, true, false, cond as pick, _&&_}
 use mathlib.Core.Option.{Option, none, some}
 use lib.ListN.{length, getD}
 use lib.Dec.{eqb, ltb, leb}
-use Rattle.bitio.specs.Parse.{Answer, refused, accepted, andNext}
+use Rattle.bitio.specs.Parse.{Answer, refused, accepted, answer, andNext}
 use Rattle.bitio.specs.Limits.{limit}
 use Rattle.obu.specs.Obu.{Obu, obus, obuBytes}
 use Rattle.obu.specs.Unit.{has, lastPayload}
@@ -27,12 +27,16 @@ unfoldable pub andAlso : {A B : Type 0} → Outcome A → (A → Outcome B) → 
 andAlso (stopped n i) f = stopped n i
 andAlso (made a) f = f a
 
+-- an answer without what it holds
+abbrev pub verdict : {A : Type 0} → Answer A → Answer Unit
+verdict a = answer (λ _. tt) a
+
 -- 01: assembly adds the segment, from 0
 unfoldable pub inSegment : {A : Type 0} → ℕ → Answer A → Outcome A
 inSegment i (refused n) = stopped n (some i)
 inSegment i (accepted a) = made a
 
--- except with 21, 22, 23, 25 and 34 to 36
+-- but not where the whole list is to blame: 21 to 23, 25, 34 to 36
 unfoldable pub overall : {A : Type 0} → Answer A → Outcome A
 overall (refused n) = stopped n none
 overall (accepted a) = made a
@@ -44,7 +48,7 @@ unfoldable pub noneEmpty : ℕ → List ℕ → Outcome Unit
 noneEmpty i [] = made tt
 noneEmpty i (n ∷ ns) = pick (eqb n 0) (stopped 24 (some i)) (noneEmpty (suc i) ns)
 
--- 22 gop_size under 2; 23 total under 2; 24 zero frames; 25 total over 5,000,000.
+-- 22: gop_size is 0 or 1; 23: fewer than two frames in all; 24: a segment has none; 25: over 5,000,000 in all.
 -- The total has no bound here: a sum that saturates at a u64 is judged alike.
 unfoldable pub sizes : ℕ → List ℕ → Outcome Unit
 sizes gop ns =
@@ -61,7 +65,7 @@ sameBytes [] (b ∷ t) = false
 sameBytes (a ∷ s) [] = false
 sameBytes (a ∷ s) (b ∷ t) = eqb a b && sameBytes s t
 
--- 27: the last sequence payload is missing or differs from s
+-- 27: no sequence header, or the last one's payload is not s
 abbrev pub sameHeader : List ℕ → List Obu → Answer Unit
 sameHeader s os = pick (has isSequence os && sameBytes (lastPayload isSequence os) s) (accepted tt) (refused 27)
 
@@ -175,14 +179,14 @@ assemble room set s rs =
 
 -- ---- the unit that a list entry names
 
--- picture unit i, from where the one before it ends, the first from 0
-abbrev pub pictureUnit : List ℕ → List ℕ → ℕ → List ℕ
-pictureUnit picture ends i = part picture (getD (0 ∷ ends) i 0) (getD ends i 0)
+-- unit i of those that lie one behind the other in s, es being where each ends
+abbrev pub unitIn : List ℕ → List ℕ → ℕ → List ℕ
+unitIn s es i = part s (getD (0 ∷ es) i 0) (getD es i 0)
 
--- 01: a listed unit is a part of the picture bytes or of the show bytes; a number that names none has no bytes
+-- the bytes that an entry n of a list stands for; of a number that names no unit, none
 unfoldable pub named : List ℕ → List ℕ → List ℕ → ℕ → List ℕ
 named picture ends shows n =
-    pick (ltb (n % 4) 2) (pictureUnit picture ends (2 * (n / 4) + n % 4)) (
+    pick (ltb (n % 4) 2) (unitIn picture ends (2 * (n / 4) + n % 4)) (
     pick (eqb (n % 4) 2) (part shows (5 * (n / 4)) (5 * (n / 4) + 5)) [])
 
 -- the list's units, in order

@@ -12,7 +12,7 @@ use Rattle.header.specs.Sequence.{Sequence}
 use Rattle.blocks.specs.Numbers.{records, recordsBehind}
 use Rattle.pictures.specs.Segments.{Segment, segmentIn}
 use Rattle.pictures.specs.Prepare.{isSequence, firstOf, sent, asked, Prepared}
-use Rattle.pictures.specs.Assemble.{Outcome, made, andAlso, sameHeader, prepareAll, pictureOf}
+use Rattle.pictures.specs.Assemble.{Outcome, made, andAlso, verdict, sameHeader, prepareAll, pictureOf}
 
 -- ---- segments
 
@@ -37,7 +37,7 @@ countSame first u = andNext (obus u) (λ os. answer (λ _. count isSequence os) 
 
 -- 1 to 5, where units are read to be rewritten
 abbrev pub readable : Bool → List ℕ → Answer Unit
-readable rewriting u = pick rewriting (answer (λ _. tt) (obus u)) (accepted tt)
+readable rewriting u = pick rewriting (verdict (obus u)) (accepted tt)
 
 -- how many OBUs such a unit has; any other is not looked at
 abbrev pub countRead : Bool → List ℕ → Answer ℕ
@@ -57,13 +57,13 @@ abbrev pub renewing : Bool → List ℕ → Option (List ℕ)
 renewing rewriting new = pick rewriting (some new) none
 
 -- what is in an answer, or d
-abbrev pub orElse : {A : Type 0} → A → Answer A → A
-orElse d (refused k) = d
-orElse d (accepted a) = a
+abbrev pub answerOr : {A : Type 0} → A → Answer A → A
+answerOr d (refused k) = d
+answerOr d (accepted a) = a
 
 -- a unit's bytes as they go out; one that is refused has none
 abbrev pub sentBytes : Bool → List ℕ → List ℕ → List ℕ
-sentBytes rewriting new u = orElse [] (sent (renewing rewriting new) u)
+sentBytes rewriting new u = answerOr [] (sent (renewing rewriting new) u)
 
 -- a segment's units as they go out, and its slot; what is refused has none
 abbrev pub preparedOf : Sequence → Bool → List ℕ → Segment → Prepared
@@ -71,7 +71,7 @@ preparedOf q rewriting new x =
     record {
       key = sentBytes rewriting new (x .key);
       golden = sentBytes rewriting new (x .golden);
-      slot = orElse 0 (judged q rewriting (x .key) (x .golden));
+      slot = answerOr 0 (judged q rewriting (x .key) (x .golden));
     }
 
 abbrev pub allPrepared : Sequence → Bool → List ℕ → List Segment → List Prepared
@@ -86,7 +86,7 @@ allSent rewriting new xs = map (sentOf rewriting new) xs
 
 -- the slots that the show units of the segments name; 0 for a segment that is refused
 abbrev pub slotsOf : Sequence → Bool → List Segment → List ℕ
-slotsOf q rewriting xs = map (λ x. orElse 0 (judged q rewriting (x .key) (x .golden))) xs
+slotsOf q rewriting xs = map (λ x. answerOr 0 (judged q rewriting (x .key) (x .golden))) xs
 
 -- a count as far as a usize counts
 abbrev pub capped : ℕ → ℕ

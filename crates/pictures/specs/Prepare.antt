@@ -57,7 +57,7 @@ abbrev pub keyOk : FrameHeaderInfo → Answer Unit
 keyOk (Existing slot) = refused 29
 keyOk (Frame f) = pick (eqb (f .«frame_type») keyFrame && f .«show_frame») (accepted tt) (refused 29)
 
--- the refresh flags of a golden: 30 show-existing, 31 not shown, 32 key, 33 refreshes nothing
+-- the refresh flags of a golden. Refused: one that shows a slot again 30, that is hidden 31, that is a key 32, that keeps nothing 33
 abbrev pub goldenFlags : FrameHeaderInfo → Answer ℕ
 goldenFlags (Existing slot) = refused 30
 goldenFlags (Frame f) =

@@ -1,6 +1,5 @@
 -- 01's numbers and values for the answers of the parts of assembly.
 use Prim.Native.Nat.{ℕ}
-use mathlib.Core.List.{List}
 use mathlib.Core.Option.{some}
 use Rattle.bitio.specs.Parse.{Answer, refused, accepted}
 use Rattle.pictures.specs.Assemble.{Outcome, stopped, made}

@@ -34,7 +34,7 @@ fn is_shown_key(info: FrameHeaderInfo) -> bool
     }
 }
 
-// The slot that a golden's header refreshes: 30 show-existing, 31 not shown, 32 key, 33 refreshes nothing.
+// The slot that a golden's header refreshes, or 30 to 33.
 fn refreshed_slot(info: FrameHeaderInfo) -> GoldenSlot
     ensures { λ r. ⌜ slotSays r ≡ andNext (goldenFlags info) (λ flags. accepted (slotOf flags)) ⌝ }
 {

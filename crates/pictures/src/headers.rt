@@ -1,6 +1,5 @@
 // The sequence headers of later keys: the last of each is the list's.
 ghost use mathlib.Core.Path.{_≡_};
-ghost use Rattle.bitio.specs.Parse.{answer};
 ghost use Rattle.obu.specs.Unit.{countedSays};
 ghost use Rattle.pictures.specs.Assemble.{sameBytes, sameHeaders};
 ghost use Rattle.pictures.specs.Sizes.{checkedSays};

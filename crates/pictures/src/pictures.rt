@@ -8,7 +8,7 @@ ghost use Rattle.bitio.specs.Lent.{pasted};
 ghost use Rattle.header.specs.Sequence.{sequenceOf};
 ghost use Rattle.pictures.specs.Prepare.{showUnit};
 ghost use Rattle.pictures.specs.Assemble.{inSegment, pictureOf, endsFrom};
-ghost use Rattle.pictures.specs.Code.{allSegments, judged, orElse, sentBytes, allSent, slotsOf, measured, measuredUnits};
+ghost use Rattle.pictures.specs.Code.{allSegments, judged, answerOr, sentBytes, allSent, slotsOf, measured, measuredUnits};
 ghost use Rattle.pictures.specs.Says.{measuredSays};
 use crate::frames::GoldenSlot;
 use crate::frames::golden_slot;
@@ -135,7 +135,7 @@ pub fn slot_or_zero(
     points: [OperatingPoint; 32],
     rewriting: bool,
 ) -> u64
-    ensures { λ r. ⌜ r ≡ orElse 0 (judged (sequenceOf header points) rewriting (now (key .entry)) (now (golden .entry))) ⌝ }
+    ensures { λ r. ⌜ r ≡ answerOr 0 (judged (sequenceOf header points) rewriting (now (key .entry)) (now (golden .entry))) ⌝ }
 {
     match golden_slot(key, golden, header, points, rewriting) {
         GoldenSlot::Refused(_) => 0,

@@ -3,7 +3,7 @@ ghost use mathlib.Core.Path.{_≡_};
 ghost use Prim.Native.Nat.{_+_, min};
 ghost use Rattle.blocks.specs.Blocks.{total};
 ghost use Rattle.blocks.specs.Numbers.{framesIn};
-ghost use Rattle.pictures.specs.Sizes.{checkedSays, sized, filledFirst, ranged};
+ghost use Rattle.pictures.specs.Sizes.{checkedSays, sizedAll, filledFirst, ranged};
 use bitio::numbers::plus;
 use blocks::numbers::frames_of;
 use blocks::numbers::is_whole;
@@ -47,9 +47,9 @@ fn first_empty(segments: &[u64]) -> usize
     i
 }
 
-// 21 no segments; 22 gop_size under 2; 23 total under 2; 24 a segment without frames; 25 total over 5,000,000.
+// Refusals 21 to 25, in this order.
 pub fn check_sizes(gop: u64, segments: &[u64]) -> Checked
-    ensures { λ r. ⌜ checkedSays r ≡ sized gop (framesIn (now (segments .entry))) ⌝ }
+    ensures { λ r. ⌜ checkedSays r ≡ sizedAll gop (framesIn (now (segments .entry))) ⌝ }
 {
     let count = segment_count(segments);
     if count == 0 {

@@ -24,7 +24,8 @@ use Rattle.player.specs.Code.{shows, keptBehind, stateSays, playedOn, playedBy}
 use Rattle.player.specs.declared.step.State.{State as CodeState}
 use Rattle.player.specs.declared.step.Played.{Played as CodePlayed}
 use Rattle.playback.specs.Lent.{Fills}
-use Rattle.playback.specs.Shown.{positionNumber, shownNumber, codeNumber, shownFrom, shownBy, fromCue, playFrom, unitIn, CanPlay}
+use Rattle.pictures.specs.Assemble.{unitIn}
+use Rattle.playback.specs.Shown.{positionNumber, shownNumber, codeNumber, shownFrom, shownBy, fromCue, playFrom, CanPlay}
 
 -- the code's number is the answer's
 pub number-says : (st : CodeState) (p : ℕ) (u : List ℕ) → codeNumber (playedBy st p u .answer) ≡ shownNumber (play (stateSays st) p u)

@@ -4,10 +4,9 @@ use mathlib.Core.Path.{_≡_}
 use mathlib.Core.List.{List, [], _∷_}
 use mathlib.Core.Bool.{cond as pick, _&&_}
 use mathlib.Core.Option.{Option, none, some}
-use lib.ListN.{length, getD, drop}
+use lib.ListN.{length, drop}
 use lib.Dec.{leb}
 use Rattle.bitio.specs.Parse.{Answer, refused, accepted, andNext}
-use Rattle.obu.specs.Place.{part}
 use Rattle.bitio.specs.Limits.{led34}
 use Rattle.container.specs.Units.{unitsAt}
 use Rattle.player.specs.Player.{State, start, Played, play, leaves}
@@ -60,10 +59,6 @@ showsSay (Positions n) = accepted n
 showsSay (ShowsRefused k) = refused k
 
 -- ---- for the code
-
--- unit i, from 0
-abbrev pub unitIn : List ℕ → List ℕ → ℕ → List ℕ
-unitIn s es i = part s (getD (0 ∷ es) i 0) (getD es i 0)
 
 -- the units are all there, the cue is one's position, and each position from the cue on has room for its number
 pub record CanPlay (s es : List ℕ) (cue : ℕ) (d : List ℕ) : Type 0 where

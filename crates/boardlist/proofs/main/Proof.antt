@@ -8,7 +8,7 @@ use Rattle.boardlist.proofs.main.Statement.{statement}
 use Rattle.boardlist.proofs.main.Tie as tie
 
 part-write-all-end : tie.Need-part-write-all-end
-part-write-all-end c = omega (arith, end-within _ _ _ (sym (ap putSays (c .before .before .end .given .1)) ∙ c .before .before .before .before .before .before .before .before .before .before .before .before .answer .ensures .0))
+part-write-all-end c = omega (arith, end-within _ _ _ (sym (ap putSays (c .before .before .end .given .1)) ∙ c .before .before .before .before .before .before .before .before .before .before .before .before .answer .ensures .text .answer))
 
 pub main-spec : {M : Type 1} → statement M
 main-spec =

@@ -3,7 +3,7 @@ use borrow.Author.Needs.{needs}
 use native.Mathlib.Omega.{arith}
 use mathlib.Core.Path.{sym, ap, _∙_}
 use Rattle.listing.specs.Says.{fileSays}
-use Rattle.boardplay.proofs.FitLaws.{layout-fits}
+use Rattle.listing.proofs.FileLaws.{layout-fits}
 use Rattle.boardplay.proofs.main.Statement.{statement}
 use Rattle.boardplay.proofs.main.Tie as tie
 

@@ -3,7 +3,7 @@ use mathlib.Core.Path.{sym, ap, _∙_}
 use Rattle.pictures.specs.Assemble.{Outcome}
 use Rattle.assemble.specs.Whole.{assembledSays}
 use Rattle.assemble.specs.declared.multi.Counts.{Counts}
-use Rattle.capi.specs.Door.{assembledCode, numbersAfter, five}
+use Rattle.capi.specs.Door.{assembledCode, countsAfter, five}
 use Rattle.capi.proofs.magbelo_assemble.Statement.{statement}
 use Rattle.capi.proofs.magbelo_assemble.Tie as tie
 
@@ -13,7 +13,7 @@ returns c =
     let a = u .before .before .before .before .before .before .before .before .before .before .before .before .before .before .before .args in
     let w = u .assemble-multi .ensures in
     let e = sym (ap assembledSays (c .before .k .given .1)) ∙ w .answer in
-    record { code = ap assembledCode e; lent = w .lent; numbers = ap (λ (y : Outcome Counts). numbersAfter y (five (a .units) (a .cue-count) (a .picture-len) (a .header-len) (a .golden-slot))) e }
+    record { code = ap assembledCode e; lent = w .lent; numbers = ap (λ (y : Outcome Counts). countsAfter y (five (a .units) (a .cue-count) (a .picture-len) (a .header-len) (a .golden-slot))) e }
 
 returns-2 : tie.Need-returns-2
 returns-2 c =
@@ -21,7 +21,7 @@ returns-2 c =
     let a = u .before .before .before .before .before .before .before .before .before .before .before .before .before .before .before .args in
     let w = u .assemble-multi .ensures in
     let e = sym (ap assembledSays (c .before .k2 .given .1)) ∙ w .answer in
-    record { code = ap assembledCode e; lent = w .lent; numbers = ap (λ (y : Outcome Counts). numbersAfter y (five (a .units) (a .cue-count) (a .picture-len) (a .header-len) (a .golden-slot))) e }
+    record { code = ap assembledCode e; lent = w .lent; numbers = ap (λ (y : Outcome Counts). countsAfter y (five (a .units) (a .cue-count) (a .picture-len) (a .header-len) (a .golden-slot))) e }
 
 returns-3 : tie.Need-returns-3
 returns-3 c =
@@ -29,7 +29,7 @@ returns-3 c =
     let a = u .before .before .before .before .before .before .before .before .before .before .before .before .before .before .before .args in
     let w = u .assemble-multi .ensures in
     let e = sym (ap assembledSays (c .before .c .given .1)) ∙ w .answer in
-    record { code = ap assembledCode e; lent = w .lent; numbers = ap (λ (y : Outcome Counts). numbersAfter y (five (a .units) (a .cue-count) (a .picture-len) (a .header-len) (a .golden-slot))) e }
+    record { code = ap assembledCode e; lent = w .lent; numbers = ap (λ (y : Outcome Counts). countsAfter y (five (a .units) (a .cue-count) (a .picture-len) (a .header-len) (a .golden-slot))) e }
 
 pub magbelo-assemble-spec : {M : Type 1} → statement M
 magbelo-assemble-spec =

@@ -3,15 +3,14 @@ use Prim.Native.Nat.{ℕ}
 use mathlib.Core.List.{List}
 use mathlib.Core.Path.{_≡_, sym, ap, _∙_}
 use denote.Ref.{now}
-use Rattle.bitio.specs.Parse.{Answer}
-use Rattle.container.specs.Units.{Sizes, splitSays}
-use Rattle.capi.specs.Door.{codeOf, bytesOf, unitsOf, Units}
+use Rattle.container.specs.Units.{splitSays}
+use Rattle.capi.specs.Door.{codeOf, byteCountAfter, unitCountAfter, StreamLent}
 use Rattle.capi.proofs.magbelo_split_obu_stream.Statement.{statement}
 use Rattle.capi.proofs.magbelo_split_obu_stream.Tie as tie
 
-same : {o p e f : List ℕ} {b c u v : ℕ} → o ≡ p → e ≡ f → b ≡ c → u ≡ v
-    → _≡_ {A = Units} (record { out = o; ends = e; bytes = b; units = u }) (record { out = p; ends = f; bytes = c; units = v })
-same i j k l = rw (i, j, k, l)
+same-lent : {o p e f : List ℕ} {b c u v : ℕ} → o ≡ p → e ≡ f → b ≡ c → u ≡ v
+    → _≡_ {A = StreamLent} (record { out = o; ends = e; bytes = b; units = u }) (record { out = p; ends = f; bytes = c; units = v })
+same-lent i j k l = rw (i, j, k, l)
 
 returns : tie.Need-returns
 returns c =
@@ -19,7 +18,7 @@ returns c =
     let a = u .before .before .before .before .before .before .args in
     let w = u .split-obu-stream .ensures in
     let e = sym (ap splitSays (c .before .k .given .1)) ∙ w .0 in
-    record { code = ap codeOf e; lent = same (w .1 .0) (w .1 .1) (ap (λ x. bytesOf x (now (a .bytes))) e) (ap (λ x. unitsOf x (now (a .units))) e) }
+    record { code = ap codeOf e; lent = same-lent (w .1 .0) (w .1 .1) (ap (λ x. byteCountAfter x (now (a .bytes))) e) (ap (λ x. unitCountAfter x (now (a .units))) e) }
 
 returns-2 : tie.Need-returns-2
 returns-2 c =
@@ -27,7 +26,7 @@ returns-2 c =
     let a = u .before .before .before .before .before .before .args in
     let w = u .split-obu-stream .ensures in
     let e = sym (ap splitSays (c .before .n .given .1)) ∙ w .0 in
-    record { code = ap codeOf e; lent = same (w .1 .0) (w .1 .1) (ap (λ x. bytesOf x (now (a .bytes))) e) (ap (λ x. unitsOf x (now (a .units))) e) }
+    record { code = ap codeOf e; lent = same-lent (w .1 .0) (w .1 .1) (ap (λ x. byteCountAfter x (now (a .bytes))) e) (ap (λ x. unitCountAfter x (now (a .units))) e) }
 
 pub magbelo-split-obu-stream-spec : {M : Type 1} → statement M
 magbelo-split-obu-stream-spec =

@@ -5,7 +5,7 @@ use denote.Ref.{now}
 use Rattle.pictures.specs.Assemble.{made}
 use Rattle.pictures.specs.Sizes.{checkedSays}
 use Rattle.pictures.specs.Code.{firstSequence}
-use Rattle.bitio.specs.Parse.{accepted, refused, andNext}
+use Rattle.bitio.specs.Parse.{accepted, andNext}
 use Rattle.pictures.proofs.HeaderLaws.{first-found}
 use Rattle.pictures.specs.Rewrite.{obuIn}
 use Rattle.assemble.specs.Stages.{checked}

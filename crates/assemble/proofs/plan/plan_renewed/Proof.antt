@@ -3,7 +3,7 @@ use borrow.Author.Needs.{needs}
 use mathlib.Core.Path.{refl, ap, _∙_}
 use denote.Ref.{now}
 use Rattle.header.specs.Sequence.{sequenceOf}
-use Rattle.pictures.specs.Code.{orElse}
+use Rattle.pictures.specs.Code.{answerOr}
 use Rattle.assemble.proofs.PlanLaws.{new-there, renewed-pictures, header-new}
 use Rattle.assemble.proofs.plan.plan_renewed.Statement.{statement}
 use Rattle.assemble.proofs.plan.plan_renewed.Tie as tie
@@ -16,7 +16,7 @@ returns c =
     let s = now (a .picture) in
     let rs = now (a .segments) in
     let n = new-there _ _ _ (sequenceOf (a .header) (a .points)) (z .pre) (omega arith) (e .emit-sequence-header .ensures .1)
-    (c .before .emitted-len .ensures ∙ ap (orElse 0) (e .emit-sequence-header .ensures .0)) in
+    (c .before .emitted-len .ensures ∙ ap (answerOr 0) (e .emit-sequence-header .ensures .0)) in
     c .plan-pictures .ensures ∙ renewed-pictures s rs (sequenceOf (a .header) (a .points)) _ _ n (header-new s rs _ _ refl refl)
 
 pub plan-renewed-spec : {M : Type 1} → statement M

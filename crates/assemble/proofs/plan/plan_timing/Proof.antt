@@ -23,8 +23,9 @@ plan-renewed-requires c κs =
     let m = c .before .before .before in
     let z = m .before .before .before .before in
     let a = z .args in
+    let (picture, (segments, (obu, (header, (points, (settings, _)))))) = z .good in
     timed-emits (a .header) (a .points) (a .settings) (z .pre .1) _ (sym (ap sequenceSays (c .before .timed .given .1)) ∙ m .with-timing-info-rate .ensures)
-    (omega (arith, z .good .1 .1 .1 .1 .1 .0)) (omega (arith, z .good .1 .1 .1 .1 .1 .0))
+    (omega (arith, settings)) (omega (arith, settings))
 
 returns-2 : tie.Need-returns-2
 returns-2 c =

@@ -55,7 +55,7 @@ use Rattle.bitio.specs.Lent.{pasted}
 use Rattle.blocks.specs.Numbers.{width, segmentCount}
 use Rattle.assemble.specs.Records.{recordIn, copyCount, numbersAfter}
 use Rattle.assemble.specs.declared.segments.Segment.{Segment}
-use Rattle.assemble.proofs.RecordLaws.{noSegment, Copying, copy-start, copy-end, copy-less, copy-room, copy-turn}
+use Rattle.assemble.proofs.RecordLaws.{noRecord, Copying, copy-start, copy-end, copy-less, copy-room, copy-turn}
 use Rattle.assemble.proofs.Relend.{LentAgain, lends-again, comes-back}
 use Rattle.assemble.proofs.segments.Segment as T
 use Rattle.assemble.proofs.segments.Segment.Laws as T′
@@ -213,7 +213,7 @@ module _ {M : Type 1} (𝓤 : URA M) (H : Heap 𝓤) (A : Atoms 𝓤) (W : Given
 
     -- what `put_numbers` ensures of its result r and its last list zs
     abbrev Says : State → ℕ → List ℕ → Type 0
-    Says s r zs = (r ≡ s .to + 1) × (zs ≡ pasted (s .zs) (width * s .to) (recordIn (getD ys (s .i) noSegment)))
+    Says s r zs = (r ≡ s .to + 1) × (zs ≡ pasted (s .zs) (width * s .to) (recordIn (getD ys (s .i) noRecord)))
 
     -- the state after one more segment
     abbrev next : (s : State) (r : ℕ) (zs : List ℕ) → s .i < end → r < 2 ^ 64 → Says s r zs → State
@@ -228,10 +228,10 @@ module _ {M : Type 1} (𝓤 : URA M) (H : Heap 𝓤) (A : Atoms 𝓤) (W : Given
         assigns ! (bin ! (load ! (from ! (stop !)) (look ! 23 refl)) (lit ! tt) (record { fits = offset-fits (room .1) less })) (from ! (stop !)) (init ! 15 refl (tt, record { fits = offset-fits (room .1) less })) $
         assigns ! (bin ! (load ! (from ! (fld ! refl (stop !))) (look-in ! 31 (sub ! 0 refl (whole !)))) (load ! (from ! (stop !)) (look ! 15 refl)) tt) (from ! (stop !)) (init ! 13 refl (tt, tt)) $
         rewrite ! 13 (λ (r : ℕ). ‵ (fat fullShare tyPtr l₁₀ 0 (vptr b r))) (sym (place-is 40 o (s .i))) refl $
-        elem-out ! T.the-row (Is T.the-row) (shows 𝓤 H A T.the-row) vals (LL.tells T.the-type T′.the-laws) q′ ys (s .i) noSegment b o less (λ g.
+        elem-out ! T.the-row (Is T.the-row) (shows 𝓤 H A T.the-row) vals (LL.tells T.the-type T′.the-laws) q′ ys (s .i) noRecord b o less (λ g.
         -- [segments[i]; what it owns; the others; and the rest, 2 further on]: it is copied, and put back
         assigns ! (of-opd ! (load ! (from ! (hop ! (look ! 15 refl) (stop !))) (look-raw ! 0 refl))) (from ! (stop !)) (init ! 13 refl (LL.lawful T.the-type T′.the-laws 𝓤 H A W .typed elem _ g .0)) $
-        elem-back ! T.the-row q′ ys (s .i) noSegment (vals elem) b o less $
+        elem-back ! T.the-row q′ ys (s .i) noRecord (vals elem) b o less $
         assigns ! (addr ! (from ! (fld ! refl (hop ! (look-in ! 29 (sub ! 0 refl (whole !))) (stop !))))) (from ! (stop !)) (init ! 9 refl (tt, tt)) $
         assigns ! (agg ! (and-then ! (load ! (from ! (stop !)) (look ! 9 refl)) (and-then ! (load ! (from ! (fld ! refl (stop !))) (look-in ! 29 (sub ! 1 refl (whole !)))) (no-more !)))) (from ! (stop !)) (init ! 7 refl (tt, (tt, (record { fits = room′ .0 }, tt)))) $
         rewrite ! 7 (λ (m : ℕ). ‵ (fat fullShare lent l₁₃ 0 (sliceVal (b′, o′) m))) (sym (s .copied .len)) refl $
@@ -259,7 +259,7 @@ module _ {M : Type 1} (𝓤 : URA M) (H : Heap 𝓤) (A : Atoms 𝓤) (W : Given
         forget ! 7 refl $ forget ! 9 refl $ forget ! 11 refl $ forget ! 13 refl $ forget ! 15 refl $ forget ! 17 refl $ again ! Nearer At s (next s r (zs .1 .1 .0) sooner (is .1) e) (add-one-dec end (s .i) sooner))))))))))
       where
         elem : Segment
-        elem = getD ys (s .i) noSegment
+        elem = getD ys (s .i) noRecord
 
         sooner : s .i < end
         sooner = ltb-true (s .i) end is-less

@@ -1,12 +1,12 @@
 use borrow.Author.Needs.{needs}
 use native.Mathlib.Omega.{arith}
-use Rattle.blocks.proofs.CountLaws.{Counting, counting-start, counting-end, counting-turn}
+use Rattle.blocks.proofs.CountLaws.{CountingSegment, counting-start, counting-end, counting-turn}
 use Rattle.blocks.proofs.LayLaws.{next-some, next-left}
 use Rattle.blocks.proofs.blocks.count_segment.Statement.{statement}
 use Rattle.blocks.proofs.blocks.count_segment.Tie as tie
 
 abbrev Inv-loop : tie.InvT-loop
-Inv-loop gop frames s₀ count₀ s count = Counting gop frames count s
+Inv-loop gop frames s₀ count₀ s count = CountingSegment gop frames count s
 
 abbrev μ-loop : tie.MeasureT-loop
 μ-loop gop frames s₀ count₀ s count = s .left

@@ -15,7 +15,7 @@ use Rattle.blocks.proofs.blocks.put_block.Statement.{statement}
 use Rattle.blocks.proofs.blocks.put_block.Tie as tie
 
 add-list : tie.Need-add-list
-add-list c = let s = c .before .before .before in omega (arith, c .lone .ensures, code-small (pick (s .args .after) Show Key), s .pre .1 .1)
+add-list c = let s = c .before .before .before in omega (arith, c .lone .ensures, code-small (pick (s .args .key) Key Show), s .pre .1 .1)
 
 returns : tie.Need-returns
 returns c =
@@ -23,7 +23,7 @@ returns c =
     let a = s .args in
     ap (λ (x : ℕ). set (now (a .list)) (a .at) (a .segment * 4 + x)) (c .lone .ensures)
     ∙ pasted-one (now (a .list)) (a .at) _ (omega (arith, s .pre .0, s .pre .1 .0))
-    ∙ ap (pasted (now (a .list)) (a .at)) (block-one (a .segment) (a .n) (a .after) (s .pre .1 .0) (c .before .if1 .taken))
+    ∙ ap (pasted (now (a .list)) (a .at)) (block-one (a .segment) (a .n) (a .key) (s .pre .1 .0) (c .before .if1 .taken))
 
 slice-write-list-3 : tie.Need-slice-write-list-3
 slice-write-list-3 c = simp length-set (omega arith)
@@ -39,13 +39,13 @@ returns-2 c =
     let m = a .segment * 4 in
     c .before .before .fill .ensures
     ∙ two-and-more (now (a .list)) (a .at) m (m + 1) (replicate (a .n - 2) (m + 2)) (omega (arith, s .pre .0, length-replicate (a .n - 2) (m + 2), e .if1 .left))
-    ∙ ap (pasted (now (a .list)) (a .at)) (block-more (a .segment) (a .n) (a .after) (e .if1 .left))
+    ∙ ap (pasted (now (a .list)) (a .at)) (block-more (a .segment) (a .n) (a .key) (e .if1 .left))
 
 same-length-2 : tie.Need-same-length-2
 same-length-2 c =
     let s = c .before .before .before .before .before .before in
     let a = s .args in
-    ap length (returns-2 c) ∙ pasted-length (now (a .list)) (a .at) (entriesOf (a .segment) (block (a .after) (a .n))) (omega (arith, s .pre .0, length-block-entries (a .segment) (a .n) (a .after)))
+    ap length (returns-2 c) ∙ pasted-length (now (a .list)) (a .at) (entriesOf (a .segment) (block (a .key) (a .n))) (omega (arith, s .pre .0, length-block-entries (a .segment) (a .n) (a .key)))
 
 pub put-block-spec : {M : Type 1} → statement M
 put-block-spec =

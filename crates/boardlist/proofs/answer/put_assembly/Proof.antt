@@ -6,7 +6,7 @@ use Rattle.blocks.specs.Numbers.{width}
 use Rattle.assemble.specs.Whole.{assembledSays, six, outcome}
 use Rattle.boardlist.specs.Printed.{settingsOf, between}
 use Rattle.boardlist.proofs.MadeLaws.{outcome-held}
-use Rattle.boardlist.proofs.AnswerLaws.{retold, made-is, refused-is, refused-in-is}
+use Rattle.boardlist.proofs.AnswerLaws.{retold, texted, made-is, refused-is, refused-in-is}
 use Rattle.boardlist.proofs.answer.put_assembly.Statement.{statement}
 use Rattle.boardlist.proofs.answer.put_assembly.Tie as tie
 
@@ -22,22 +22,19 @@ returns c =
     let a = c .before .before .before .before .before .before .before .before .before .before .before .before .before .before .before .before .before .before .before .before .before .before .before .before .before .before .before .before .before .before .before .before .before .before .before .before .before .before .before .before .before .before .args in
     let e = c .before .before .before .before .before .before .before .before .before .before .before .before .before .before .before .before .before .before .before .before .before .before .before .assemble-multi .ensures in
     let m = made-is (outcome (between (a .layout .start) (a .layout .end) (now (a .file))) (between 0 (width * a .layout .segments) (now (a .numbers))) (settingsOf (a .layout))) _ (six (a .list) (a .cues) (a .pictures) (a .ends) (a .shows) (a .header)) _ (outcome-held (between (a .layout .start) (a .layout .end) (now (a .file))) (between 0 (width * a .layout .segments) (now (a .numbers))) (settingsOf (a .layout)) (six (a .list) (a .cues) (a .pictures) (a .ends) (a .shows) (a .header))) (rw (c .before .before .before .before .before .before .before .before .before .made .given .1) at e) in
-    let h = retold (now (a .out)) (m .1) (c .before .before .put-made .ensures) in
-    (h .0, (h .1, e .lent))
+    record { text = retold (m .1) (c .before .before .put-made .ensures); slices = e .lent }
 
 returns-2 : tie.Need-returns-2
 returns-2 c =
     let a = c .before .before .before .before .before .before .before .before .before .before .before .before .before .before .before .before .before .before .before .before .before .before .before .before .before .before .before .before .before .before .before .before .before .before .before .before .before .before .args in
     let e = c .before .before .before .before .before .before .before .before .before .before .before .before .before .before .before .before .before .before .before .assemble-multi .ensures in
-    let h = retold (now (a .out)) (refused-is (outcome (between (a .layout .start) (a .layout .end) (now (a .file))) (between 0 (width * a .layout .segments) (now (a .numbers))) (settingsOf (a .layout)) (six (a .list) (a .cues) (a .pictures) (a .ends) (a .shows) (a .header))) _ (sym (ap assembledSays (c .before .before .before .before .before .made2 .given .1)) ∙ e .answer)) (c .before .before .put-refused .ensures) in
-    (h .0, (h .1, e .lent))
+    record { text = retold (refused-is (outcome (between (a .layout .start) (a .layout .end) (now (a .file))) (between 0 (width * a .layout .segments) (now (a .numbers))) (settingsOf (a .layout)) (six (a .list) (a .cues) (a .pictures) (a .ends) (a .shows) (a .header))) _ (sym (ap assembledSays (c .before .before .before .before .before .made2 .given .1)) ∙ e .answer)) (texted (c .before .before .put-refused .ensures)); slices = e .lent }
 
 returns-3 : tie.Need-returns-3
 returns-3 c =
     let a = c .before .before .before .before .before .before .before .before .before .before .before .before .before .before .before .before .before .before .before .before .before .before .before .before .before .before .before .before .before .before .before .before .before .before .before .before .before .before .args in
     let e = c .before .before .before .before .before .before .before .before .before .before .before .before .before .before .before .before .before .before .before .assemble-multi .ensures in
-    let h = retold (now (a .out)) (refused-in-is (outcome (between (a .layout .start) (a .layout .end) (now (a .file))) (between 0 (width * a .layout .segments) (now (a .numbers))) (settingsOf (a .layout)) (six (a .list) (a .cues) (a .pictures) (a .ends) (a .shows) (a .header))) _ _ (sym (ap assembledSays (c .before .before .before .before .before .made3 .given .1)) ∙ e .answer)) (c .before .before .put-refused-in .ensures) in
-    (h .0, (h .1, e .lent))
+    record { text = retold (refused-in-is (outcome (between (a .layout .start) (a .layout .end) (now (a .file))) (between 0 (width * a .layout .segments) (now (a .numbers))) (settingsOf (a .layout)) (six (a .list) (a .cues) (a .pictures) (a .ends) (a .shows) (a .header))) _ _ (sym (ap assembledSays (c .before .before .before .before .before .made3 .given .1)) ∙ e .answer)) (texted (c .before .before .put-refused-in .ensures)); slices = e .lent }
 
 pub put-assembly-spec : {M : Type 1} → statement M
 put-assembly-spec =

@@ -16,7 +16,7 @@ returns : tie.Need-returns
 returns c =
     let a = c .before .before .before .before .before .before .before .before .before .before .args in
     let e = c .before .before .before .before .before .before .put-bytes .ensures in
-    wrote-more (record { next = e .0; bytes = e .1 }) _ (omega (arith, length-counted (now (a .word)) (a .v) (a .last), c .before .before .before .before .before .before .before .before .before .before .pre)) (c .before .before .put-field .ensures)
+    wrote-more (record { next = e .0; out = e .1 }) (omega (arith, length-counted (now (a .word)) (a .v) (a .last), c .before .before .before .before .before .before .before .before .before .before .pre)) (c .before .before .put-field .ensures)
 
 pub put-counted-spec : {M : Type 1} → statement M
 put-counted-spec =

@@ -59,7 +59,7 @@ returns c =
     let i : l .i ≡ a .at = omega arith in
     record {
       next = omega (arith, c .before .before .decimal-len .ensures .0);
-      bytes = rw i (pasted-one (l .out) (a .at) (48 + l .x) (omega arith) ∙ ap (pasted (l .out) (a .at)) (sym (decimal-last (l .x) (omega arith))) ∙ l .inv .4);
+      out = rw i (pasted-one (l .out) (a .at) (48 + l .x) (omega arith) ∙ ap (pasted (l .out) (a .at)) (sym (decimal-last (l .x) (omega arith))) ∙ l .inv .4);
     }
 
 pub put-decimal-spec : {M : Type 1} → statement M

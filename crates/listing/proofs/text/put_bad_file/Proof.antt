@@ -21,7 +21,7 @@ same-length : tie.Need-same-length
 same-length c = search needs
 
 returns-2 : tie.Need-returns-2
-returns-2 c = let e = c .before .before .put-bytes .ensures in wrote-all (record { next = e .0; bytes = e .1 }) (omega arith)
+returns-2 c = let e = c .before .before .put-bytes .ensures in wrote-all (record { next = e .0; out = e .1 }) (omega arith)
 
 pub put-bad-file-spec : {M : Type 1} → statement M
 put-bad-file-spec =

@@ -34,7 +34,7 @@ put-counted-requires-2 c κs = omega (arith, length-counted refusedWord (c .befo
 
 returns-2 : tie.Need-returns-2
 returns-2 c =
-    let w = wrote-more (c .before .before .before .before .before .before .before .put-counted .ensures) _ (omega arith) (c .before .before .put-counted2 .ensures) in
+    let w = wrote-more (c .before .before .before .before .before .before .before .put-counted .ensures) (omega arith) (c .before .before .put-counted2 .ensures) in
     wrote-all w (omega (arith, length-append (counted refusedWord (c .before .before .before .before .before .before .before .before .before .before .before .before .before .before .args .number) 32) (counted segmentWord (c .before .before .before .before .before .before .before .before .before .before .before .before .before .before .args .segment) 10), length-counted refusedWord (c .before .before .before .before .before .before .before .before .before .before .before .before .before .before .args .number) 32, length-counted segmentWord (c .before .before .before .before .before .before .before .before .before .before .before .before .before .before .args .segment) 10, c .before .before .before .before .before .before .before .before .before .before .before .before .decimal-len .ensures .0, c .before .before .before .before .before .before .before .before .before .before .before .decimal-len2 .ensures .0, c .before .before .before .before .before .before .before .before .before .before .if1 .left))
 
 pub put-refused-in-spec : {M : Type 1} → statement M

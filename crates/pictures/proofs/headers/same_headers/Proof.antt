@@ -1,7 +1,7 @@
 use borrow.Author.Needs.{needs}
 use native.Mathlib.Omega.{arith}
 use Rattle.obu.specs.Unit.{countedSays}
-use Rattle.pictures.proofs.FrameLaws.{legible}
+use Rattle.pictures.specs.Assemble.{verdict}
 use Rattle.pictures.proofs.SameLaws.{compared-is, Agree, agree-start, agree-refused, agree-turn, agree-end}
 use mathlib.Core.Path.{sym, ap, _∙_}
 use Prim.Native.Nat.{_-_}
@@ -22,12 +22,12 @@ returns : tie.Need-returns Inv-loop μ-loop
 returns c =
     let k = c .before in
     let r = k .before .before in
-    agree-refused (r .before .before .before .loop .inv) (omega arith) _ (r .before .key-of .ensures) _ (compared-is _ _ ∙ ap legible (sym (r .count-same .ensures)) ∙ ap (λ y. legible (countedSays y)) (k .k .given .1))
+    agree-refused (r .before .before .before .loop .inv) (omega arith) _ (r .before .key-of .ensures) _ (compared-is _ _ ∙ ap verdict (sym (r .count-same .ensures)) ∙ ap (λ y. verdict (countedSays y)) (k .k .given .1))
 
 loop-again : tie.Need-loop-again Inv-loop μ-loop
 loop-again c =
     let r = c .before .before in
-    agree-turn (r .before .before .before .loop .inv) (omega arith) _ (r .before .key-of .ensures) (compared-is _ _ ∙ ap legible (sym (r .count-same .ensures)) ∙ ap (λ y. legible (countedSays y)) (c .enum-told .given .1))
+    agree-turn (r .before .before .before .loop .inv) (omega arith) _ (r .before .key-of .ensures) (compared-is _ _ ∙ ap verdict (sym (r .count-same .ensures)) ∙ ap (λ y. verdict (countedSays y)) (c .enum-told .given .1))
 
 returns-2 : tie.Need-returns-2 Inv-loop μ-loop
 returns-2 c = agree-end (c .before .loop .inv) (omega arith)

@@ -1,6 +1,6 @@
 use borrow.Author.Needs.{needs}
 use mathlib.Core.Path.{sym, ap, _∙_}
-use Rattle.pictures.specs.Code.{orElse}
+use Rattle.pictures.specs.Code.{answerOr}
 use Rattle.pictures.specs.Says.{slotSays}
 use Rattle.pictures.proofs.pictures.slot_or_zero.Statement.{statement}
 use Rattle.pictures.proofs.pictures.slot_or_zero.Tie as tie
@@ -15,10 +15,10 @@ enum-known-slot : tie.Need-enum-known-slot
 enum-known-slot c = search needs
 
 returns : tie.Need-returns
-returns c = ap (orElse 0) (sym (ap slotSays (c .enum-told .given .1)) ∙ c .before .before .golden-slot .ensures)
+returns c = ap (answerOr 0) (sym (ap slotSays (c .enum-told .given .1)) ∙ c .before .before .golden-slot .ensures)
 
 returns-2 : tie.Need-returns-2
-returns-2 c = ap (orElse 0) (sym (ap slotSays (c .before .slot .given .1)) ∙ c .before .before .before .golden-slot .ensures)
+returns-2 c = ap (answerOr 0) (sym (ap slotSays (c .before .slot .given .1)) ∙ c .before .before .before .golden-slot .ensures)
 
 pub slot-or-zero-spec : {M : Type 1} → statement M
 slot-or-zero-spec =

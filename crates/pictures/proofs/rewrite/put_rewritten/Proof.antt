@@ -6,12 +6,12 @@ use lib.ListN.{length}
 use denote.Ref.{now}
 use Rattle.obu.specs.Place.{obuSays, extensionSays}
 use Rattle.obu.proofs.PlaceLaws.{IsPlaced, is-placed, at-end, not-found}
-use Rattle.pictures.proofs.RewriteLaws.{Putting, put-start, put-long, put-stop, put-end, put-passes, put-room, put-next}
+use Rattle.pictures.proofs.RewriteLaws.{PuttingRewritten, rewrite-start, rewrite-long, rewrite-stop, rewrite-end, rewrite-passes, rewrite-room, rewrite-next}
 use Rattle.pictures.proofs.rewrite.put_rewritten.Statement.{statement}
 use Rattle.pictures.proofs.rewrite.put_rewritten.Tie as tie
 
 abbrev Inv-loop : tie.InvT-loop
-Inv-loop out₀ at unit new from₀ to₀ out from to = Putting unit new out₀ at from to out
+Inv-loop out₀ at unit new from₀ to₀ out from to = PuttingRewritten unit new out₀ at from to out
 
 abbrev μ-loop : tie.MeasureT-loop
 μ-loop out₀ at unit new from₀ to₀ out from to = length unit - from
@@ -24,22 +24,22 @@ got : (c : tie.After-o Inv-loop μ-loop)
 got c = is-placed _ _ (sym (c .before .before .obu-at .ensures) ∙ ap obuSays (c .o .given .1))
 
 loop-holds : tie.Need-loop-holds Inv-loop μ-loop
-loop-holds c = let a = c .before .before .before in put-start _ _ _ _ (a .pre .0) (a .pre .1)
+loop-holds c = let a = c .before .before .before in rewrite-start _ _ _ _ (a .pre .0) (a .pre .1)
 
 same-length : tie.Need-same-length Inv-loop μ-loop
-same-length c = put-long (c .before .before .before .loop .inv)
+same-length c = rewrite-long (c .before .before .before .loop .inv)
 
 returns : tie.Need-returns Inv-loop μ-loop
 returns c =
     let k = c .before in
     let l = k .before .before .loop in
-    absurd (put-stop (l .inv) _ (not-found _ _ (k .obu-at .result) (c .match .keys2) (k .before .loop-test .taken) (k .obu-at .ensures)))
+    absurd (rewrite-stop (l .inv) _ (not-found _ _ (k .obu-at .result) (c .match .keys2) (k .before .loop-test .taken) (k .obu-at .ensures)))
 
 put-renewed-requires : tie.Need-put-renewed-requires Inv-loop μ-loop
 put-renewed-requires c κs =
     let b = c .before .before in
     let l = b .before .before .before .before .loop in
-    (put-passes (l .inv) (got b), put-room (l .inv) (got b))
+    (rewrite-passes (l .inv) (got b), rewrite-room (l .inv) (got b))
 
 loop-less : tie.Need-loop-less Inv-loop μ-loop
 loop-less c = let g = got (c .before .before .before .before .before) .placed in omega (arith, g .after, g .ends, g .within)
@@ -48,13 +48,13 @@ loop-again : tie.Need-loop-again Inv-loop μ-loop
 loop-again c =
     let b = c .before .before .before .before .before in
     let l = b .before .before .before .before .loop in
-    put-next (l .inv) (got b) (c .before .before .put-renewed .ensures)
+    rewrite-next (l .inv) (got b) (c .before .before .put-renewed .ensures)
 
 same-length-2 : tie.Need-same-length-2 Inv-loop μ-loop
-same-length-2 c = put-long (c .before .loop .inv)
+same-length-2 c = rewrite-long (c .before .loop .inv)
 
 returns-2 : tie.Need-returns-2 Inv-loop μ-loop
-returns-2 c = let l = c .before .loop in put-end (l .inv) (sym (at-end _ (l .from) (c .loop-test .left)))
+returns-2 c = let l = c .before .loop in rewrite-end (l .inv) (sym (at-end _ (l .from) (c .loop-test .left)))
 
 pub put-rewritten-spec : {M : Type 1} → statement M
 put-rewritten-spec =
