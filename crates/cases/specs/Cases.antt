@@ -13,6 +13,9 @@ use Rattle.obu.specs.Place.{part}
 use Rattle.container.specs.Stream.{cut, group, others, join, behind, joined, units, streamUnits, flat, streamBytes}
 use Rattle.container.specs.AnnexB.{innerObu, lengthObu, frameUnit, temporalUnit, annexbUnits, annexbUnit, annexbBytes}
 use Rattle.container.specs.Container.{read, write}
+use Rattle.container.specs.Units.{unitsFrom}
+use Rattle.packets.specs.Packets.{behindP, alone, mergePackets, canonical, canonicalAt}
+use Rattle.packets.specs.PacketLists.{stamped, packetsAt, bytesOf, mergedAt}
 use Rattle.bitio.specs.Bits.{bitAt, bitsAt, bitsWithin, readBits}
 use Rattle.bitio.specs.Uvlc.{leadingZeros, uvlcSuffix, uvlc}
 use Rattle.bitio.specs.Write.{bitsOf, halvings, uvlcZeros}
@@ -42,6 +45,7 @@ use Rattle.cases.specs.Rows.{Row}
 use Rattle.cases.specs.MarkedRows.{markedRows}
 use Rattle.cases.specs.AssemblyRows.{assemblyRows}
 use Rattle.cases.specs.BoardlistRows.{boardlistRows}
+use Rattle.cases.specs.PacketRows.{packetRows}
 use Rattle.cases.specs.PlayerRows.{playerRows}
 
 abbrev sameLists : List (List ℕ) → List (List ℕ) → Bool
@@ -61,8 +65,8 @@ check [] = true
 check (r ∷ rs) = same (r .0) (r .1) && check rs
 
 abbrev pub rows : List Row
-rows = markedRows ++ (assemblyRows ++ (boardlistRows ++ playerRows))
+rows = markedRows ++ (packetRows ++ (assemblyRows ++ (boardlistRows ++ playerRows)))
 
 pub cases : check rows ≡ true
-unfolding check many manyF readLeb lebRead lebBytes lebWrite sized framed passes headObuOf obusOf obuBytes unitBytes flatMap isType count cut group others join behind joined units streamUnits flat streamBytes innerObu lengthObu frameUnit temporalUnit annexbUnits annexbUnit annexbBytes read write bitAt bitsAt bitsWithin readBits leadingZeros uvlcSuffix uvlc bitsOf halvings uvlcZeros readFlag readOr flagOr uvlcOr timingInfo decoderModelInfo opening operatingPoint operatingPoints frameSize frameIds codingTools screenTools filters colorDescription colorSampling coding sequenceHeader parseSequence limited retimed withTiming timed put putOr putFlag putFlagOr putUvlcOr fits fitsOr flagFitsOr uvlcFitsOr putTiming putModel putOpening putPoint putPoints putSize putIds putTools putScreen putFilters putColor putSampling putCoding putSequence timingFits modelFits openingFits pointFits pointsFit sizeFits idsFit toolsFit screenFits colorFits samplingFits codingFits emittable ofBits packN pack trailed sequenceBytes emitted showExisting frameStart orderHint removalTimes bufferRemoval frameInfo frameBits frameHeader parseFrameFrom parseFrame andNext has lastPayload part support blocks layout positions total segmentAt segmentsFrom segmentsOf firstOf sent unitFrame framePayload lowest prepare andAlso inSegment overall noneEmpty sizes supportedSequence sameBytes sameHeaders prepareAll endsFrom fitsRoom assembled assemble firstPayload named unitsOf numberAt unitsLength fileNumbersFrom isFile readInto fileNumbersAfter hasRoom lent pasted digitsIn decimal line lines listing refresh keepAs play
+unfolding check many manyF readLeb lebRead lebBytes lebWrite sized framed passes headObuOf obusOf obuBytes unitBytes flatMap isType count cut group others join behind joined units streamUnits flat streamBytes innerObu lengthObu frameUnit temporalUnit annexbUnits annexbUnit annexbBytes read write bitAt bitsAt bitsWithin readBits leadingZeros uvlcSuffix uvlc bitsOf halvings uvlcZeros readFlag readOr flagOr uvlcOr timingInfo decoderModelInfo opening operatingPoint operatingPoints frameSize frameIds codingTools screenTools filters colorDescription colorSampling coding sequenceHeader parseSequence limited retimed withTiming timed put putOr putFlag putFlagOr putUvlcOr fits fitsOr flagFitsOr uvlcFitsOr putTiming putModel putOpening putPoint putPoints putSize putIds putTools putScreen putFilters putColor putSampling putCoding putSequence timingFits modelFits openingFits pointFits pointsFit sizeFits idsFit toolsFit screenFits colorFits samplingFits codingFits emittable ofBits packN pack trailed sequenceBytes emitted showExisting frameStart orderHint removalTimes bufferRemoval frameInfo frameBits frameHeader parseFrameFrom parseFrame andNext has lastPayload part support blocks layout positions total segmentAt segmentsFrom segmentsOf firstOf sent unitFrame framePayload lowest prepare andAlso inSegment overall noneEmpty sizes supportedSequence sameBytes sameHeaders prepareAll endsFrom fitsRoom assembled assemble firstPayload named unitsOf numberAt unitsLength fileNumbersFrom isFile readInto fileNumbersAfter hasRoom lent pasted digitsIn decimal line lines listing refresh keepAs play unitsFrom mergedAt packetsAt stamped bytesOf mergePackets alone behindP canonicalAt canonical
 cases = refl

@@ -3,19 +3,18 @@ use Prim.Native.Nat.{ℕ, _+_}
 use native.Mathlib.Omega.{arith}
 use mathlib.Core.Path.{_≡_, refl, sym, ap, _∙_}
 use mathlib.Core.List.{List}
-use mathlib.Core.Bool.{Bool, true, false}
+use mathlib.Core.Bool.{Bool, true, false, cond as pick}
 use lib.ListN.{take}
 use Rattle.bitio.specs.Parse.{Answer, refused, accepted, answer, andNext}
 use Rattle.header.specs.Sequence.{Sequence, parseSequence, sequenceRead, sequenceOf, sequenceSays}
 use Rattle.header.specs.SequencePoints.{padded, pointCount}
 use Rattle.header.specs.Support.{support}
-use Rattle.header.specs.Timed.{timed, retimed}
+use Rattle.header.specs.Timed.{timed, withTiming, retimed}
 use Rattle.header.specs.declared.seq_header.SequenceHeader.{SequenceHeader}
 use Rattle.header.specs.declared.seq_header.SequenceAnswer.{SequenceAnswer}
 use Rattle.header.specs.declared.seq_header.SequenceAnswer.the-variants.{Header, Refused}
 use Rattle.header.specs.declared.seq_header.SequenceRead.{SequenceRead}
 use Rattle.header.proofs.LimitedLaws.{limited-read}
-use Rattle.header.proofs.TimedLaws.{timed-is}
 use Rattle.frame.proofs.FrameFromLaws.{read-whole}
 use Rattle.emit.specs.Emit.{emitPlaced, emitLent}
 use Rattle.protocol.specs.Told.{countTold}
@@ -61,8 +60,12 @@ module _ (s : List ℕ) (r : SequenceRead) (e : r ≡ sequenceRead (headerOf s))
 
   module _ (b : Bool) (num den : ℕ) where
     counted : (b : Bool) (h x : SequenceHeader) → timedIf b num den h ≡ accepted x → pointCount (x .opening) ≡ pointCount (h .opening)
-    unfolding retimed
-    counted true h x f = ap (λ y. pointCount (y .opening)) (timed-is num den h x f .others)
+    unfolding timed withTiming retimed
+    counted true h x f = go (h .opening .«reduced_still_picture_header») f
+      where
+        go : (t : Bool) → pick t (refused 17) (accepted (withTiming num den h)) ≡ accepted x → pointCount (x .opening) ≡ pointCount (h .opening)
+        go true g = let z : _≡_ {A = ℕ} 0 1 = cc in absurd (omega arith)
+        go false g = let w : withTiming num den h ≡ x = cc in ap (λ y. pointCount (y .opening)) (sym w)
     counted false h x f = let i : h ≡ x = cc in ap (λ y. pointCount (y .opening)) (sym i)
 
     pub emitted-read : (x : SequenceHeader) → andNext (sequenceSays (r .answer)) (timedIf b num den) ≡ accepted x → emittedOf b num den s ≡ accepted (sequenceOf x (r .«operating_points»))
