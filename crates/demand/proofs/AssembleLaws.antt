@@ -34,7 +34,7 @@ use Rattle.frame.specs.UnitFrame.{unitFrame}
 use Rattle.demand.specs.Premises.{listHeader, Premise, Formed, InFields}
 use Rattle.demand.proofs.HeaderLaws.{timed-short, timed-back, timed-fine}
 use Rattle.demand.proofs.PlayerLaws.{sole-is}
-use Rattle.demand.proofs.UnitLaws.{first-is, outgoing, Short, Out, goes-out}
+use Rattle.demand.proofs.UnitLaws.{first-is, outgoing, ShortPayload, Out, goes-out}
 
 -- ---- an accepted chain was accepted at each link
 
@@ -134,7 +134,7 @@ Rewritable x = (length (x .key) < 2 ^ 56) × (length (x .golden) < 2 ^ 56)
 abbrev HasHeader : Segment → Type 0
 HasHeader x = (os : List Obu) → obus (x .key) ≡ accepted os → has isSequence os ≡ true
 
-module _ (q : Sequence) (new : Option (List ℕ)) (s : List ℕ) (short : Short new) where
+module _ (q : Sequence) (new : Option (List ℕ)) (s : List ℕ) (short : ShortPayload new) where
   paired : (x : Segment) (b : Prepared) → Rewritable x → (k : Premise s (x .key)) → (g : Premise s (x .golden)) → HasHeader x → prepare q new x ≡ accepted b → Paired q new (outgoing new s) x b
   unfolding prepare out-says
   paired x b l k g n e =
@@ -179,7 +179,7 @@ module _ {A B : Type 0} {R : A → B → Type 0} where
   matches-at (and-more r m) zero x b h = r
   matches-at (and-more r m) (suc i) x b h = matches-at m i x b (omega arith)
 
-module _ (q : Sequence) (new : Option (List ℕ)) (s : List ℕ) (short : Short new) where
+module _ (q : Sequence) (new : Option (List ℕ)) (s : List ℕ) (short : ShortPayload new) where
   paired-all : (i : ℕ) (xs : List Segment) (bs : List Prepared) → Every Rewritable xs → Every (λ x. Premise s (x .key)) xs → Every (λ x. Premise s (x .golden)) xs → Every HasHeader xs
       → prepareAll q new i xs ≡ made bs → Matches (Paired q new (outgoing new s)) xs bs
   unfolding prepareAll
@@ -248,10 +248,10 @@ out {set} {xs} m = outputOf (set .gop) (framesOf xs) (m .obu) (m .boards .prepar
 
 -- with timing, and without
 outgoing-header : (set : Settings) → InFields set → (s : List ℕ) (q : Sequence) → parseSequence s ≡ accepted q → support (q .header) ≡ accepted tt
-    → (Short (renewal set q)) × (parseSequence (outgoing (renewal set q) s) ≡ accepted (effective set q)) × (support ((effective set q) .header) ≡ accepted tt)
+    → (ShortPayload (renewal set q)) × (parseSequence (outgoing (renewal set q) s) ≡ accepted (effective set q)) × (support ((effective set q) .header) ≡ accepted tt)
 outgoing-header set fields s q r f = go (isTimed (q .header))
   where
-    go : (t : Bool) → (Short (pick t none (some (sequenceBytes (timedSequence set q)))))
+    go : (t : Bool) → (ShortPayload (pick t none (some (sequenceBytes (timedSequence set q)))))
         × (parseSequence (outgoing (pick t none (some (sequenceBytes (timedSequence set q)))) s) ≡ accepted (pick t q (timedSequence set q)))
         × (support ((pick t q (timedSequence set q)) .header) ≡ accepted tt)
     go true = (tt, r, f)

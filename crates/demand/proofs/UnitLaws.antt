@@ -23,16 +23,16 @@ use Rattle.demand.specs.Premises.{Delimited, SequenceIs, Premise}
 
 -- ---- the first OBU of a kind
 
-pub record First (pass : Obu → Bool) (os : List Obu) (o : Obu) : Type 0 where
+pub record FirstFound (pass : Obu → Bool) (os : List Obu) (o : Obu) : Type 0 where
   pub there : has pass os ≡ true
   pub payload : firstPayload pass os ≡ o .payload
 
-pub first-is : (n : ℕ) (pass : Obu → Bool) (os : List Obu) (o : Obu) → firstOf n pass os ≡ accepted o → First pass os o
+pub first-is : (n : ℕ) (pass : Obu → Bool) (os : List Obu) (o : Obu) → firstOf n pass os ≡ accepted o → FirstFound pass os o
 unfolding firstOf has firstPayload
 first-is n pass [] o e = let z : _≡_ {A = ℕ} 0 1 = cc in absurd (omega arith)
 first-is n pass (x ∷ os) o e = go (pass x) refl e (λ w. first-is n pass os o w)
   where
-    go : (t : Bool) → pass x ≡ t → pick t (accepted x) (firstOf n pass os) ≡ accepted o → (firstOf n pass os ≡ accepted o → First pass os o) → First pass (x ∷ os) o
+    go : (t : Bool) → pass x ≡ t → pick t (accepted x) (firstOf n pass os) ≡ accepted o → (firstOf n pass os ≡ accepted o → FirstFound pass os o) → FirstFound pass (x ∷ os) o
     go true w e ih = let z : x ≡ o = cc in record { there = rw w; payload = rw (w, z) }
     go false w e ih = let r = ih e in record { there = rw w (r .there); payload = rw w (r .payload) }
 
@@ -108,9 +108,9 @@ outgoing none s = s
 outgoing (some new) s = new
 
 -- a new payload can be written
-abbrev pub Short : Option (List ℕ) → Type 0
-Short none = Unit
-Short (some new) = length new < 2 ^ 56
+abbrev pub ShortPayload : Option (List ℕ) → Type 0
+ShortPayload none = Unit
+ShortPayload (some new) = length new < 2 ^ 56
 
 pub record Out (s : List ℕ) (os : List Obu) (v : List ℕ) : Type 0 where
   pub unit : Premise s v
@@ -140,7 +140,7 @@ module _ (s u v : List ℕ) (w : Premise s u) where
         header = has-renewed new os;
       })
 
-  pub goes-out : (new : Option (List ℕ)) → Short new → length u < 2 ^ 56 → sent new u ≡ accepted v → Out (outgoing new s) (w .held) v
+  pub goes-out : (new : Option (List ℕ)) → ShortPayload new → length u < 2 ^ 56 → sent new u ≡ accepted v → Out (outgoing new s) (w .held) v
   unfolding sent andNext
   goes-out none n l e = copied s (w .same) (cc)
   goes-out (some new) n l e = go (has isSequence (w .held)) refl (rw (w .written .reads) at e)
