@@ -8,8 +8,8 @@ use listing::file::FileAnswer;
 use listing::file::read_file;
 use listing::text::put_bad_file;
 use listing::text::put_refused;
-use text::end_of;
 use text::flush;
+use text::put_end;
 
 fn main() {
     // one byte more than a file may have, so that a longer one is seen
@@ -25,11 +25,11 @@ fn main() {
             play(&file[start..end], &numbers[0..count], layout, &mut text);
         }
         FileAnswer::Bad => {
-            let end = end_of(put_bad_file(&mut text));
+            let end = put_end(put_bad_file(&mut text));
             flush(&text, end);
         }
         FileAnswer::Full => {
-            let end = end_of(put_refused(&mut text, 35));
+            let end = put_end(put_refused(&mut text, 35));
             flush(&text, end);
         }
     }

@@ -71,7 +71,7 @@ fn put_positions(text: &mut [u8], at: usize, cue: u32, shown: &[u64]) -> usize
 }
 
 // The end of what was put.
-pub(crate) fn end_of(put: Put) -> usize {
+pub(crate) fn put_end(put: Put) -> usize {
     match put {
         Put::Next(end) => end,
         Put::Full => 0,
@@ -82,8 +82,8 @@ pub(crate) fn end_of(put: Put) -> usize {
 fn put_refusal(text: &mut [u8], walked: Walked) -> usize {
     match walked {
         Walked::Positions(n) => 0,
-        Walked::Refused(k) => end_of(put_refused(text, k)),
-        Walked::RefusedIn(k, i) => end_of(put_refused_in(text, k, i)),
+        Walked::Refused(k) => put_end(put_refused(text, k)),
+        Walked::RefusedIn(k, i) => put_end(put_refused_in(text, k, i)),
     }
 }
 

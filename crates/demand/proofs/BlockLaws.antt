@@ -1,4 +1,4 @@
--- Segments one behind the other are laid, whatever their blocks, and so are today's.
+-- The entries of segments one behind the other are `Following`, whatever their blocks, and so are today's.
 use Prim.Native.Nat.{ℕ, zero, suc, _+_, _-_, _≤_, _<_, min}
 use native.Mathlib.Omega.{arith}
 use mathlib.Core.Path.{_≡_, refl, ap, subst, _∙_}
@@ -94,9 +94,9 @@ ordered-stacked i [] nothing b = tt
 ordered-stacked i (ks ∷ kss) (also p ps) b =
     ordered-map i ks none b (stacked (suc i) kss) (λ k e. let z : _≡_ {A = ℕ} 0 1 = cc in absurd (omega arith)) p (ordered-stacked (suc i) kss ps)
 
--- segments of proper units are laid
-pub laid-stacked : (kss : List (List Kind)) → Every (proper none) kss → Following (lengths kss) (stacked 0 kss)
-laid-stacked kss ps =
+-- where each segment's units are proper, all entries are
+pub following-stacked : (kss : List (List Kind)) → Every (proper none) kss → Following (lengths kss) (stacked 0 kss)
+following-stacked kss ps =
     let n = length-stacked 0 kss in
     record {
       within = omega arith;
@@ -145,4 +145,4 @@ layout-stacked gop i (n ∷ ns) = rw (layout-stacked gop (suc i) ns)
 pub following-layout : (gop : ℕ) (ns : List ℕ) → 1 ≤ gop → Following ns (layout gop 0 ns)
 following-layout gop ns g =
     subst (λ (l : List ℕ). Following l (layout gop 0 ns)) (lengths-kinds gop ns g)
-    (rw (layout-stacked gop 0 ns) (laid-stacked (map (kinds gop) ns) (proper-kinds gop ns)))
+    (rw (layout-stacked gop 0 ns) (following-stacked (map (kinds gop) ns) (proper-kinds gop ns)))

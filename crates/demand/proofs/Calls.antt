@@ -53,13 +53,10 @@ refused-so st p u n e = go (play (stateSays st) p u) e
 left-so : (s : State) (st : CodeState) → s ≡ stateSays st → (p : ℕ) (u : List ℕ) → leaves s (play s p u) ≡ stateSays (playedBy st p u .state)
 left-so s st i p u = ap (λ (t : State). leaves t (play t p u)) i ∙ sym (leaves-so st p u)
 
-course-from : (s : State) {st : CodeState} {p : ℕ} {us : List (List ℕ)} → s ≡ stateSays st → Calls st p us → Course s p us
-course-from s i over = done
-course-from s i (call {st} {p} {u} k) = plays (course-from _ (left-so s st i p u) k)
-course-from s i (other {st} q v n e k) = let r : play s q v ≡ refused n = ap (λ (t : State). play t q v) i ∙ refused-so st q v n e in noise {st = s} q v n (cc) (course-from _ (left-so s st i q v) k)
-
-pub course-of : {st : CodeState} {p : ℕ} {us : List (List ℕ)} → Calls st p us → Course (stateSays st) p us
-course-of {st} calls = course-from (stateSays st) refl calls
+pub course-of : (s : State) {st : CodeState} {p : ℕ} {us : List (List ℕ)} → s ≡ stateSays st → Calls st p us → Course s p us
+course-of s i over = done
+course-of s i (call {st} {p} {u} k) = plays (course-of _ (left-so s st i p u) k)
+course-of s i (other {st} q v n e k) = let r : play s q v ≡ refused n = ap (λ (t : State). play t q v) i ∙ refused-so st q v n e in noise {st = s} q v n (cc) (course-of _ (left-so s st i q v) k)
 
 -- ---- what the calls answer
 
@@ -77,8 +74,8 @@ module _ (set : Settings) (q : Sequence) (xs : List Segment) (us : List (List �
 
   each-right : (s : State) {st : CodeState} {p : ℕ} {vs : List (List ℕ)} (i : s ≡ stateSays st) (calls : Calls st p vs)
       → ((j : ℕ) → j < length vs → getD vs j [] ≡ unitAt us (p + j))
-      → Throughout (λ p st. PlaysRight set q xs us cue p st) (course-from s i calls) → EachCall (λ p st u. AnswersRight set q xs us cue p st u) calls
-  unfolding course-from Throughout EachCall
+      → Throughout (λ p st. PlaysRight set q xs us cue p st) (course-of s i calls) → EachCall (λ p st u. AnswersRight set q xs us cue p st u) calls
+  unfolding course-of Throughout EachCall
   each-right s i over units t = tt
   each-right s i (call {st} {p} {u} {us = vs} k) units t = (
     answers-right st u (units 0 (omega arith) ∙ ap (unitAt us) (omega arith)) (subst (λ (s : State). PlaysRight set q xs us cue p s) i (t .0)),
@@ -91,7 +88,7 @@ pub called : {set : Settings} {xs : List Segment} {es : List Entry} {n : ℕ} {g
     → (calls : Calls startState cue (drop (cue - 1) us)) → EachCall (λ p st u. AnswersRight set (d .header) xs us cue p st u) calls
 called {set} {xs} d us w cue m calls =
     let (lo, hi, k) = d .exactly cue .0 m in
-    each-right set (d .header) xs us cue start refl calls (λ j h. getD-drop (cue - 1) us j [] ∙ ap (λ (i : ℕ). getD us i []) (omega arith)) (d .played us w cue m (course-from start refl calls))
+    each-right set (d .header) xs us cue start refl calls (λ j h. getD-drop (cue - 1) us j [] ∙ ap (λ (i : ℕ). getD us i []) (omega arith)) (d .played us w cue m (course-of start refl calls))
 
 -- ---- what the running code hands out: `shownBy`
 

@@ -249,11 +249,12 @@ demandedTimed =
 abbrev kindsIn : ℕ → List (List (Answer Kind)) → List (Answer Kind)
 kindsIn i l = getD l i []
 
--- Written as a stream or as Annex B, with any room, read back and played from a cue on, the lists show these positions,
--- whatever refused units are played before and between them.
-pub numbers : (map (shownAt kindsKG) (1 ∷ 2 ∷ 3 ∷ 4 ∷ 5 ∷ []) ∷ map (shownAt kindsTwo) (1 ∷ 2 ∷ 3 ∷ 4 ∷ 5 ∷ 6 ∷ 7 ∷ []) ∷ []) ≡ (1 ∷ 2 ∷ 2 ∷ 2 ∷ 5 ∷ []) ∷ (1 ∷ 2 ∷ 2 ∷ 2 ∷ 5 ∷ 6 ∷ 6 ∷ []) ∷ []
-numbers = refl
+-- the positions that the lists' kinds have shown
+pub shown-positions : (map (shownAt kindsKG) (1 ∷ 2 ∷ 3 ∷ 4 ∷ 5 ∷ []) ∷ map (shownAt kindsTwo) (1 ∷ 2 ∷ 3 ∷ 4 ∷ 5 ∷ 6 ∷ 7 ∷ []) ∷ []) ≡ (1 ∷ 2 ∷ 2 ∷ 2 ∷ 5 ∷ []) ∷ (1 ∷ 2 ∷ 2 ∷ 2 ∷ 5 ∷ 6 ∷ 6 ∷ []) ∷ []
+shown-positions = refl
 
+-- Written as a stream or as Annex B, with any room, read back and played from a cue on, the lists show those positions,
+-- whatever refused units are played before and between them: document 01's own list, and the one of two segments.
 pub shownKG : (us : List (List ℕ)) → ReadBack (unitsOf outputKG) us → (cue : ℕ) → List·Memᴰ cue (1 ∷ 5 ∷ []) → (course : Course start cue (drop (cue - 1) us)) → Throughout (Shows kindsKG us) course
 shownKG = shown-from settingsKG segmentsKG outputKG demandedKG kindsKG (ap (kindsIn 0) kinds-are)
 
@@ -266,22 +267,23 @@ shownTimed = shown-from settingsKG segmentsTimed outputTwo demandedTimed kindsTw
 
 -- ---- such units and such a course
 
-abbrev bytesOf : Answer (List ℕ) → List ℕ
-bytesOf (refused n) = []
-bytesOf (accepted bs) = bs
+abbrev acceptedBytes : Answer (List ℕ) → List ℕ
+acceptedBytes (refused n) = []
+acceptedBytes (accepted bs) = bs
 
 -- with room for 96 bytes and seven ends either container carries the list's own
-abbrev Carried : Container → Type 0
-Carried c = (write c (record { bytes = 96; ends = 7 }) (unitsOf outputTwo) ≡ accepted (bytesOf (write c (record { bytes = 96; ends = 7 }) (unitsOf outputTwo))))
-    × (read c (record { bytes = 96; ends = 7 }) (bytesOf (write c (record { bytes = 96; ends = 7 }) (unitsOf outputTwo))) ≡ accepted (unitsOf outputTwo))
+abbrev CarriedOwn : Container → Type 0
+CarriedOwn c = (write c (record { bytes = 96; ends = 7 }) (unitsOf outputTwo) ≡ accepted (acceptedBytes (write c (record { bytes = 96; ends = 7 }) (unitsOf outputTwo))))
+    × (read c (record { bytes = 96; ends = 7 }) (acceptedBytes (write c (record { bytes = 96; ends = 7 }) (unitsOf outputTwo))) ≡ accepted (unitsOf outputTwo))
 
-carried-both : (Carried stream) × (Carried annexb)
+carried-both : (CarriedOwn stream) × (CarriedOwn annexb)
 unfolding many manyF lebRead readLeb sized lebWrite lebBytes framed passes headObuOf obusOf obuBytes unitBytes flatMap isType count part named unitsOf cut group others join behind joined units streamUnits flat streamBytes innerObu lengthObu frameUnit temporalUnit annexbUnits annexbUnit annexbBytes read write
 carried-both = ((refl, refl), (refl, refl))
 
-carries : (c : Container) → Carried c → ReadBack (unitsOf outputTwo) (unitsOf outputTwo)
+carries : (c : Container) → CarriedOwn c → ReadBack (unitsOf outputTwo) (unitsOf outputTwo)
 carries c w = record { container = c; room = record { bytes = 96; ends = 7 }; bytes = _; written = w .0; room′ = record { bytes = 96; ends = 7 }; readBack = w .1 }
 
+-- so the claim on what is read back has an instance in each
 pub in-stream : ReadBack (unitsOf outputTwo) (unitsOf outputTwo)
 in-stream = carries stream (carried-both .0)
 
@@ -316,5 +318,6 @@ noisy =
     (noise {st = rekeyed} 7 (showUnit 5) 38 refl
     (plays (plays done)))))))))))
 
+-- and shows each position's golden or itself all the same
 pub shown-noisy : Throughout (Shows kindsTwo (unitsOf outputTwo)) noisy
 shown-noisy = shownTwo (unitsOf outputTwo) in-annexb 1 (List·Memᴰ·head refl) noisy

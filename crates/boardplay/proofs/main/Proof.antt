@@ -4,7 +4,6 @@ use native.Mathlib.Omega.{arith}
 use mathlib.Core.Path.{sym, ap, _∙_}
 use Rattle.listing.specs.Says.{fileSays}
 use Rattle.listing.proofs.FileLaws.{layout-fits}
-use borrow.Author.Needs.{needs}
 use Rattle.boardplay.proofs.main.Statement.{statement}
 use Rattle.boardplay.proofs.main.Tie as tie
 

@@ -4,7 +4,6 @@ use native.Mathlib.Omega.{arith}
 use mathlib.Core.List.{[], _∷_}
 use Rattle.listing.proofs.DecimalLaws.{decimal-most}
 use Rattle.listing.proofs.TextLaws.{length-counted}
-use borrow.Author.Needs.{needs}
 use Rattle.boardplay.proofs.text.put_cue.Statement.{statement}
 use Rattle.boardplay.proofs.text.put_cue.Tie as tie
 

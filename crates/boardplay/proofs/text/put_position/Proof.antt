@@ -5,7 +5,6 @@ use Prim.Native.Nat.{_-_}
 use mathlib.Core.List.{[], _∷_}
 use Rattle.listing.proofs.DecimalLaws.{decimal-most}
 use Rattle.listing.proofs.TextLaws.{length-field, length-counted}
-use borrow.Author.Needs.{needs}
 use Rattle.boardplay.proofs.text.put_position.Statement.{statement}
 use Rattle.boardplay.proofs.text.put_position.Tie as tie
 
