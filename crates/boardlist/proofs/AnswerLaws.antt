@@ -21,7 +21,7 @@ use Rattle.listing.specs.File.{FileReading, bad, full, read, fileNumbers, readI
 use Rattle.listing.specs.Text.{refusedText, refusedInText, badFile}
 use Rattle.listing.specs.declared.file.Layout.{Layout}
 use Rattle.listing.proofs.FileLaws.{read-is}
-use Rattle.boardlist.specs.Printed.{textOf, between, madeText, CountsFit, Texted, settingsOf, printedOf, printed, leftOf, left}
+use Rattle.boardlist.specs.Printed.{textOf, between, madeText, CountsFit, Texted, settingsOf, printedOf, printed, slicesAfterOf, slicesAfter}
 use Rattle.boardlist.proofs.MadeLaws.{roomIn}
 
 -- the same text by another name
@@ -82,25 +82,25 @@ refused-in-is x k i e = ap textOf (sym (stopped-is x k (some i) e))
 -- ---- a file's answers
 
 module _ (s numbers : List ℕ) (d : Lent) where
-  abbrev text : List ℕ
-  text = printed s numbers d
+  abbrev fileText : List ℕ
+  fileText = printed s numbers d
 
-  pub bad-is : bad ≡ readInto numbers s → badFile ≡ text
+  pub bad-is : bad ≡ readInto numbers s → badFile ≡ fileText
   unfolding printed
   bad-is e = ap (λ (r : FileReading). printedOf r s d) e
 
-  pub full-is : full ≡ readInto numbers s → refusedText 35 ≡ text
+  pub full-is : full ≡ readInto numbers s → refusedText 35 ≡ fileText
   unfolding printed
   full-is e = ap (λ (r : FileReading). printedOf r s d) e
 
   -- nothing is lent on
-  pub bad-left : bad ≡ readInto numbers s → d ≡ left s numbers d
-  unfolding left
-  bad-left e = ap (λ (r : FileReading). leftOf r s d) e
+  pub bad-left : bad ≡ readInto numbers s → d ≡ slicesAfter s numbers d
+  unfolding slicesAfter
+  bad-left e = ap (λ (r : FileReading). slicesAfterOf r s d) e
 
-  pub full-left : full ≡ readInto numbers s → d ≡ left s numbers d
-  unfolding left
-  full-left e = ap (λ (r : FileReading). leftOf r s d) e
+  pub full-left : full ≡ readInto numbers s → d ≡ slicesAfter s numbers d
+  unfolding slicesAfter
+  full-left e = ap (λ (r : FileReading). slicesAfterOf r s d) e
 
   module _ (l : Layout) (numbers′ : List ℕ) (e : read l ≡ readInto numbers s) (w : numbers′ ≡ fileNumbersAfter numbers s) where
     numbers-are : between 0 (width * l .segments) numbers′ ≡ fileNumbers s
@@ -111,13 +111,13 @@ module _ (s numbers : List ℕ) (d : Lent) where
     abbrev from : List ℕ → Outcome Output
     from rs = outcome (between (l .start) (l .end) s) rs (settingsOf l) d
 
-    pub read-text : textOf (from (between 0 (width * l .segments) numbers′)) ≡ text
+    pub read-text : textOf (from (between 0 (width * l .segments) numbers′)) ≡ fileText
     unfolding printed
     read-text = ap (λ (rs : List ℕ). textOf (from rs)) numbers-are ∙ ap (λ (r : FileReading). printedOf r s d) e
 
-    pub read-left : lentAfter (from (between 0 (width * l .segments) numbers′)) d ≡ left s numbers d
-    unfolding left
-    read-left = ap (λ (rs : List ℕ). lentAfter (from rs) d) numbers-are ∙ ap (λ (r : FileReading). leftOf r s d) e
+    pub read-left : lentAfter (from (between 0 (width * l .segments) numbers′)) d ≡ slicesAfter s numbers d
+    unfolding slicesAfter
+    read-left = ap (λ (rs : List ℕ). lentAfter (from rs) d) numbers-are ∙ ap (λ (r : FileReading). slicesAfterOf r s d) e
 
 -- ---- the end of the text lies within the memory that it was put into
 

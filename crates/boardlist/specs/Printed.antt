@@ -39,13 +39,13 @@ unfoldable pub printed : (s numbers : List ℕ) → Lent → List ℕ
 printed s numbers d = printedOf (readInto numbers s) s d
 
 -- what those slices hold afterwards
-abbrev pub leftOf : FileReading → List ℕ → Lent → Lent
-leftOf bad s d = d
-leftOf full s d = d
-leftOf (read l) s d = lentAfter (outcome (between (l .start) (l .end) s) (fileNumbers s) (settingsOf l) d) d
+abbrev pub slicesAfterOf : FileReading → List ℕ → Lent → Lent
+slicesAfterOf bad s d = d
+slicesAfterOf full s d = d
+slicesAfterOf (read l) s d = lentAfter (outcome (between (l .start) (l .end) s) (fileNumbers s) (settingsOf l) d) d
 
-unfoldable pub left : (s numbers : List ℕ) → Lent → Lent
-left s numbers d = leftOf (readInto numbers s) s d
+unfoldable pub slicesAfter : (s numbers : List ℕ) → Lent → Lent
+slicesAfter s numbers d = slicesAfterOf (readInto numbers s) s d
 
 -- ---- what the inner functions are told
 
@@ -75,5 +75,5 @@ pub record Prints (x : Lent → Outcome Output) (r : Put) (out : Both (List ℕ)
 -- the text for the bytes s, the numbers read from them, and what the lent slices hold then
 pub record Answers (s : List ℕ) (r : Put) (out numbers : Both (List ℕ) (List ℕ)) (d : Both Lent Lent) : Type 0 where
   pub text : Texted (printed s (numbers .entry) (d .entry)) r out
-  pub read : numbers .exit ≡ fileNumbersAfter (numbers .entry) s
-  pub slices : d .exit ≡ left s (numbers .entry) (d .entry)
+  pub stored : numbers .exit ≡ fileNumbersAfter (numbers .entry) s
+  pub slices : d .exit ≡ slicesAfter s (numbers .entry) (d .entry)
