@@ -1,15 +1,16 @@
 // Answers the requests `stream` and `assemble` of replay's line protocol by the functions that include/magbelo.h exports to
 // C; anything else is a bad line. `room B E T ` limits the bytes, and the ends or list entries, and the cues.
-// Behind an answer stands ` dirty` where memory has changed that the answer does not account for, and ` rooms` where an
-// accepted list is not made in just the room that it fills, or is made in one element less of any slice.
-#include "../include/magbelo.h"
+// Behind an answer stands ` dirty` where memory has changed that the answer does not account for, ` rooms` where an
+// accepted list is not made in just the room that it fills, or is made in one element less of any slice, and ` structs`
+// where assembly by way of segment structs answers otherwise or leaves other bytes in any slice.
+#include "../bench/ours.h"
 
 #include <stdbool.h>
 #include <stdio.h>
 #include <stdlib.h>
 #include <string.h>
 
-enum { LINE = 65536, BYTES = 65536, SLOTS = 32768, GUARD = 64, MARK = 0xA5 };
+enum { LINE = 65536, BYTES = 65536, SLOTS = 32768, GUARD = 64, MARK = 0xA5, STRUCTS = 64 };
 
 struct word {
     const char *at;
@@ -141,11 +142,15 @@ struct called {
     uint64_t slot, answer;
 };
 
+static void lend_all(struct called *c, const size_t room[LENT]) {
+    static const size_t size[LENT] = {4, 4, 1, 4, 1, 1};
+    for (int i = 0; i < LENT; i++) lend(&c->lent[i], size[i], room[i]);
+}
+
 // Calls assembly with so much room in each slice.
 static void call(const struct order *o, struct called *c, const size_t room[LENT]) {
-    static const size_t size[LENT] = {4, 4, 1, 4, 1, 1};
     struct lent *l = c->lent;
-    for (int i = 0; i < LENT; i++) lend(&l[i], size[i], room[i]);
+    lend_all(c, room);
     c->units = c->cues = c->picture = c->header = 77;
     c->slot = 88;
     c->answer = magbelo_assemble(data, o->bytes, segments, 5 * o->count, o->gop, (uint32_t)o->fps, (uint32_t)o->den,
@@ -153,6 +158,22 @@ static void call(const struct order *o, struct called *c, const size_t room[LENT
                                  l[PICTURES].at, l[PICTURES].room, (uint32_t *)l[ENDS].at, l[ENDS].room, l[SHOWS].at,
                                  l[SHOWS].room, l[HEADER].at, l[HEADER].room, &c->units, &c->cues, &c->picture,
                                  &c->header, &c->slot);
+}
+
+// Whether the same order by way of segment structs is answered in the same way, to the last byte of each slice. More boards
+// than it takes are an answer of its own, and change nothing.
+static bool same_by_structs(const struct order *o, const struct called *c, const size_t room[LENT]) {
+    static struct called other;
+    struct lent *l = other.lent;
+    lend_all(&other, room);
+    uint64_t answer = bench_assemble_segments(
+        data, o->bytes, segments, 5 * o->count, o->gop, (uint32_t)o->fps, (uint32_t)o->den, (uint32_t *)l[LIST].at,
+        l[LIST].room, (uint32_t *)l[CUES].at, l[CUES].room, l[PICTURES].at, l[PICTURES].room, (uint32_t *)l[ENDS].at,
+        l[ENDS].room, l[SHOWS].at, l[SHOWS].room, l[HEADER].at, l[HEADER].room);
+    bool fits = o->count <= STRUCTS, same = answer == (fits ? c->answer : UINT32_MAX);
+    for (int i = 0; i < LENT; i++)
+        same = same && (fits ? !memcmp(l[i].at, c->lent[i].at, l[i].size * l[i].room + GUARD) : untouched(&l[i], 0));
+    return same;
 }
 
 // How many elements of each slice an answer fills.
@@ -240,6 +261,7 @@ static bool assemble(const struct word *w, size_t n, struct rooms r) {
     else printf("no %u", (uint32_t)made.answer);
     if (made.answer >> 32) printf(" %llu", (unsigned long long)(made.answer >> 32) - 1);
     fputs(clean ? "" : " dirty", stdout);
+    fputs(same_by_structs(&o, &made, room) ? "" : " structs", stdout);
     puts(made.answer || needs_its_room(&o, &made) ? "" : " rooms");
     return true;
 }

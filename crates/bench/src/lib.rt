@@ -1,4 +1,6 @@
-// What bench/ measures, exported to C.
+// What bench/ measures and oracle/ compares, exported to C.
+mod boards;
+
 ghost use mathlib.Core.Path.{_≡_};
 ghost use mathlib.Core.Bool.{cond as pick};
 ghost use lib.ListN.{length};
@@ -9,10 +11,15 @@ ghost use Rattle.container.specs.Units.{sizesOf, bytesAfter, endsAfter, countOf
 ghost use Rattle.container.specs.Container.{stream, annexb, read, writeAt};
 ghost use Rattle.packets.specs.Packets.{canonicalAt};
 ghost use Rattle.packets.specs.PacketLists.{bytesOf, lentRoom, mergedAt, timesAfter};
+ghost use Rattle.assemble.specs.Whole.{six};
+ghost use Rattle.bench.specs.Boards.{boardsOutcome, Told};
 ghost use Rattle.bench.specs.Counts.{unitsOrNone, bytesOrNone};
+use assemble::multi::Assembled;
+use boards::assemble_numbers;
 use container::units::ByteCount;
 use container::units::Split;
 use packets::packets::Merged;
+use pictures::settings::Settings;
 
 // The copy that every writer makes: src to the front of out, or nothing and 0 if it has no room.
 #[no_mangle]
@@ -100,5 +107,47 @@ pub extern "C" fn bench_canonicalize_tu(unit: &[u8], out: &mut [u8]) -> usize
     match packets::packets::canonicalize_tu(unit, out) {
         ByteCount::Refused(_) => 0,
         ByteCount::Bytes(n) => n,
+    }
+}
+
+// Assembly by way of segment structs, at most 64: answered as magbelo_assemble does, or 4294967295 where the numbers are
+// no five a segment, or of more segments.
+#[no_mangle]
+pub extern "C" fn bench_assemble_segments(
+    picture: &[u8],
+    segments: &[u64],
+    gop_size: u64,
+    fps: u32,
+    fps_den: u32,
+    list: &mut [u32],
+    cues: &mut [u32],
+    pictures: &mut [u8],
+    ends: &mut [u32],
+    shows: &mut [u8],
+    header: &mut [u8],
+) -> u64
+    ensures { λ r. ⌜ Told (boardsOutcome (now (picture .entry)) (now (segments .entry)) (record { gop = «gop_size»; fps = fps; den = «fps_den» })) r (record {
+      entry = six (list .entry) (cues .entry) (pictures .entry) (ends .entry) (shows .entry) (header .entry);
+      exit = six (list .exit) (cues .exit) (pictures .exit) (ends .exit) (shows .exit) (header .exit);
+    }) ⌝ }
+{
+    match assemble_numbers(
+        picture,
+        segments,
+        Settings {
+            gop: gop_size,
+            fps: fps,
+            den: fps_den,
+        },
+        list,
+        cues,
+        pictures,
+        ends,
+        shows,
+        header,
+    ) {
+        Assembled::Refused(k) => k as u64,
+        Assembled::RefusedIn(k, i) => k as u64 + (i as u64 % 4294967295 + 1) * 4294967296,
+        Assembled::Made(_) => 0,
     }
 }

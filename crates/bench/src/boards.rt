@@ -1,0 +1,137 @@
+// Assembly by way of the entry on segment structs, for comparisons: flat numbers are put into a local array of structs,
+// whose front is lent. A caller that lends a slice of structs is proved by hand, so that assemble_boards does no more.
+ghost use mathlib.Core.Path.{_≡_};
+ghost use Prim.Native.Nat.{_≤_, _<_};
+ghost use lib.ListN.{take};
+ghost use Rattle.blocks.specs.Numbers.{segmentCount, recordAt};
+ghost use Rattle.assemble.specs.Whole.{six, Handed};
+ghost use Rattle.assemble.specs.Records.{numbersAfter, recordsOutcome};
+ghost use Rattle.bench.specs.Boards.{boardOf, boardsIn, boardsOutcome};
+use assemble::multi::Assembled;
+use assemble::segments::Segment;
+use assemble::segments::assemble_segments;
+use blocks::numbers::WIDTH;
+use blocks::numbers::is_whole;
+use blocks::numbers::segment_count;
+use pictures::settings::Settings;
+
+// As many boards as the array has.
+const BOARDS: usize = 64;
+
+const NUMBERS: usize = WIDTH * BOARDS;
+
+// No refusal of document 01: the numbers are no five a segment, or of more segments than the array has.
+const UNFIT: u32 = 0xffff_ffff;
+
+// The segment of record i.
+fn board_of(segments: &[u64], i: usize) -> Segment
+    requires { ⌜ i < segmentCount (now segments) ⌝ }
+    ensures { λ r. ⌜ r ≡ boardOf (recordAt (now (segments .entry)) i) ⌝ }
+{
+    let at = WIDTH * i;
+    Segment {
+        key_start: segments[at],
+        key_end: segments[at + 1],
+        golden_start: segments[at + 2],
+        golden_end: segments[at + 3],
+        frames: segments[at + 4],
+    }
+}
+
+// The segments of all records, and empty ones behind them.
+fn boards_of(segments: &[u64]) -> [Segment; BOARDS]
+    requires { ⌜ segmentCount (now segments) ≤ 64 ⌝ }
+    ensures { λ r. ⌜ r ≡ boardsIn (now (segments .entry)) ⌝ }
+{
+    let none = Segment {
+        key_start: 0,
+        key_end: 0,
+        golden_start: 0,
+        golden_end: 0,
+        frames: 0,
+    };
+    let mut boards = [none; BOARDS];
+    let count = segment_count(segments);
+    let mut i: usize = 0;
+    while i < count {
+        boards[i] = board_of(segments, i);
+        i += 1;
+    }
+    boards
+}
+
+// The first of the boards, so many, lent as a slice.
+fn assemble_boards(
+    picture: &[u8],
+    boards: [Segment; BOARDS],
+    count: usize,
+    numbers: &mut [u64],
+    settings: Settings,
+    list: &mut [u32],
+    cues: &mut [u32],
+    pictures: &mut [u8],
+    ends: &mut [u32],
+    shows: &mut [u8],
+    header: &mut [u8],
+) -> Assembled
+    requires { ⌜ count ≤ 64 ⌝ }
+    ensures handed { λ r. ⌜ Handed (recordsOutcome (now (picture .entry)) (take count boards) (now (numbers .entry)) settings) r (record {
+      entry = six (list .entry) (cues .entry) (pictures .entry) (ends .entry) (shows .entry) (header .entry);
+      exit = six (list .exit) (cues .exit) (pictures .exit) (ends .exit) (shows .exit) (header .exit);
+    }) ⌝ }
+    ensures numbers { λ _. ⌜ now (numbers .exit) ≡ numbersAfter (take count boards) (now (numbers .entry)) ⌝ }
+{
+    assemble_segments(
+        picture,
+        &boards[..count],
+        numbers,
+        settings,
+        list,
+        cues,
+        pictures,
+        ends,
+        shows,
+        header,
+    )
+}
+
+// Assembly from flat numbers, by way of structs.
+pub fn assemble_numbers(
+    picture: &[u8],
+    segments: &[u64],
+    settings: Settings,
+    list: &mut [u32],
+    cues: &mut [u32],
+    pictures: &mut [u8],
+    ends: &mut [u32],
+    shows: &mut [u8],
+    header: &mut [u8],
+) -> Assembled
+    ensures { λ r. ⌜ Handed (boardsOutcome (now (picture .entry)) (now (segments .entry)) settings) r (record {
+      entry = six (list .entry) (cues .entry) (pictures .entry) (ends .entry) (shows .entry) (header .entry);
+      exit = six (list .exit) (cues .exit) (pictures .exit) (ends .exit) (shows .exit) (header .exit);
+    }) ⌝ }
+{
+    let count = segment_count(segments);
+    if count > BOARDS {
+        return Assembled::Refused(UNFIT);
+    }
+    if !is_whole(segments) {
+        return Assembled::Refused(UNFIT);
+    }
+    let boards = boards_of(segments);
+    let mut numbers = [0u64; NUMBERS];
+    assemble_boards(
+        picture,
+        boards,
+        count,
+        &mut numbers,
+        settings,
+        list,
+        cues,
+        pictures,
+        ends,
+        shows,
+        header,
+    )
+}
