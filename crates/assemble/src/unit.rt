@@ -3,27 +3,9 @@ ghost use mathlib.Core.Path.{_≡_};
 ghost use mathlib.Core.List.{_∷_};
 ghost use lib.ListN.{getD};
 ghost use Rattle.pictures.specs.Assemble.{named};
+use bitio::ends::end_of;
+use bitio::ends::start_of;
 use obu::reader::payload;
-
-// Where picture unit i ends; 0 where there is none.
-fn end_of(ends: &[u32], i: usize) -> usize
-    ensures { λ r. ⌜ r ≡ getD (now (ends .entry)) i 0 ⌝ }
-{
-    if i < ends.len() {
-        return ends[i] as usize;
-    }
-    0
-}
-
-// Where picture unit i starts: where the one before it ends, the first at 0.
-fn start_of(ends: &[u32], i: usize) -> usize
-    ensures { λ r. ⌜ r ≡ getD (0 ∷ now (ends .entry)) i 0 ⌝ }
-{
-    if i == 0 {
-        return 0;
-    }
-    end_of(ends, i - 1)
-}
 
 // The unit of an entry, segment * 4 + kind: of the picture bytes for a key (0) or a golden (1), of the show bytes for a
 // show (2). Empty where the entry names none, or its bytes are not there.

@@ -10,7 +10,7 @@ use Rattle.header.specs.Sequence.{Sequence, parseSequence}
 use Rattle.header.specs.Support.{support}
 use Rattle.emit.specs.Emit.{sequenceBytes}
 use Rattle.emittable.specs.Emittable.{emittable}
-use Rattle.frame.specs.Frame.{keyFrame, parseFrame}
+use Rattle.frame.specs.Frame.{keyFrame, parseFrame, showByte}
 use Rattle.frame.specs.declared.frame_header.FrameInfo.{FrameInfo}
 use Rattle.frame.specs.declared.frame_header.FrameHeaderInfo.the-variants.{Existing, Frame}
 use Rattle.header.proofs.TimedLaws.{supports, timed-of, timed-supported}
@@ -18,7 +18,7 @@ use Rattle.emit.proofs.EmitLaws.{parse-emittable, payload-length}
 use Rattle.emit.proofs.TimedEmitLaws.{timed-emittable, timed-back as timed-read}
 use Rattle.frame.proofs.FrameLaws.{flags-lt, shown-showable as showable}
 use Rattle.frame.proofs.FrameShowLaws.{supported-show}
-use Rattle.pictures.specs.Prepare.{timedSequence, showByte}
+use Rattle.pictures.specs.Prepare.{timedSequence}
 use Rattle.pictures.specs.declared.settings.Settings.{Settings}
 use Rattle.demand.specs.Premises.{InFields}
 

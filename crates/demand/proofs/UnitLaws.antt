@@ -18,7 +18,8 @@ use Rattle.obu.specs.declared.unit.Kind.the-variants.{TemporalDelimiter, Frame 
 use Rattle.obu.proofs.ObuLaws.{Allowed, obus-allowed, unit-written}
 use Rattle.container.proofs.StreamLaws.{leads}
 use Rattle.container.proofs.RoundTrip.{Whole}
-use Rattle.pictures.specs.Prepare.{isSequence, firstOf, renewed, sent, showByte, showUnit}
+use Rattle.frame.specs.Frame.{showByte}
+use Rattle.pictures.specs.Prepare.{isSequence, firstOf, renewed, sent, showUnit}
 use Rattle.demand.specs.Premises.{Delimited, SequenceIs, Premise}
 
 -- ---- the first OBU of a kind

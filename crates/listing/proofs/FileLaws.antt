@@ -9,6 +9,7 @@ use lib.ListN.{length}
 use lib.Dec.{leb, eqb}
 use borrow.Author.Tests.{le-leb, lt-leb, eq-eqb, ne-eqb, leb-true, eqb-true}
 use Rattle.bitio.specs.Lent.{pasted, hasRoom}
+use Rattle.bitio.proofs.ParseLaws.{and-both}
 use Rattle.bitio.proofs.LentLaws.{pasted-length, lent-room, lent-full}
 use Rattle.blocks.specs.Numbers.{width}
 use Rattle.listing.specs.declared.file.Layout.{Layout}
@@ -134,10 +135,6 @@ pub counts-is : (s : List ℕ) {p n : ℕ} → p ≡ pictureCount s → n ≡ u3
 counts-is s e f = f ∙ ap (λ (k : ℕ). u32At s (4 + k)) e
 
 -- ---- what a layout tells
-
-and-both : (a b : Bool) → (a && b) ≡ true → (a ≡ true) × (b ≡ true)
-and-both true b e = (refl, e)
-and-both false b e = let z : _≡_ {A = ℕ} 0 1 = cc in absurd (omega arith)
 
 pub record FileIs (s : List ℕ) (l : Layout) : Type 0 where
   pub is : isFile s ≡ true

@@ -9,12 +9,11 @@ use lib.ListN.{length, getD, drop, length-append, drop-of-length-le, List·getD-
 use lib.Seq.{drop-cons}
 use lib.Dec.{leb}
 use borrow.Author.Tests.{le-leb, lt-leb, eq-eqb, ne-eqb, leb-true, leb-false, not-true, not-false}
-use Rattle.bitio.specs.Lent.{pasted}
-use Rattle.bitio.proofs.LentLaws.{pasted-nil, pasted-more}
+use Rattle.bitio.specs.Lent.{pasted, Wrote}
+use Rattle.bitio.proofs.LentLaws.{pasted-nil, pasted-more, wrote-length, wrote-more}
 use Rattle.pictures.specs.Assemble.{named}
-use Rattle.listing.specs.Decimal.{decimal, field, counted, Wrote}
+use Rattle.listing.specs.Decimal.{decimal, field, counted}
 use Rattle.listing.specs.Text.{letter, slotIn, slotField, line, lines, unitsWord, cuesWord, listing}
-use Rattle.listing.proofs.WroteLaws.{wrote-length, wrote-more}
 
 -- ---- kind and slot
 

@@ -6,9 +6,8 @@ use mathlib.Core.List.{List, [], _∷_, _++_, append-assoc}
 use lib.ListN.{length, take, drop, set, length-append}
 use lib.Seq.{length-take-le, take-set-le, drop-at, set-split}
 use Rattle.bitio.specs.Parse.{accepted}
-use Rattle.bitio.specs.Lent.{pasted, placed, lent}
-use Rattle.bitio.proofs.LentLaws.{pasted-one, pasted-more, pasted-length, pasted-set, placed-room, lent-room}
-use Rattle.listing.specs.Decimal.{Wrote}
+use Rattle.bitio.specs.Lent.{pasted, Wrote, placed, lent}
+use Rattle.bitio.proofs.LentLaws.{pasted-one, pasted-set, placed-room, lent-room}
 
 -- what a store behind xs, made before xs, comes to
 pub pasted-behind : (d : List ℕ) (w : ℕ) (xs : List ℕ) (i a : ℕ) → i ≡ w + length xs → i < length d → pasted (set d i a) w xs ≡ pasted d w (xs ++ (a ∷ []))
@@ -23,18 +22,6 @@ pasted-behind d w xs i a e h =
     ∙ ap (λ (k : ℕ). take w d ++ ((xs ++ (a ∷ [])) ++ drop k d)) (sym n)
 
 module _ {d d′ : List ℕ} {at r : ℕ} {xs : List ℕ} (w : Wrote d at xs r d′) where
-  -- the length stays
-  pub wrote-length : at + length xs ≤ length d → length d′ ≡ length d
-  wrote-length h = ap length (w .out) ∙ pasted-length d at xs h
-
-  -- one piece behind the other
-  pub wrote-more : at ≤ length d → {ys : List ℕ} {t : ℕ} {d″ : List ℕ} → Wrote d′ r ys t d″ → Wrote d at (xs ++ ys) t d″
-  wrote-more h {ys} v =
-      record {
-        next = omega (arith, v .next, w .next, length-append xs ys);
-        out = v .out ∙ ap₂ (λ (l : List ℕ) (k : ℕ). pasted l k ys) (w .out) (w .next) ∙ pasted-more d at xs h ys;
-      }
-
   -- a store behind it
   pub wrote-store : (a : ℕ) → at + length xs < length d → Wrote d at (xs ++ (a ∷ [])) (r + 1) (set d′ r a)
   wrote-store a h =

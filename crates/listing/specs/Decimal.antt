@@ -1,11 +1,8 @@
 -- Decimal numbers as text, in ASCII codes.
 use Prim.Native.Nat.{ℕ, zero, suc, _+_, _/_, _%_}
-use mathlib.Core.Path.{_≡_}
 use mathlib.Core.List.{List, [], _∷_, _++_}
 use mathlib.Core.Bool.{cond as pick}
-use lib.ListN.{length}
 use lib.Dec.{ltb}
-use Rattle.bitio.specs.Lent.{pasted}
 
 -- the digits of n, at most k + 1
 unfoldable pub digitsIn : ℕ → ℕ → List ℕ
@@ -23,8 +20,3 @@ field n last = decimal n ++ (last ∷ [])
 -- a word, n, and a character behind it
 abbrev pub counted : List ℕ → ℕ → ℕ → List ℕ
 counted word n last = word ++ field n last
-
--- xs was put into d at w: e is lent memory afterwards, r the place behind xs
-pub record Wrote (d : List ℕ) (w : ℕ) (xs : List ℕ) (r : ℕ) (e : List ℕ) : Type 0 where
-  pub next : r ≡ w + length xs
-  pub out : e ≡ pasted d w xs

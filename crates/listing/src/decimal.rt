@@ -2,7 +2,8 @@
 ghost use mathlib.Core.Path.{_≡_};
 ghost use Prim.Native.Nat.{_+_, _≤_};
 ghost use lib.ListN.{length};
-ghost use Rattle.listing.specs.Decimal.{decimal, field, counted, Wrote};
+ghost use Rattle.bitio.specs.Lent.{Wrote};
+ghost use Rattle.listing.specs.Decimal.{decimal, field, counted};
 use obu::writer::put_bytes;
 
 // How many digits v has.

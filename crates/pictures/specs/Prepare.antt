@@ -9,9 +9,9 @@ use Rattle.obu.specs.Obu.{Obu, obus, unitBytes}
 use Rattle.obu.specs.Unit.{isKind, has}
 use Rattle.obu.specs.declared.unit.Kind.the-variants.{SequenceHeader}
 use Rattle.header.specs.Sequence.{Sequence}
-use Rattle.header.specs.Timed.{isTimed, withTiming}
+use Rattle.header.specs.Timed.{isTimed, timedAt}
 use Rattle.emit.specs.Emit.{sequenceBytes}
-use Rattle.frame.specs.Frame.{keyFrame}
+use Rattle.frame.specs.Frame.{keyFrame, showByte}
 use Rattle.frame.specs.UnitFrame.{unitFrame}
 use Rattle.frame.specs.declared.frame_header.FrameHeaderInfo.{FrameHeaderInfo}
 use Rattle.frame.specs.declared.frame_header.FrameHeaderInfo.the-variants.{Existing, Frame}
@@ -31,7 +31,7 @@ firstOf n pass (o ∷ os) = pick (pass o) (accepted o) (firstOf n pass os)
 
 -- q timed at fps over fps_den
 abbrev pub timedSequence : Settings → Sequence → Sequence
-timedSequence set q = record { header = withTiming (set .fps) (set .den) (q .header); points = q .points }
+timedSequence set q = timedAt (set .fps) (set .den) q
 
 -- the header that goes out: timed if it was not
 abbrev pub effective : Settings → Sequence → Sequence
@@ -99,10 +99,6 @@ prepare q new x =
     asked q (x .key) (x .golden) (λ slot. accepted (record { key = k; golden = g; slot = slot }))))
 
 -- ---- show units
-
--- AV1 5.9.2 show_existing_frame 1, frame_to_show_map_idx in three bits; AV1 5.3.4 trailing_bits
-abbrev pub showByte : ℕ → ℕ
-showByte slot = 128 + 16 * slot + 8
 
 -- a delimiter, and a frame header OBU of one byte
 abbrev pub showUnit : ℕ → List ℕ

@@ -36,17 +36,6 @@ fn number_of(answer: Answer) -> u64
     }
 }
 
-// Where unit i starts: where the one before it ends, the first at 0.
-fn start_of(ends: &[u32], i: usize) -> usize
-    requires { ⌜ i ≤ length (now ends) ⌝ }
-    ensures { λ r. ⌜ r ≡ getD (0 ∷ now (ends .entry)) i 0 ⌝ }
-{
-    if i == 0 {
-        return 0;
-    }
-    ends[i - 1] as usize
-}
-
 // Unit i, played under its position, i + 1.
 fn play_at(state: State, units: &[u8], ends: &[u32], i: usize) -> Played
     requires { ⌜ i < length (now ends) ⌝ }

@@ -1,7 +1,7 @@
 use borrow.Author.Needs.{needs}
 use native.Mathlib.Omega.{arith}
 use denote.Ref.{now}
-use Rattle.listing.proofs.WroteLaws.{wrote-more}
+use Rattle.bitio.proofs.LentLaws.{wrote-more}
 use Rattle.listing.proofs.TextLaws.{length-counted, length-field}
 use Rattle.listing.proofs.decimal.put_counted.Statement.{statement}
 use Rattle.listing.proofs.decimal.put_counted.Tie as tie

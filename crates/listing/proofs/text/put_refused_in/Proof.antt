@@ -3,10 +3,10 @@ use native.Mathlib.Omega.{arith}
 use denote.Ref.{now}
 use mathlib.Core.Path.{sym}
 use lib.ListN.{length-append}
-use Rattle.bitio.proofs.LentLaws.{placed-full, lent-full}
+use Rattle.bitio.proofs.LentLaws.{placed-full, lent-full, wrote-more}
 use Rattle.listing.specs.Decimal.{counted}
 use Rattle.listing.specs.Text.{refusedWord, segmentWord, refusedInText}
-use Rattle.listing.proofs.WroteLaws.{wrote-all, wrote-more}
+use Rattle.listing.proofs.WroteLaws.{wrote-all}
 use Rattle.listing.proofs.TextLaws.{length-counted}
 use Rattle.listing.proofs.text.put_refused_in.Statement.{statement}
 use Rattle.listing.proofs.text.put_refused_in.Tie as tie
