@@ -79,7 +79,9 @@ pastOf p =
 unfoldable pub itemsText : ℕ → Told → Printed → List ℕ
 itemsText zero t p = []
 itemsText (suc k) t p =
-    pick (isPrinted (t .answer) p) [] (itemText t (openedOf (t .numbers) p) ++ itemsText k t (pastOf (openedOf (t .numbers) p)))
+    let o = openedOf (t .numbers) p in
+    let rest = itemText t o ++ itemsText k t (pastOf o) in
+    pick (isPrinted (t .answer) p) [] rest
 
 -- ---- the line
 
