@@ -16,8 +16,8 @@ use Rattle.container.specs.Stream.{flat, streamBytes}
 use Rattle.container.specs.AnnexB.{lengthObu, frameUnit, temporalUnit}
 use Rattle.bitio.specs.Limits.{limit}
 use Rattle.container.specs.Units.{endsOf}
-use Rattle.annexb.specs.Spans.{span}
-use Rattle.annexb.specs.Fill.{readOf, Filling, UnitsRoom, Filled}
+use Rattle.annexb.specs.code.Spans.{span}
+use Rattle.annexb.specs.code.Fill.{readOf, Filling, UnitsRoom, Filled}
 use Rattle.bitio.specs.Lent.{Wrote}
 use Rattle.container.proofs.StreamLaws.{bytes-flat}
 use Rattle.container.proofs.AnnexBLaws.{temporal-shrinks}

@@ -21,11 +21,11 @@ use Rattle.obu.proofs.PlaceLaws.{Placed, IsPlaced}
 use Rattle.container.specs.AnnexB.{innerBytes, annexbUnit, wrote, annexbBytes}
 use Rattle.bitio.specs.Limits.{limit}
 use Rattle.container.specs.Units.{unitsAt, countOf, outAfter}
-use Rattle.annexb.specs.Spans.{span}
-use Rattle.annexb.specs.Fill.{readOf}
+use Rattle.annexb.specs.code.Spans.{span}
+use Rattle.annexb.specs.code.Fill.{readOf}
 use Rattle.bitio.specs.Lent.{Wrote}
 use Rattle.container.specs.Lists.{accepts}
-use Rattle.annexb.specs.Join.{innerLength, framedLength, Putting, Writing}
+use Rattle.annexb.specs.code.Join.{innerLength, framedLength, Putting, Writing}
 use Rattle.annexb.proofs.SpanLaws.{span-all, ahead, Passed, passed-start, passed-next, passed-stop, passed-end}
 use Rattle.annexb.proofs.MeasureLaws.{ext-few}
 use Rattle.annexb.proofs.FillLaws.{flatMap-append, Whole}

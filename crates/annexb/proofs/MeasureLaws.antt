@@ -17,7 +17,7 @@ use Rattle.obu.proofs.LengthLaws.{obu-length}
 use Rattle.container.specs.Stream.{flat, streamBytes}
 use Rattle.container.specs.AnnexB.{lengthObu, frameUnit, temporalUnit}
 use Rattle.bitio.specs.Limits.{limit}
-use Rattle.annexb.specs.Spans.{span}
+use Rattle.annexb.specs.code.Spans.{span}
 use Rattle.container.specs.Units.{sizesOf}
 use Rattle.container.proofs.StreamLaws.{bytes-append, bytes-flat, flat-append}
 use Rattle.container.proofs.AnnexBLaws.{length-shrinks, frame-shrinks, temporal-shrinks}

@@ -18,7 +18,7 @@ use denote.Enum.Declared.{tagOf}
 use Rattle.obu.specs.Place.{Place, lies, refusalOf}
 use Rattle.obu.specs.Place.Place.{wrong as wrongObu}
 use Rattle.container.specs.AnnexB.{typed, extendedB, innerObu, lengthObu}
-use Rattle.annexb.specs.Spans.{span, wrong, spot, spotOf, placeTo, spotRefusal, partSays, innerSays}
+use Rattle.annexb.specs.code.Spans.{span, wrong, spot, spotOf, placeTo, spotRefusal, partSays, innerSays}
 use Rattle.annexb.specs.declared.annexb.part.PartAt.{PartAt}
 use Rattle.annexb.specs.declared.annexb.part.PartAt.the-variants.{Part, Refused as PartRefused}
 use Rattle.annexb.specs.declared.annexb.part.InnerAt.{InnerAt}

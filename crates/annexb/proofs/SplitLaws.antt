@@ -18,7 +18,7 @@ use Rattle.bitio.specs.Limits.{limit}
 use Rattle.container.specs.Limits.{Room, fits, fitUnits}
 use Rattle.container.specs.Container.{annexb, read}
 use Rattle.container.specs.Units.{Sizes, sizesOf, bytesAfter, endsAfter, splitSays}
-use Rattle.annexb.specs.Fill.{UnitsRoom, Filled}
+use Rattle.annexb.specs.code.Fill.{UnitsRoom, Filled}
 use Rattle.container.specs.declared.units.Split.{Split}
 use Rattle.container.specs.declared.units.Split.the-variants.{Units, Refused}
 use Rattle.container.proofs.units.Split.{the-type}

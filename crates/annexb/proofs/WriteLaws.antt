@@ -16,9 +16,9 @@ use Rattle.container.specs.Limits.{Room, fits, fitBytes}
 use Rattle.container.specs.Container.{annexb, writeAt}
 use Rattle.container.specs.Units.{unitsAt, countOf, outAfter, byteCountSays}
 use Rattle.container.proofs.ListLaws.{units-refused}
-use Rattle.annexb.specs.Fill.{readOf}
+use Rattle.annexb.specs.code.Fill.{readOf}
 use Rattle.container.specs.Lists.{accepts}
-use Rattle.annexb.specs.Join.{Writing}
+use Rattle.annexb.specs.code.Join.{Writing}
 use Rattle.container.specs.declared.units.ByteCount.{ByteCount}
 use Rattle.container.specs.declared.units.ByteCount.the-variants.{Bytes, Refused}
 use Rattle.container.proofs.units.ByteCount.{the-type}

@@ -1,3 +1,1 @@
-pub mod Spans
-pub mod Fill
-pub mod Join
+pub mod code

@@ -15,9 +15,8 @@ use Rattle.obu.proofs.LengthLaws.{obu-length}
 use Rattle.bitio.proofs.ParseLaws.{and-both}
 use Rattle.blocks.specs.Blocks.{layout, number, listOf, total}
 use Rattle.pictures.specs.Assemble.{Output, Room, fits}
-use Rattle.pictures.specs.Code.{capped}
-use Rattle.assemble.specs.Whole.{counts}
-use Rattle.assemble.specs.Stages.{headerIn, ownIn, fitsIn}
+use Rattle.pictures.specs.Flat.{capped}
+use Rattle.assemble.specs.code.Stages.{headerIn, ownIn, fitsIn}
 use Rattle.assemble.specs.declared.multi.Counts.{Counts}
 use Rattle.assemble.specs.declared.plan.Basis.{Basis}
 use Rattle.blocks.proofs.BlockLaws.{length-layout}

@@ -31,9 +31,9 @@ use Rattle.pictures.specs.Prepare.{isSequence, firstOf, timedSequence, Prepared
 use Rattle.pictures.specs.declared.settings.Settings.{Settings}
 use Rattle.pictures.specs.Assemble.{Outcome, stopped, made, andAlso, inSegment, sameHeaders, headerObu, prepareAll, pictureOf}
 use Rattle.pictures.specs.Sizes.{sizedAll, ranged}
-use Rattle.pictures.specs.Code.{allSegments, laterSegments, firstSequence, renewing, answerOr, allPrepared, capped, measured}
-use Rattle.assemble.specs.Stages.{Going, going, WasRead, fromPictures, fromTiming, fromHeader, fromKey, checked, planned, headerIn, planSays, noPlan}
-use Rattle.pictures.specs.Rewrite.{obuIn}
+use Rattle.pictures.specs.Flat.{allSegments, laterSegments, firstSequence, renewing, answerOr, allPrepared, capped, measured}
+use Rattle.assemble.specs.code.Stages.{Going, going, WasRead, fromPictures, fromTiming, fromHeader, fromKey, checked, planned, headerIn, planSays, noPlan}
+use Rattle.pictures.specs.code.Rewrite.{obuIn}
 use Rattle.assemble.specs.declared.plan.Basis.{Basis}
 use Rattle.assemble.specs.declared.plan.Planned.{Planned}
 use Rattle.assemble.specs.declared.plan.Planned.the-variants.{Refused, RefusedIn}

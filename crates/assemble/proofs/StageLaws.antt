@@ -20,8 +20,8 @@ use Rattle.pictures.specs.Prepare.{effective, renewal}
 use Rattle.pictures.specs.declared.settings.Settings.{Settings}
 use Rattle.pictures.specs.Assemble.{Outcome, stopped, made, andAlso, verdict, inSegment, overall, noneEmpty, sizes, sameHeaders, headerObu, prepareAll, pictureOf, Output, outputOf, Room, assembled, fitted, assemble}
 use Rattle.pictures.specs.Sizes.{sizedAll, ranged}
-use Rattle.pictures.specs.Code.{allSegments, laterSegments, firstSequence, capped}
-use Rattle.assemble.specs.Stages.{Going, going, fromTiming, fromHeader, fromKey, checked, planned}
+use Rattle.pictures.specs.Flat.{allSegments, laterSegments, firstSequence, capped}
+use Rattle.assemble.specs.code.Stages.{Going, going, fromTiming, fromHeader, fromKey, checked, planned}
 
 -- ---- accepted segments are those of the flat numbers
 

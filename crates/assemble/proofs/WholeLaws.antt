@@ -12,14 +12,14 @@ use Rattle.header.specs.Sequence.{Sequence, sequenceOf}
 use Rattle.header.specs.declared.seq_header.OperatingPoint.{OperatingPoint}
 use Rattle.blocks.specs.Blocks.{listOf, cuesOf}
 use Rattle.blocks.specs.Numbers.{headKey, headGolden, segmentCount, recordsFrom, framesIn}
-use Rattle.blocks.specs.Lay.{CanLayAll}
+use Rattle.blocks.specs.code.Lay.{CanLayAll}
 use Rattle.pictures.specs.Segments.{segmentIn}
 use Rattle.pictures.specs.Prepare.{Prepared, showUnit}
 use Rattle.pictures.specs.declared.settings.Settings.{Settings}
 use Rattle.pictures.specs.Assemble.{Outcome, stopped, made, andAlso, pictureOf, endsFrom, showsOf, firstSlot, Output, outputOf, Room, fits, fitted}
-use Rattle.pictures.specs.Code.{allSegments, judged, answerOr, allPrepared, allSent, slotsOf, capped}
+use Rattle.pictures.specs.Flat.{allSegments, judged, answerOr, allPrepared, allSent, slotsOf, capped}
 use Rattle.assemble.specs.Whole.{counts, countsOf, assembledSays, Lent, outcome, lentAfter, Handed}
-use Rattle.assemble.specs.Stages.{Going, planned, headerIn, newIn, basisSays, answerSays, planSays, needed, fitsIn, roomFor}
+use Rattle.assemble.specs.code.Stages.{Going, planned, headerIn, newIn, basisSays, answerSays, planSays, needed, fitsIn, roomFor}
 use Rattle.assemble.specs.declared.multi.Counts.{Counts}
 use Rattle.assemble.specs.declared.multi.Assembled.{Assembled}
 use Rattle.assemble.specs.declared.multi.Assembled.the-variants.{Made, Refused as AllRefused, RefusedIn as SegmentRefused}

@@ -1,4 +1,4 @@
 pub mod Whole
-pub mod Stages
 pub mod Records
 pub mod Examples
+pub mod code

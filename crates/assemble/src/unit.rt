@@ -1,7 +1,5 @@
 // The unit that a list entry names, lent on from where its bytes stand, never copied.
 ghost use mathlib.Core.Path.{_≡_};
-ghost use mathlib.Core.List.{_∷_};
-ghost use lib.ListN.{getD};
 ghost use Rattle.pictures.specs.Assemble.{named};
 use bitio::ends::end_of;
 use bitio::ends::start_of;

@@ -11,7 +11,7 @@ use Rattle.blocks.specs.Blocks.{Kind, code, block, nextBlock, standing, 
 use Rattle.blocks.specs.declared.blocks.Block.{Block}
 use Rattle.blocks.specs.declared.blocks.Standing.{Standing}
 use Rattle.blocks.specs.Numbers.{headFrames, segmentCount, recordsBehind, framesAt, framesIn}
-use Rattle.blocks.specs.Lay.{entriesOf, cuesFrom, blockCue}
+use Rattle.blocks.specs.code.Lay.{entriesOf, cuesFrom, blockCue}
 use Rattle.blocks.proofs.NumberLaws.{behind-start, behind-end, behind-more}
 use Rattle.blocks.proofs.BlockLaws.{length-layout}
 use Rattle.blocks.proofs.LayLaws.{cues-append, next-cue, blocks-none, next-some, next-left, blocks-more, entries-append}

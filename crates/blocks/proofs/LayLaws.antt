@@ -14,7 +14,7 @@ use Rattle.blocks.proofs.BlockLaws.{length-block}
 use Rattle.blocks.specs.Blocks.{Kind, Key, Show, code, block, nextBlock, standing, blocks, kinds, positions, isKeyEntry}
 use Rattle.blocks.specs.declared.blocks.Block.{Block}
 use Rattle.blocks.specs.declared.blocks.Standing.{Standing}
-use Rattle.blocks.specs.Lay.{entriesOf, cuesFrom, blockCue, CanLay, Laid}
+use Rattle.blocks.specs.code.Lay.{entriesOf, cuesFrom, blockCue, CanLay, Laid}
 
 -- ---- stores
 

@@ -8,7 +8,7 @@ use mathlib.Core.Bool.{false}
 use lib.ListN.{length}
 use Rattle.blocks.specs.Blocks.{kinds, number, layout, listOf}
 use Rattle.blocks.specs.Numbers.{headFrames, segmentCount, recordsBehind, framesAt, framesIn}
-use Rattle.blocks.specs.Lay.{entriesOf, CanLay, Laid, CanLayAll}
+use Rattle.blocks.specs.code.Lay.{entriesOf, CanLay, Laid, CanLayAll}
 use Rattle.blocks.proofs.NumberLaws.{behind-start, behind-end, behind-more}
 use Rattle.blocks.proofs.BlockLaws.{length-blocks}
 use Rattle.blocks.proofs.LayLaws.{length-entries, can-front, Laying, laying-start, laying-can, laying-more, laying-end}

@@ -1,3 +1,3 @@
 pub mod Numbers
 pub mod Blocks
-pub mod Lay
+pub mod code

@@ -7,7 +7,7 @@ ghost use lib.ListN.{length, replicate};
 ghost use Rattle.bitio.specs.Lent.{pasted};
 ghost use Rattle.blocks.specs.Blocks.{Show, Key, code, block, nextBlock, kinds, listOf, cuesOf, total};
 ghost use Rattle.blocks.specs.Numbers.{framesIn};
-ghost use Rattle.blocks.specs.Lay.{entriesOf, cuesFrom, blockCue, CanLay, Laid, CanLayAll};
+ghost use Rattle.blocks.specs.code.Lay.{entriesOf, cuesFrom, blockCue, CanLay, Laid, CanLayAll};
 use crate::numbers::frames_of;
 use crate::numbers::segment_count;
 use bitio::numbers::least;

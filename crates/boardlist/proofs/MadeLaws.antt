@@ -13,7 +13,7 @@ use Rattle.pictures.specs.Segments.{segmentsOf}
 use Rattle.pictures.specs.Assemble.{Outcome, stopped, made, andAlso, overall, Output, Room, fits, assembled, fitted, assemble}
 use Rattle.pictures.specs.declared.settings.Settings.{Settings}
 use Rattle.assemble.specs.Whole.{Lent, outcome}
-use Rattle.assemble.specs.Stages.{roomFor}
+use Rattle.assemble.specs.code.Stages.{roomFor}
 use Rattle.assemble.proofs.MultiLaws.{RoomForAll, fits-roomy}
 
 -- the room that these have

@@ -10,7 +10,7 @@ use borrow.Author.Tests.{eqb-true, eqb-false}
 use Rattle.obu.specs.Obu.{Obu, unitBytes}
 use Rattle.obu.specs.Unit.{isDelimiter, isFrame, count}
 use Rattle.container.specs.Stream.{hasFrame, group, lead, others, either, join, behind, joined, units, flat}
-use Rattle.container.specs.Survey.{mostUnits}
+use Rattle.container.specs.code.Survey.{mostUnits}
 use Rattle.container.proofs.StreamLaws.{bytes-append, flat-group, count-append, frame-some}
 
 -- how many bytes OBUs have, written

@@ -8,7 +8,7 @@ use lib.ListN.{length}
 use Rattle.obu.specs.Obu.{Obu}
 use Rattle.obu.specs.Unit.{isDelimiter, isFrame, count}
 use Rattle.container.specs.Stream.{lead, others, either, units}
-use Rattle.container.specs.Extents.{lastLead, led, firstOf, reopens}
+use Rattle.container.specs.code.Extents.{lastLead, led, firstOf, reopens}
 use Rattle.container.proofs.LeadLaws.{join-is, join-twice}
 use Rattle.container.proofs.StreamLaws.{tick, leads, delimiter-frame, count-append, Front, units-more, units-last}
 

@@ -12,8 +12,8 @@ use Rattle.obu.specs.declared.unit.Kind.the-variants.{TemporalDelimiter, Frame}
 use Rattle.obu.proofs.UnitLaws.{count-next}
 use Rattle.obu.proofs.PlaceLaws.{IsPlaced}
 use Rattle.container.specs.Stream.{lead, either, others, units}
-use Rattle.container.specs.Ranges.{Range, here, more}
-use Rattle.container.specs.Extents.{lastLead, led, firstOf, reopens, Frames, ToFrame, ToNext, FirstObu, FirstUnit}
+use Rattle.container.specs.code.Ranges.{Range, here, more}
+use Rattle.container.specs.code.Extents.{lastLead, led, firstOf, reopens, Frames, ToFrame, ToNext, FirstObu, FirstUnit}
 use Rattle.container.proofs.StreamLaws.{leads, count-append, alone, units-alone}
 use Rattle.container.proofs.RangeLaws.{range-le, range-within, range-same, range-append, range-one, range-end, placed-step, Took, took}
 use Rattle.container.proofs.ExtentLaws.{isNone, none-next, leads-next, led-takes, led-first, led-other, first-more, first-last, first-leads}

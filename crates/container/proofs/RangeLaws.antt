@@ -23,7 +23,7 @@ use Rattle.obu.proofs.PlaceLaws.{Placed, IsPlaced, is-placed, part-placed}
 use Rattle.bitio.specs.Limits.{limit}
 use Rattle.obu.specs.Unit.{isDelimiter}
 use Rattle.container.specs.Stream.{others}
-use Rattle.container.specs.Ranges.{Step, Range, here, more, isKept, keptOne, keptBytes, Ranged, Measured, Roomy, WroteKept}
+use Rattle.container.specs.code.Ranges.{Step, Range, here, more, isKept, keptOne, keptBytes, Ranged, Measured, Roomy, WroteKept}
 
 -- ---- ranges
 

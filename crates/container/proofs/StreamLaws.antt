@@ -14,7 +14,7 @@ use Rattle.obu.proofs.ObuLaws.{Allowed, obus-unit}
 use Rattle.obu.proofs.UnitLaws.{has-count}
 use Rattle.obu.specs.Unit.{isDelimiter, isFrame, isType, count}
 use Rattle.container.specs.Stream.{hasFrame, opens, seenAfter, Cut, put, cut, group, lead, others, either, join, behind, joined, units, streamUnits, flat, streamBytes}
-use Rattle.container.specs.Extents.{reopens}
+use Rattle.container.specs.code.Extents.{reopens}
 
 -- one more where b
 abbrev pub tick : Bool → ℕ → ℕ

@@ -17,9 +17,9 @@ use Rattle.bitio.specs.Limits.{limit}
 use Rattle.container.specs.Limits.{Room, fits, fitUnits}
 use Rattle.container.specs.Units.{endsOf, Sizes, sizesOf, bytesAfter, endsAfter}
 use Rattle.container.specs.Container.{stream, read}
-use Rattle.container.specs.Ranges.{keptBytes, Ranged, Measured, Roomy, WroteKept}
-use Rattle.container.specs.Survey.{Tally, tallyOf, Surveyed, mostUnits, sizesFit}
-use Rattle.container.specs.Extents.{Frames, FirstUnit, UnitRanges, UnitLength, UnitRoom, UnitWrote, StreamFrames, StreamRoom}
+use Rattle.container.specs.code.Ranges.{keptBytes, Ranged, Measured, Roomy, WroteKept}
+use Rattle.container.specs.code.Survey.{Tally, tallyOf, Surveyed, mostUnits, sizesFit}
+use Rattle.container.specs.code.Extents.{Frames, FirstUnit, UnitRanges, UnitLength, UnitRoom, UnitWrote, StreamFrames, StreamRoom}
 use Rattle.container.proofs.StreamLaws.{bytes-append, bytes-flat}
 use Rattle.container.proofs.RangeLaws.{range-within, range-same, range-end, range-whole, range-most}
 use Rattle.container.proofs.BoundLaws.{units-bytes-most, units-few}

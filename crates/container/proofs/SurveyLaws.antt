@@ -15,8 +15,8 @@ use Rattle.obu.specs.Write.{obuLength}
 use Rattle.obu.specs.declared.unit.Kind.the-variants.{Frame}
 use Rattle.obu.proofs.PlaceLaws.{IsPlaced, Walked, walk-start, walk-next, walk-end}
 use Rattle.obu.proofs.UnitLaws.{count-next}
-use Rattle.container.specs.Ranges.{isKept, keptOne}
-use Rattle.container.specs.Survey.{tallyOf}
+use Rattle.container.specs.code.Ranges.{isKept, keptOne}
+use Rattle.container.specs.code.Survey.{tallyOf}
 use Rattle.container.proofs.StreamLaws.{bytes-append}
 use Rattle.container.proofs.RangeLaws.{placed-step, kept-nil, kept-cons, kept-length, step-most}
 

@@ -2,8 +2,6 @@ pub mod Stream
 pub mod AnnexB
 pub mod Limits
 pub mod Units
-pub mod Ranges
-pub mod Extents
-pub mod Survey
 pub mod Lists
 pub mod Container
+pub mod code

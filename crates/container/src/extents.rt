@@ -2,7 +2,7 @@
 ghost use mathlib.Core.Path.{_≡_};
 ghost use Prim.Native.Nat.{ℕ, _+_, _-_, _<_};
 ghost use lib.ListN.{length};
-ghost use Rattle.container.specs.Extents.{Frames, ToFrame, ToNext, FirstObu, FirstUnit};
+ghost use Rattle.container.specs.code.Extents.{Frames, ToFrame, ToNext, FirstObu, FirstUnit};
 use obu::reader::ObuAt;
 use obu::reader::obu_at;
 use obu::unit::Kind;

@@ -8,7 +8,7 @@ ghost use Rattle.obu.specs.Place.{extensionSays, part};
 ghost use Rattle.obu.specs.Write.{obuLength, obu};
 ghost use Rattle.bitio.specs.Limits.{limit};
 ghost use Rattle.bitio.specs.Lent.{Wrote};
-ghost use Rattle.container.specs.Ranges.{isKept, keptOne, Ranged, Measured, Roomy, WroteKept};
+ghost use Rattle.container.specs.code.Ranges.{isKept, keptOne, Ranged, Measured, Roomy, WroteKept};
 use obu::reader::Obu;
 use obu::reader::ObuAt;
 use obu::reader::obu_at;

@@ -6,7 +6,7 @@ ghost use lib.ListN.{length};
 ghost use Rattle.bitio.specs.Limits.{limit};
 ghost use Rattle.bitio.specs.Parse.{answer};
 ghost use Rattle.obu.specs.Obu.{obus};
-ghost use Rattle.container.specs.Survey.{tallyOf, seenSays};
+ghost use Rattle.container.specs.code.Survey.{tallyOf, seenSays};
 use crate::ranges::kept_len;
 use obu::reader::ObuAt;
 use obu::reader::obu_at;

@@ -12,7 +12,7 @@ use Rattle.blocks.specs.Blocks.{Entry}
 use Rattle.pictures.specs.Segments.{Segment}
 use Rattle.pictures.specs.declared.settings.Settings.{Settings}
 use Rattle.player.specs.Player.{State, start, Played, play, leaves}
-use Rattle.player.specs.Code.{shows, keptBehind, stateSays, startState, playedOn, playedBy}
+use Rattle.player.specs.Values.{shows, keptBehind, stateSays, startState, playedOn, playedBy}
 use Rattle.player.specs.declared.slots.Answer.the-variants.{Shown, Refused}
 use Rattle.player.specs.declared.step.State.{State as CodeState}
 use Rattle.player.proofs.StepLaws.{leaves-so}

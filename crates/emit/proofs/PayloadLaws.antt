@@ -21,7 +21,7 @@ use Rattle.header.specs.SequencePoints.{delayBits, pointCount}
 use Rattle.header.specs.Sequence.{Sequence}
 use Rattle.emittable.specs.Emittable.{timingFits, openingFits, emittable}
 use Rattle.emit.specs.Emit.{pack, trailed, sequenceBytes, emitPlaced, emitLent}
-use Rattle.emit.specs.WroteBits.{WroteBits}
+use Rattle.emit.specs.code.WroteBits.{WroteBits}
 use Rattle.header.specs.declared.seq_header.TimingInfo.{TimingInfo}
 use Rattle.header.specs.declared.seq_header.Opening.{Opening}
 use Rattle.bitio.proofs.ParseLaws.{and-both}

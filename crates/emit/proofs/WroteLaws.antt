@@ -17,7 +17,7 @@ use Rattle.bitio.proofs.UvlcFormLaws.{uvlc-most}
 use Rattle.bitio.proofs.WriteLaws.{put-length, unpack-put, placed-there, lent-there}
 use Rattle.emittable.specs.PutFields.{put, putOr, putFlag, putFlagOr, putUvlcOr}
 use Rattle.emittable.specs.PutSequence.{putPoint, putPoints}
-use Rattle.emit.specs.WroteBits.{WroteBits}
+use Rattle.emit.specs.code.WroteBits.{WroteBits}
 use Rattle.header.specs.declared.seq_header.Opening.{Opening}
 use Rattle.header.specs.declared.seq_header.OperatingPoint.{OperatingPoint}
 

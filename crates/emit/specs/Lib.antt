@@ -1,2 +1,3 @@
 pub mod Emit
-pub mod WroteBits
+pub mod code
+pub mod code

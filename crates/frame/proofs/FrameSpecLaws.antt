@@ -9,7 +9,7 @@ use Rattle.header.specs.Fields.{readFlag, readOr, flagOr}
 use Rattle.header.specs.Sequence.{Sequence}
 use Rattle.header.specs.Support.{hasPointInfo}
 use Rattle.frame.specs.Frame.{modelled, layered, showExisting, frameStart, orderHint, removalTimes, bufferRemoval, frameInfo, frameBits, frameHeader, readFrame, specFrame}
-use Rattle.frame.specs.RemovalFlag.{removalFlag}
+use Rattle.frame.specs.code.RemovalFlag.{removalFlag}
 use Rattle.header.specs.declared.seq_header.OperatingPoint.{OperatingPoint}
 use Rattle.header.specs.declared.seq_header.DecoderModelInfo.{DecoderModelInfo}
 use Rattle.frame.specs.declared.frame_header.FrameStart.{FrameStart}

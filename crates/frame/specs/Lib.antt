@@ -1,4 +1,3 @@
 pub mod Frame
-pub mod FrameSays
-pub mod RemovalFlag
 pub mod UnitFrame
+pub mod code

@@ -9,7 +9,7 @@ use mathlib.Core.Bool.{Bool, true, false, not, cond as pick}
 use Rattle.bitio.specs.Parse.{refused, accepted, andNext}
 use Rattle.bitio.specs.Bits.{Reading, fails, reads, andThen}
 use Rattle.header.specs.Fields.{readFlag, readOr, flagOr}
-use Rattle.header.specs.ReadSays.{refusalOf}
+use Rattle.header.specs.code.ReadSays.{refusalOf}
 use Rattle.header.specs.SequenceRules.{ours, av1}
 use Rattle.header.specs.SequenceOpening.{opening}
 use Rattle.header.specs.SequencePoints.{operatingPoints, pointCount}

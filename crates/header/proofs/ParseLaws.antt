@@ -12,7 +12,7 @@ use Rattle.header.specs.SequenceOpening.{opening}
 use Rattle.header.specs.SequencePoints.{operatingPoints, pointCount, padded}
 use Rattle.header.specs.SequenceCoding.{coding}
 use Rattle.header.specs.Sequence.{sequenceHeader, parseSequence, sequenceRead}
-use Rattle.header.specs.ReadSays.{pointsRead}
+use Rattle.header.specs.code.ReadSays.{pointsRead}
 use Rattle.header.specs.declared.seq_header.Opening.{Opening}
 use Rattle.header.specs.declared.seq_header.OperatingPoint.{OperatingPoint}
 use Rattle.header.specs.declared.seq_header.Coding.{Coding}

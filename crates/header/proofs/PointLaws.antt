@@ -8,7 +8,7 @@ use lib.ListN.{length, set, drop, replicate}
 use lib.Seq.{sets, sets-eq}
 use Rattle.bitio.specs.Bits.{Reading, fails, reads, andThen}
 use Rattle.header.specs.SequencePoints.{operatingPoint, operatingPoints, noPoint, padded}
-use Rattle.header.specs.ReadSays.{pointsRead}
+use Rattle.header.specs.code.ReadSays.{pointsRead}
 use Rattle.header.specs.declared.seq_header.Opening.{Opening}
 use Rattle.header.specs.declared.seq_header.OperatingPoint.{OperatingPoint}
 use Rattle.header.specs.declared.seq_header.read_points.Points.{Points}

@@ -14,7 +14,7 @@ use Rattle.bitio.specs.declared.reader.Uvlc.the-variants.{Value, Short, Long}
 use Rattle.bitio.proofs.reader.Uvlc.{the-type}
 use Rattle.bitio.proofs.BitLaws.{IsBits, is-bits}
 use Rattle.header.specs.Fields.{readFlag, readOr, flagOr}
-use Rattle.header.specs.ReadSays.{refusalOf}
+use Rattle.header.specs.code.ReadSays.{refusalOf}
 
 -- ---- what straight-line code has read so far
 

@@ -4,6 +4,6 @@ pub mod SequenceOpening
 pub mod SequencePoints
 pub mod SequenceCoding
 pub mod Sequence
-pub mod ReadSays
 pub mod Support
 pub mod Timed
+pub mod code

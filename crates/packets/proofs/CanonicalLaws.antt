@@ -19,10 +19,10 @@ use Rattle.bitio.specs.Limits.{limit}
 use Rattle.container.specs.Limits.{Room, fits}
 use Rattle.container.specs.Units.{countOf, outAfter}
 use Rattle.packets.specs.Packets.{canonicalAt}
-use Rattle.container.specs.Ranges.{keptBytes, Range}
+use Rattle.container.specs.code.Ranges.{keptBytes, Range}
 use Rattle.container.proofs.StreamLaws.{bytes-append}
 use Rattle.container.proofs.RangeLaws.{placed-step, range-one, range-from}
-use Rattle.packets.specs.Canonical.{endOf}
+use Rattle.packets.specs.code.Canonical.{endOf}
 
 -- ---- the first OBU
 

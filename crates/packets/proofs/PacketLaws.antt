@@ -16,7 +16,7 @@ use Rattle.packets.specs.Packets.{Packet, out, meet, tailed, behindP, fi
 use Rattle.container.proofs.StreamLaws.{every-append, either-nil}
 use Rattle.container.proofs.LeadLaws.{others-append, join-twice, join-every}
 use Rattle.packets.specs.PacketLists.{bytesOf}
-use Rattle.packets.specs.PacketRuns.{closes, allParsed, pieceOf, Waits}
+use Rattle.packets.specs.code.PacketRuns.{closes, allParsed, pieceOf, Waits}
 
 -- ---- joining three parts
 

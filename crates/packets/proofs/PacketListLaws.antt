@@ -21,7 +21,7 @@ use Rattle.bitio.specs.Limits.{limit}
 use Rattle.container.specs.Lists.{accepts}
 use Rattle.packets.specs.PacketLists.{stamped, packetsAt, bytesOf, timesOf}
 use Rattle.bitio.specs.Every.{Every}
-use Rattle.packets.specs.PacketRuns.{listedFrom, listed, closes, Waits, Empty, packetsOf}
+use Rattle.packets.specs.code.PacketRuns.{listedFrom, listed, closes, Waits, Empty, packetsOf}
 use Rattle.packets.proofs.SliceLaws.{slice-more, every-more}
 use Rattle.packets.proofs.PacketLaws.{Short, waits}
 

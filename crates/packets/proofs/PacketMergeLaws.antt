@@ -19,7 +19,7 @@ use Rattle.packets.specs.Packets.{Packet, alone, mergePackets}
 use Rattle.container.specs.Units.{endsOf}
 use Rattle.packets.specs.PacketLists.{bytesOf, timesOf}
 use Rattle.bitio.specs.Every.{Every}
-use Rattle.packets.specs.PacketRuns.{listed, piece, most, Parses, Waits, Next, Piece, PieceRoom, packetsOf, mergedOf, Totals, Closing, MergeRoom, Ready, WroteMerged}
+use Rattle.packets.specs.code.PacketRuns.{listed, piece, most, Parses, Waits, Next, Piece, PieceRoom, packetsOf, mergedOf, Totals, Closing, MergeRoom, Ready, WroteMerged}
 use Rattle.packets.proofs.PacketListLaws.{listed-length, packets-bytes, packets-times, packets-short}
 use Rattle.packets.proofs.PacketSteps.{size, step-more, step-last}
 

@@ -20,7 +20,7 @@ use Rattle.container.specs.Units.{unitsAt, endsOf, sizesOf, bytesAfter, endsAft
 use Rattle.packets.specs.declared.packets.Merged.{Merged}
 use Rattle.packets.specs.declared.packets.Merged.the-variants.{Packets, Refused}
 use Rattle.packets.specs.PacketLists.{packetsAt, bytesOf, timesOf, PacketRoom, lentRoom, fitsPackets, fitPackets, mergedAt, timesAfter, mergedSays}
-use Rattle.packets.specs.PacketRuns.{listed, allParsed, most, Next, Full, Run, RunRoom, packetsOf, mergedOf, Totals, Closing, MergeRoom, WroteMerged, Given, None, Some, Outcome}
+use Rattle.packets.specs.code.PacketRuns.{listed, allParsed, most, Next, Full, Run, RunRoom, packetsOf, mergedOf, Totals, Closing, MergeRoom, WroteMerged, Given, None, Some, Outcome}
 use Rattle.packets.proofs.RoomLaws.{fits-most}
 use Rattle.packets.proofs.SliceLaws.{slice-rest}
 use Rattle.packets.proofs.PacketListLaws.{listed-length, packets-bytes, packets-times, packets-unmatched, packets-wrong, packets-there}

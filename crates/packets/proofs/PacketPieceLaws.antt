@@ -15,10 +15,10 @@ use Rattle.obu.specs.Unit.{count, ofUnit}
 use Rattle.obu.proofs.ObuLaws.{obus-nil}
 use Rattle.bitio.specs.Limits.{limit}
 use Rattle.container.specs.Stream.{lead, others, either}
-use Rattle.container.specs.Ranges.{Range, here, more, keptBytes, Ranged, Measured, Roomy, WroteKept}
+use Rattle.container.specs.code.Ranges.{Range, here, more, keptBytes, Ranged, Measured, Roomy, WroteKept}
 use Rattle.container.proofs.StreamLaws.{bytes-append}
 use Rattle.container.proofs.RangeLaws.{range-end}
-use Rattle.packets.specs.PacketRuns.{listed, unitOf, allParsed, parsed, leadOf, piece, most, Parses, Full, Run, RunRoom, HeadAt, found, missing, LeadAt, waiting, closing, behind, parsesUnit, Piece, Joins}
+use Rattle.packets.specs.code.PacketRuns.{listed, unitOf, allParsed, parsed, leadOf, piece, most, Parses, Full, Run, RunRoom, HeadAt, found, missing, LeadAt, waiting, closing, behind, parsesUnit, Piece, Joins}
 use Rattle.packets.proofs.SliceLaws.{slice-at, every-join, every-or}
 use Rattle.packets.proofs.PacketListLaws.{listed-length, listed-out, listed-short}
 use Rattle.packets.proofs.PacketSteps.{first-obu, lead-found, lead-missing}

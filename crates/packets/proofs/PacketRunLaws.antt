@@ -22,10 +22,10 @@ use Rattle.obu.proofs.PlaceLaws.{Placed}
 use Rattle.bitio.specs.Limits.{limit}
 use Rattle.obu.specs.Unit.{isDelimiter}
 use Rattle.container.specs.Stream.{others}
-use Rattle.container.specs.Ranges.{Range, here, keptBytes, Ranged, Measured, Roomy, WroteKept}
+use Rattle.container.specs.code.Ranges.{Range, here, keptBytes, Ranged, Measured, Roomy, WroteKept}
 use Rattle.container.proofs.StreamLaws.{bytes-append}
 use Rattle.container.proofs.RangeLaws.{placed-step, range-one, range-whole, kept-nil}
-use Rattle.packets.specs.PacketRuns.{listed, unitOf, allParsed, parsed, leadAt, leadOf, most, Parses, Run}
+use Rattle.packets.specs.code.PacketRuns.{listed, unitOf, allParsed, parsed, leadAt, leadOf, most, Parses, Run}
 use Rattle.packets.proofs.SliceLaws.{slice-more, slice-join, slice-at, every-at, every-seam}
 use Rattle.container.proofs.LeadLaws.{others-append}
 use Rattle.packets.proofs.PacketListLaws.{listed-length, listed-short}

@@ -17,7 +17,7 @@ use Rattle.container.specs.Stream.{lead}
 use Rattle.packets.specs.Packets.{Packet, alone, mergePackets}
 use Rattle.packets.specs.PacketLists.{bytesOf, timesOf}
 use Rattle.bitio.specs.Every.{Every}
-use Rattle.packets.specs.PacketRuns.{closes, allParsed, leadOf, piece, Parses, Waits, Next, Empty, Full}
+use Rattle.packets.specs.code.PacketRuns.{closes, allParsed, leadOf, piece, Parses, Waits, Next, Empty, Full}
 use Rattle.packets.proofs.SliceLaws.{slice-split, slice-rest, slice-at, map-slice, every-map, every-drop, every-slice, every-at, every-seam}
 use Rattle.packets.proofs.PacketLaws.{Waiting, Short, alone-run, merge-more, merge-last}
 

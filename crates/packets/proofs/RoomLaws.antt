@@ -7,7 +7,7 @@ use lib.Dec.{leb}
 use borrow.Author.Tests.{lt-leb, leb-true, leb-false}
 use Rattle.bitio.specs.Limits.{limit}
 use Rattle.container.specs.Limits.{Room, fits}
-use Rattle.packets.specs.PacketRuns.{most}
+use Rattle.packets.specs.code.PacketRuns.{most}
 
 pub fits-most : (x u : ℕ) (room : Room) → fits (min x most) u room ≡ fits x u room
 fits-most x u room = go (leb x limit) refl

@@ -1,4 +1,3 @@
 pub mod Packets
 pub mod PacketLists
-pub mod Canonical
-pub mod PacketRuns
+pub mod code

@@ -15,7 +15,7 @@ use Rattle.frame.specs.declared.frame_header.FrameHeaderInfo.{FrameHeaderInfo}
 use Rattle.frame.specs.declared.frame_header.FrameHeaderInfo.the-variants.{Frame}
 use Rattle.pictures.specs.Prepare.{keyOk, goldenFlags, slotOf}
 use Rattle.pictures.specs.Assemble.{verdict}
-use Rattle.pictures.specs.Code.{readable, countRead, judged}
+use Rattle.pictures.specs.Flat.{readable, countRead, judged}
 use Rattle.pictures.proofs.RangeLaws.{denied, granted}
 
 -- ---- the slot of a golden's header

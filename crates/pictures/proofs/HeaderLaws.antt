@@ -18,7 +18,7 @@ use Rattle.header.specs.declared.seq_header.SequenceRead.{SequenceRead}
 use Rattle.header.proofs.SupportLaws.{supported-read}
 use Rattle.frame.proofs.FrameFromLaws.{read-whole}
 use Rattle.pictures.specs.Prepare.{isSequence, firstOf}
-use Rattle.pictures.specs.Code.{firstSequence}
+use Rattle.pictures.specs.Flat.{firstSequence}
 
 -- ---- the first OBU that passes, as it is sought
 

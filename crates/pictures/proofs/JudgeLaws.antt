@@ -11,7 +11,7 @@ use Rattle.pictures.specs.Segments.{Segment}
 use Rattle.frame.specs.UnitFrame.{unitFrame}
 use Rattle.pictures.specs.Prepare.{isSequence, renewed, sent, keyOk, goldenFlags, asked, Prepared, prepare}
 use Rattle.pictures.specs.Assemble.{verdict}
-use Rattle.pictures.specs.Code.{judged, renewing, answerOr, sentBytes}
+use Rattle.pictures.specs.Flat.{judged, renewing, answerOr, sentBytes}
 
 -- ---- chains of answers
 

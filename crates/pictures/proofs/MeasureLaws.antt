@@ -13,7 +13,7 @@ use Rattle.blocks.specs.Numbers.{segmentCount, keyAt, goldenAt, framesAt}
 use Rattle.pictures.specs.Segments.{Segment}
 use Rattle.pictures.specs.Prepare.{Prepared}
 use Rattle.pictures.specs.Assemble.{Outcome, stopped, made, andAlso, inSegment, prepareAll, pictureOf}
-use Rattle.pictures.specs.Code.{allSegments, judged, renewing, sentBytes, capped, measured, measuredUnits}
+use Rattle.pictures.specs.Flat.{allSegments, judged, renewing, sentBytes, capped, measured, measuredUnits}
 use Rattle.pictures.specs.Says.{measuredSays}
 use Rattle.pictures.specs.declared.pictures.Measured.{Measured}
 use Rattle.pictures.specs.declared.pictures.Measured.the-variants.{Bytes, RefusedIn}

@@ -12,7 +12,7 @@ use Rattle.blocks.proofs.NumberLaws.{records-length}
 use Rattle.pictures.specs.Segments.{Segment, segmentIn}
 use Rattle.pictures.specs.Prepare.{Prepared, prepare, showUnit}
 use Rattle.pictures.specs.Assemble.{Outcome, stopped, made, andAlso, inSegment, prepareAll, pictureOf, endsFrom, showsOf}
-use Rattle.pictures.specs.Code.{allSegments, judged, renewing, answerOr, sentBytes, preparedOf, allPrepared, allSent, slotsOf}
+use Rattle.pictures.specs.Flat.{allSegments, judged, renewing, answerOr, sentBytes, preparedOf, allPrepared, allSent, slotsOf}
 use Rattle.pictures.proofs.JudgeLaws.{prepare-judged}
 
 -- ---- all segments prepared

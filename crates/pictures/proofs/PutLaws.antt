@@ -10,7 +10,7 @@ use Rattle.bitio.proofs.LentLaws.{pasted-nil, pasted-sets, pasted-more, pasted-
 use Rattle.blocks.specs.Numbers.{segmentCount, keyAt, goldenAt}
 use Rattle.pictures.specs.Segments.{Segment}
 use Rattle.pictures.specs.Assemble.{pictureOf, endsFrom}
-use Rattle.pictures.specs.Code.{allSegments, sentBytes, allSent}
+use Rattle.pictures.specs.Flat.{allSegments, sentBytes, allSent}
 use Rattle.pictures.proofs.PrepareLaws.{length-all}
 use Rattle.pictures.proofs.SegmentLaws.{segmentsBehind, segments-start, segments-end, segments-next}
 

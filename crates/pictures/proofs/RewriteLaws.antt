@@ -16,8 +16,8 @@ use Rattle.obu.proofs.ObuLaws.{infront}
 use Rattle.obu.proofs.PlaceLaws.{IsPlaced, Walked, walk-start, walk-next, walk-end, walk-stop, part-placed}
 use Rattle.pictures.specs.Prepare.{isSequence, renewed}
 use Rattle.pictures.specs.Assemble.{verdict}
-use Rattle.pictures.specs.Code.{readable, capped}
-use Rattle.pictures.specs.Rewrite.{renewedBytes, rewritten}
+use Rattle.pictures.specs.Flat.{readable, capped}
+use Rattle.pictures.specs.code.Rewrite.{renewedBytes, rewritten}
 
 -- ---- the bytes of one OBU after the other
 

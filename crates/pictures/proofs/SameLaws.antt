@@ -17,7 +17,7 @@ use Rattle.obu.proofs.UnitLaws.{has-count}
 use Rattle.blocks.specs.Numbers.{segmentCount, keyAt, goldenAt}
 use Rattle.pictures.specs.Prepare.{isSequence}
 use Rattle.pictures.specs.Assemble.{Outcome, stopped, made, andAlso, verdict, inSegment, sameBytes, sameHeader, sameHeaders}
-use Rattle.pictures.specs.Code.{laterSegments}
+use Rattle.pictures.specs.Flat.{laterSegments}
 use Rattle.pictures.proofs.SegmentLaws.{segmentsBehind, segments-end, segments-next}
 use Rattle.pictures.proofs.RangeLaws.{denied, granted}
 

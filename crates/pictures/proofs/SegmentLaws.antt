@@ -5,7 +5,7 @@ use mathlib.Core.List.{List, [], _∷_, map}
 use Rattle.blocks.specs.Numbers.{segmentCount, recordsBehind, keyAt, goldenAt, framesAt}
 use Rattle.blocks.proofs.NumberLaws as N
 use Rattle.pictures.specs.Segments.{Segment, segmentIn}
-use Rattle.pictures.specs.Code.{allSegments}
+use Rattle.pictures.specs.Flat.{allSegments}
 
 -- the segments from i on
 abbrev pub segmentsBehind : List ℕ → List ℕ → ℕ → List Segment

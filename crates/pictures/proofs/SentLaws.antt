@@ -12,8 +12,8 @@ use Rattle.obu.specs.Unit.{count, has, ofUnit}
 use Rattle.obu.proofs.UnitLaws.{has-count}
 use Rattle.pictures.specs.Prepare.{isSequence, sent}
 use Rattle.pictures.specs.Assemble.{verdict}
-use Rattle.pictures.specs.Code.{readable, answerOr, sentBytes}
-use Rattle.pictures.specs.Rewrite.{renewedBytes, rewritten}
+use Rattle.pictures.specs.Flat.{readable, answerOr, sentBytes}
+use Rattle.pictures.specs.code.Rewrite.{renewedBytes, rewritten}
 use Rattle.pictures.proofs.RangeLaws.{denied, granted}
 
 module _ (new u : List ℕ) where

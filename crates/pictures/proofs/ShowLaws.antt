@@ -21,7 +21,7 @@ use Rattle.blocks.specs.Numbers.{segmentCount, keyAt, goldenAt, framesAt}
 use Rattle.pictures.specs.Segments.{Segment}
 use Rattle.frame.specs.UnitFrame.{framePayload, unitFrame}
 use Rattle.pictures.specs.Prepare.{keyOk, goldenFlags, lowest, showUnit}
-use Rattle.pictures.specs.Code.{allSegments, readable, judged, answerOr, slotsOf}
+use Rattle.pictures.specs.Flat.{allSegments, readable, judged, answerOr, slotsOf}
 use Rattle.pictures.proofs.PrepareLaws.{length-all}
 use Rattle.pictures.proofs.SegmentLaws.{segmentsBehind, segments-start, segments-end, segments-next}
 

@@ -1,9 +1,9 @@
 -- Laws of the slot refreshed and of the unit that an entry names, by the tests that the code makes.
-use Prim.Native.Nat.{ℕ, zero, suc, _+_, _*_, _-_, _/_, _%_, _<_, _≤_}
+use Prim.Native.Nat.{ℕ, suc, _+_, _*_, _-_, _/_, _%_, _<_, _≤_}
 use native.Mathlib.Omega.{arith}
-use mathlib.Core.Path.{_≡_, refl, ap, ap₂, _∙_}
+use mathlib.Core.Path.{_≡_, ap, ap₂, _∙_}
 use mathlib.Core.List.{List, [], _∷_}
-use lib.ListN.{length, getD}
+use lib.ListN.{getD}
 use borrow.Author.Tests.{lt-ltb, le-ltb, eq-eqb, ne-eqb}
 use Rattle.obu.specs.Place.{part}
 use Rattle.pictures.specs.Prepare.{lowest, slotOf}
@@ -37,15 +37,6 @@ from-end flags slot rest h k f =
     omega (arith, f, e)
 
 -- ---- the unit
-
-pub getD-past : (l : List ℕ) (i : ℕ) → length l ≤ i → 0 ≡ getD l i 0
-getD-past [] i h = refl
-getD-past (x ∷ l) zero h = absurd (omega arith)
-getD-past (x ∷ l) (suc i) h = getD-past l i (omega arith)
-
-pub getD-before : (l : List ℕ) (i : ℕ) → (i ≡ 0 → ⊥) → getD l (i - 1) 0 ≡ getD (0 ∷ l) i 0
-getD-before l zero h = absurd (h refl)
-getD-before l (suc i) h = ap (λ (k : ℕ). getD l k 0) (omega arith)
 
 module _ (ps es ss : List ℕ) (n : ℕ) where
   pub named-picture : (a e : ℕ) → n % 4 < 2 → a ≡ getD (0 ∷ es) (2 * (n / 4) + n % 4) 0 → e ≡ getD es (2 * (n / 4) + n % 4) 0 → part ps a e ≡ named ps es ss n

@@ -2,6 +2,6 @@ pub mod Segments
 pub mod Prepare
 pub mod Assemble
 pub mod Sizes
-pub mod Code
-pub mod Rewrite
+pub mod Flat
 pub mod Says
+pub mod code

@@ -1,5 +1,5 @@
 -- One segment's units as they go out, and what is asked of them (01, 'Unit list and cue list').
-use Prim.Native.Nat.{ℕ, zero, suc, _+_, _*_, _/_, _%_}
+use Prim.Native.Nat.{ℕ, zero, suc, _/_, _%_}
 use mathlib.Core.List.{List, [], _∷_, map}
 use mathlib.Core.Bool.{Bool, false, cond as pick, _&&_}
 use mathlib.Core.Option.{Option, none, some}

@@ -5,7 +5,7 @@ ghost use Rattle.bitio.specs.Parse.{refused, accepted, andNext};
 ghost use Rattle.obu.specs.Unit.{countedSays};
 ghost use Rattle.header.specs.Sequence.{sequenceOf};
 ghost use Rattle.pictures.specs.Prepare.{keyOk, goldenFlags, slotOf};
-ghost use Rattle.pictures.specs.Code.{countRead, judged};
+ghost use Rattle.pictures.specs.Flat.{countRead, judged};
 ghost use Rattle.pictures.specs.Says.{slotSays};
 use crate::slot::lowest_refreshed_slot;
 use frame::frame_header::FrameAnswer;

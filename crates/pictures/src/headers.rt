@@ -3,7 +3,7 @@ ghost use mathlib.Core.Path.{_≡_};
 ghost use Rattle.obu.specs.Unit.{countedSays};
 ghost use Rattle.pictures.specs.Assemble.{sameBytes, sameHeaders};
 ghost use Rattle.pictures.specs.Sizes.{checkedSays};
-ghost use Rattle.pictures.specs.Code.{laterSegments, countSame};
+ghost use Rattle.pictures.specs.Flat.{laterSegments, countSame};
 use crate::sizes::Checked;
 use blocks::numbers::key_of;
 use blocks::numbers::segment_count;

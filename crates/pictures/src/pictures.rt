@@ -8,7 +8,7 @@ ghost use Rattle.bitio.specs.Lent.{pasted};
 ghost use Rattle.header.specs.Sequence.{sequenceOf};
 ghost use Rattle.pictures.specs.Prepare.{showUnit};
 ghost use Rattle.pictures.specs.Assemble.{inSegment, pictureOf, endsFrom};
-ghost use Rattle.pictures.specs.Code.{allSegments, judged, answerOr, sentBytes, allSent, slotsOf, measured, measuredUnits};
+ghost use Rattle.pictures.specs.Flat.{allSegments, judged, answerOr, sentBytes, allSent, slotsOf, measured, measuredUnits};
 ghost use Rattle.pictures.specs.Says.{measuredSays};
 use crate::frames::GoldenSlot;
 use crate::frames::golden_slot;

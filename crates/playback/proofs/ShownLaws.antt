@@ -20,7 +20,7 @@ use Rattle.container.specs.Lists.{accepts}
 use Rattle.container.proofs.ListLaws.{units-refused}
 use Rattle.annexb.proofs.CutLaws.{accepted-is}
 use Rattle.player.specs.Player.{State, start, Played, play, leaves}
-use Rattle.player.specs.Code.{shows, keptBehind, stateSays, playedOn, playedBy}
+use Rattle.player.specs.Values.{shows, keptBehind, stateSays, playedOn, playedBy}
 use Rattle.player.specs.declared.step.State.{State as CodeState}
 use Rattle.player.specs.declared.step.Played.{Played as CodePlayed}
 use Rattle.playback.specs.Lent.{Fills}

@@ -1,14 +1,14 @@
 // Units in lent memory, played from a cue to the last.
 ghost use mathlib.Core.Path.{_≡_};
-ghost use mathlib.Core.List.{_∷_};
-ghost use Prim.Native.Nat.{_+_, _≤_, _<_};
-ghost use lib.ListN.{length, getD};
+ghost use Prim.Native.Nat.{_+_, _<_};
+ghost use lib.ListN.{length};
 ghost use Rattle.bitio.specs.Parse.{answer};
 ghost use Rattle.container.specs.Units.{unitsAt, outAfter};
-ghost use Rattle.player.specs.Code.{playedBy};
+ghost use Rattle.player.specs.Values.{playedBy};
 ghost use Rattle.playback.specs.Lent.{Fills};
 ghost use Rattle.pictures.specs.Assemble.{unitIn};
 ghost use Rattle.playback.specs.Shown.{codeNumber, shownBy, playFrom, showsSay, CanPlay};
+use bitio::ends::start_of;
 use bitio::limits::LIMIT;
 use container::lists::check_ends;
 use obu::reader::payload;

@@ -18,7 +18,7 @@ use Rattle.header.specs.declared.seq_header.SequenceRead.{SequenceRead}
 use Rattle.header.proofs.SupportLaws.{supported-read}
 use Rattle.frame.proofs.FrameFromLaws.{read-whole}
 use Rattle.player.specs.Player.{keepAs, keep}
-use Rattle.player.specs.Code.{keptOf, keptSays, headersSay, keeping, headerKept, keptBehind}
+use Rattle.player.specs.Values.{keptOf, keptSays, headersSay, keeping, headerKept, keptBehind}
 use Rattle.player.specs.declared.keep.Last.the-variants.{Header as Keeps}
 use Rattle.player.specs.declared.keep.Kept.{Kept}
 use Rattle.player.specs.declared.keep.Headers.the-variants.{Read, Refused as RefusedAt}

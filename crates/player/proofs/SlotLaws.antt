@@ -9,7 +9,7 @@ use lib.ListN.{length, getD, set, replicate, List·getD-eq-default}
 use borrow.Author.Tests.{ne-eqb}
 use Rattle.bitio.specs.Parse.{refused}
 use Rattle.player.specs.Player.{empty, refresh, showSlot}
-use Rattle.player.specs.Code.{actedOn}
+use Rattle.player.specs.Values.{actedOn}
 use Rattle.player.specs.declared.slots.Slot.{Slot}
 use Rattle.player.specs.declared.slots.Answer.the-variants.{Shown}
 use Rattle.player.specs.declared.slots.Acted.{Acted}

@@ -17,7 +17,7 @@ use Rattle.frame.specs.UnitFrame.{framePayload, unitFrame}
 use Rattle.frame.specs.declared.frame_header.FrameHeaderInfo.{FrameHeaderInfo}
 use Rattle.header.specs.declared.seq_header.SequenceHeader.{SequenceHeader}
 use Rattle.player.specs.Player.{Shown, keep, known, act, State, start, Played, play, leaves}
-use Rattle.player.specs.Code.{shows, actedOn, keptSays, keptBehind, stateSays, startState, playedOn, playedBy, leftIn, leftBy, playKept}
+use Rattle.player.specs.Values.{shows, actedOn, keptSays, keptBehind, stateSays, startState, playedOn, playedBy, leftIn, leftBy, playKept}
 use Rattle.player.specs.declared.slots.Slot.{Slot}
 use Rattle.player.specs.declared.keep.Last.the-variants.{Nothing as NoHeader, Header}
 use Rattle.player.specs.declared.keep.Kept.{Kept}

@@ -1,2 +1,2 @@
 pub mod Player
-pub mod Code
+pub mod Values

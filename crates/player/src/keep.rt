@@ -1,7 +1,7 @@
 // The sequence header that is kept from unit to unit.
 ghost use mathlib.Core.Path.{_≡_};
 ghost use Rattle.bitio.specs.Parse.{andNext};
-ghost use Rattle.player.specs.Code.{headersSay, keeping, headerKept, keptBehind};
+ghost use Rattle.player.specs.Values.{headersSay, keeping, headerKept, keptBehind};
 use header::seq_header::OperatingPoint;
 use header::seq_header::SequenceAnswer;
 use header::seq_header::SequenceHeader;

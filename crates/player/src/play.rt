@@ -1,6 +1,6 @@
 // A unit, played on lent slots: document 01's entry, over the step by value.
 ghost use mathlib.Core.Path.{_≡_};
-ghost use Rattle.player.specs.Code.{playedBy};
+ghost use Rattle.player.specs.Values.{playedBy};
 use crate::slots::Answer;
 use crate::step::Played;
 use crate::step::State;

@@ -2,7 +2,7 @@
 ghost use mathlib.Core.Path.{_≡_};
 ghost use lib.ListN.{getD};
 ghost use Rattle.player.specs.Player.{empty, refresh, showSlot, act};
-ghost use Rattle.player.specs.Code.{actedOn};
+ghost use Rattle.player.specs.Values.{actedOn};
 use frame::frame_header::FrameHeaderInfo;
 use frame::frame_header::KEY_FRAME;
 

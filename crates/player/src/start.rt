@@ -1,6 +1,6 @@
 // The state before the first unit.
 ghost use mathlib.Core.Path.{_≡_};
-ghost use Rattle.player.specs.Code.{startState};
+ghost use Rattle.player.specs.Values.{startState};
 use crate::keep::Kept;
 use crate::keep::Last;
 use crate::slots::Slot;

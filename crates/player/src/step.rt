@@ -1,7 +1,7 @@
 // A unit, played: the state goes in by value and comes back beside the answer.
 ghost use mathlib.Core.Path.{_≡_};
 ghost use Rattle.bitio.specs.Parse.{refused};
-ghost use Rattle.player.specs.Code.{keptSays, leftIn, playedOn, playedBy, playKept};
+ghost use Rattle.player.specs.Values.{keptSays, leftIn, playedOn, playedBy, playKept};
 use crate::keep::Headers;
 use crate::keep::Kept;
 use crate::keep::Last;

@@ -8,5 +8,4 @@ pub mod TypedLaws
 pub mod LineLaws
 pub mod PrintLaws
 pub mod AnswerLaws
-pub mod MemoryLaws
 pub mod RoundTrip

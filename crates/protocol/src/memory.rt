@@ -1,7 +1,9 @@
 // Byte strings and numbers as fields and answers have them: byte strings one behind the other, each with its end.
 ghost use mathlib.Core.Path.{_≡_};
 ghost use lib.ListN.{getD};
-ghost use Rattle.protocol.specs.Memory.{between, startIn, partIn};
+ghost use Rattle.protocol.specs.Memory.{between, partIn};
+use bitio::ends::end_of;
+use bitio::ends::start_of;
 
 pub fn number_at(numbers: &[u64], i: usize) -> u64
     ensures { λ r. ⌜ r ≡ getD (now (numbers .entry)) i 0 ⌝ }
@@ -10,26 +12,6 @@ pub fn number_at(numbers: &[u64], i: usize) -> u64
         return numbers[i];
     }
     0
-}
-
-// Where byte string i ends.
-pub fn end_of(ends: &[u32], i: usize) -> usize
-    ensures { λ r. ⌜ r ≡ getD (now (ends .entry)) i 0 ⌝ }
-{
-    if i < ends.len() {
-        return ends[i] as usize;
-    }
-    0
-}
-
-// Where it starts: where the one before it ends.
-pub fn start_of(ends: &[u32], i: usize) -> usize
-    ensures { λ r. ⌜ r ≡ startIn (now (ends .entry)) i ⌝ }
-{
-    if i == 0 {
-        return 0;
-    }
-    end_of(ends, i - 1)
 }
 
 // A part of the bytes, the empty one where it does not lie in them.

@@ -16,12 +16,12 @@ use crate::kinds::REFUSED;
 use crate::kinds::TOLD;
 use crate::kinds::separator;
 use crate::lent::is_clean;
-use crate::memory::end_of;
 use crate::memory::number_at;
 use crate::output::Buffer;
 use crate::output::put_hex;
 use crate::output::put_number;
 use crate::output::put_text;
+use bitio::ends::end_of;
 use bitio::numbers::plus;
 
 // How far an answer has been printed.

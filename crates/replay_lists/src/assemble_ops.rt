@@ -9,6 +9,8 @@ ghost use Rattle.protocol.specs.Told.{told};
 ghost use Rattle.replay_lists.specs.Lists.{settingsOf, segmentRecords, slicesOf, slicesLent, outcomeTold, assembleTold};
 use crate::assembled::put_assembled;
 use assemble::multi::assemble_multi;
+use bitio::ends::end_of;
+use bitio::ends::start_of;
 use bitio::numbers::least;
 use blocks::numbers::WIDTH;
 use blocks::numbers::put_record;
@@ -19,9 +21,7 @@ use protocol::lent::BYTES_LENT;
 use protocol::lent::END_MARK;
 use protocol::lent::ENDS_LENT;
 use protocol::lent::Lent;
-use protocol::memory::end_of;
 use protocol::memory::number_at;
-use protocol::memory::start_of;
 
 // No line has more segments, six characters each.
 const SEGMENTS: usize = 10923;

@@ -1,6 +1,6 @@
 // The operation of the crate player.
 ghost use mathlib.Core.Path.{_≡_};
-ghost use Rattle.player.specs.Code.{playedBy};
+ghost use Rattle.player.specs.Values.{playedBy};
 ghost use Rattle.protocol.specs.Answers.{partsOf, numbered, withNumbers};
 ghost use Rattle.replay_lists.specs.Plays.{shownFields, playFields, playsOf};
 use player::play::played;

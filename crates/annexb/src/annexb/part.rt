@@ -10,7 +10,7 @@ ghost use Rattle.obu.specs.Obu.{passes, obuType};
 ghost use Rattle.obu.specs.Place.{wrong, lies, refusalOf, extensionSays};
 ghost use Rattle.obu.specs.Write.{obuLength};
 ghost use Rattle.container.specs.AnnexB.{innerObu, lengthObu};
-ghost use Rattle.annexb.specs.Spans.{span, spotOf, partSays, spotRefusal, placeTo, innerSays};
+ghost use Rattle.annexb.specs.code.Spans.{span, spotOf, partSays, spotRefusal, placeTo, innerSays};
 use bitio::leb128::Leb;
 use obu::reader::Extension;
 use obu::reader::Obu;

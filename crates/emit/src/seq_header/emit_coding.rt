@@ -2,7 +2,7 @@
 ghost use Prim.Native.Nat.{_+_, _≤_};
 ghost use lib.ListN.{length};
 ghost use Rattle.bitio.specs.Bits.{bitsIn};
-ghost use Rattle.emit.specs.WroteBits.{WroteBits};
+ghost use Rattle.emit.specs.code.WroteBits.{WroteBits};
 ghost use Rattle.emittable.specs.PutSequence.{putSize, putIds, putTools, putScreen, putFilters, putColor, putSampling, putCoding};
 use crate::seq_header::emit_fields::put_bits;
 use crate::seq_header::emit_fields::put_bits_or;

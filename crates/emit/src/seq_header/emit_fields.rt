@@ -4,7 +4,7 @@ ghost use Prim.Native.Nat.{_+_, _^_, _≤_, _<_};
 ghost use lib.ListN.{length};
 ghost use Rattle.bitio.specs.Bits.{bitsIn};
 ghost use Rattle.bitio.specs.Write.{trailingWidth, trailingBits};
-ghost use Rattle.emit.specs.WroteBits.{WroteBits};
+ghost use Rattle.emit.specs.code.WroteBits.{WroteBits};
 ghost use Rattle.emittable.specs.PutFields.{put, putOr, putFlag, putFlagOr, putUvlcOr};
 use bitio::writer::BitPut;
 use bitio::writer::BitWriter;

@@ -2,7 +2,7 @@
 ghost use Prim.Native.Nat.{_+_, _^_, _≤_, _<_};
 ghost use lib.ListN.{length, take};
 ghost use Rattle.bitio.specs.Bits.{bitsIn};
-ghost use Rattle.emit.specs.WroteBits.{WroteBits};
+ghost use Rattle.emit.specs.code.WroteBits.{WroteBits};
 ghost use Rattle.emittable.specs.PutSequence.{putTiming, putModel, putOpening, putPoint, putPoints};
 ghost use Rattle.header.specs.SequencePoints.{delayBits};
 use crate::seq_header::emit_fields::put_bits;

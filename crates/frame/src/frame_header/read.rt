@@ -5,7 +5,7 @@ ghost use Rattle.bitio.specs.Limits.{limited};
 ghost use Rattle.header.specs.Sequence.{sequenceOf};
 ghost use Rattle.header.specs.Support.{hasPointInfo};
 ghost use Rattle.frame.specs.Frame.{modelled, showExisting, frameInfo, frameBits, parseFrame, parseFrameFrom, frameSays};
-ghost use Rattle.frame.specs.FrameSays.{existing, asFrame};
+ghost use Rattle.frame.specs.code.FrameSays.{existing, asFrame};
 use crate::frame_header::FrameAnswer;
 use crate::frame_header::FrameHeaderInfo;
 use crate::frame_header::FrameInfo;

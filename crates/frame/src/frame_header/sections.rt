@@ -5,7 +5,7 @@ ghost use lib.ListN.{take};
 ghost use Rattle.bitio.specs.Bits.{bitsSays};
 ghost use Rattle.header.specs.Fields.{readOr};
 ghost use Rattle.frame.specs.Frame.{modelled, allSlots, frameStart, orderHint, removalTimes, bufferRemoval};
-ghost use Rattle.frame.specs.FrameSays.{startSays, removalSays};
+ghost use Rattle.frame.specs.code.FrameSays.{startSays, removalSays};
 use crate::frame_header::FrameStart;
 use crate::frame_header::INTRA_ONLY_FRAME;
 use crate::frame_header::KEY_FRAME;

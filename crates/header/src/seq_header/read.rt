@@ -3,7 +3,7 @@ ghost use mathlib.Core.Path.{_≡_};
 ghost use Rattle.bitio.specs.Parse.{refused};
 ghost use Rattle.bitio.specs.Limits.{limited};
 ghost use Rattle.header.specs.Sequence.{parseSequence, sequenceRead};
-ghost use Rattle.header.specs.ReadSays.{refusalOf, openingSays, pointsRefusal};
+ghost use Rattle.header.specs.code.ReadSays.{refusalOf, openingSays, pointsRefusal};
 use crate::seq_header::SequenceAnswer;
 use crate::seq_header::SequenceHeader;
 use crate::seq_header::SequenceRead;

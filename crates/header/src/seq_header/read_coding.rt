@@ -2,7 +2,7 @@
 ghost use mathlib.Core.Path.{_≡_};
 ghost use Rattle.header.specs.SequenceRules.{ours};
 ghost use Rattle.header.specs.SequenceCoding.{coding};
-ghost use Rattle.header.specs.ReadSays.{codingSays, codingFrom};
+ghost use Rattle.header.specs.code.ReadSays.{codingSays, codingFrom};
 use crate::fields;
 use crate::fields::Flag;
 use crate::seq_header::Coding;

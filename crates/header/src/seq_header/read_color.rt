@@ -2,7 +2,7 @@
 ghost use mathlib.Core.Path.{_≡_};
 ghost use Rattle.header.specs.SequenceRules.{ours};
 ghost use Rattle.header.specs.SequenceCoding.{colorDescription, colorSampling};
-ghost use Rattle.header.specs.ReadSays.{colorSays, samplingSays};
+ghost use Rattle.header.specs.code.ReadSays.{colorSays, samplingSays};
 use crate::fields;
 use crate::fields::Flag;
 use crate::seq_header::ColorDescription;

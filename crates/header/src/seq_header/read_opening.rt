@@ -3,7 +3,7 @@ ghost use mathlib.Core.Path.{_≡_};
 ghost use Rattle.bitio.specs.Uvlc.{uvlcSays};
 ghost use Rattle.header.specs.SequenceRules.{ours};
 ghost use Rattle.header.specs.SequenceOpening.{timingInfo, decoderModelInfo, opening};
-ghost use Rattle.header.specs.ReadSays.{refusalOf, timingSays, modelSays, openingSays, openingFrom};
+ghost use Rattle.header.specs.code.ReadSays.{refusalOf, timingSays, modelSays, openingSays, openingFrom};
 use crate::fields;
 use crate::fields::Flag;
 use crate::seq_header::DecoderModelInfo;

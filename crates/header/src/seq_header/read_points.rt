@@ -3,7 +3,7 @@ ghost use mathlib.Core.Path.{_≡_};
 ghost use Prim.Native.Nat.{_≤_};
 ghost use lib.ListN.{replicate};
 ghost use Rattle.header.specs.SequencePoints.{operatingPoint, operatingPoints, delayBits, pointCount, noPoint};
-ghost use Rattle.header.specs.ReadSays.{pointSays, pointFrom, pointsRead};
+ghost use Rattle.header.specs.code.ReadSays.{pointSays, pointFrom, pointsRead};
 use crate::fields;
 use crate::fields::Flag;
 use crate::seq_header::Opening;

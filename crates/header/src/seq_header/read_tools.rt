@@ -1,7 +1,7 @@
 // Reading the frame size, frame ids and coding tools of a sequence header (AV1 5.5.1).
 ghost use mathlib.Core.Path.{_≡_};
 ghost use Rattle.header.specs.SequenceCoding.{frameSize, frameIds, codingTools, screenTools, filters};
-ghost use Rattle.header.specs.ReadSays.{sizeSays, idsSays, toolsSays, toolsFrom, screenSays, filtersSays};
+ghost use Rattle.header.specs.code.ReadSays.{sizeSays, idsSays, toolsSays, toolsFrom, screenSays, filtersSays};
 use crate::fields;
 use crate::fields::Flag;
 use crate::seq_header::Filters;

@@ -9,7 +9,7 @@ ghost use Rattle.obu.specs.Unit.{strayIn, ofUnit};
 ghost use Rattle.bitio.specs.Limits.{limit};
 ghost use Rattle.container.specs.Units.{countOf, outAfter, byteCountSays};
 ghost use Rattle.packets.specs.Packets.{canonicalAt};
-ghost use Rattle.packets.specs.Canonical.{endOf, Clean};
+ghost use Rattle.packets.specs.code.Canonical.{endOf, Clean};
 use bitio::numbers::plus;
 use container::ranges::put_written;
 use container::ranges::written_len;

@@ -2,7 +2,7 @@
 ghost use mathlib.Core.Path.{_≡_};
 ghost use Prim.Native.Nat.{_≤_};
 ghost use lib.ListN.{length};
-ghost use Rattle.packets.specs.PacketRuns.{listed, unitOf, closes as closesUnit, Next, Full};
+ghost use Rattle.packets.specs.code.PacketRuns.{listed, unitOf, closes as closesUnit, Next, Full};
 use obu::reader::payload;
 use obu::unit::Counted;
 use obu::unit::Kind;

@@ -4,7 +4,7 @@ ghost use mathlib.Core.Bool.{cond as pick};
 ghost use Prim.Native.Nat.{_+_, _<_};
 ghost use lib.Dec.{ltb};
 ghost use Rattle.packets.specs.PacketLists.{fitsPackets};
-ghost use Rattle.packets.specs.PacketRuns.{Totals, Closing, Ready, WroteMerged, Some, None, Outcome};
+ghost use Rattle.packets.specs.code.PacketRuns.{Totals, Closing, Ready, WroteMerged, Some, None, Outcome};
 use crate::packets::Merged;
 use crate::packets::lists::first_full;
 use crate::packets::lists::next_close;

@@ -3,7 +3,7 @@ ghost use mathlib.Core.Path.{_≡_};
 ghost use Prim.Native.Nat.{min};
 ghost use lib.ListN.{length};
 ghost use Rattle.bitio.specs.Lent.{Wrote};
-ghost use Rattle.packets.specs.PacketRuns.{listed, piece, parsesUnit, most, Run, HeadAt, LeadAt, Piece, Joins, PieceRoom, JoinsRoom};
+ghost use Rattle.packets.specs.code.PacketRuns.{listed, piece, parsesUnit, most, Run, HeadAt, LeadAt, Piece, Joins, PieceRoom, JoinsRoom};
 use crate::packets::lists::first_full;
 use crate::packets::lists::packet;
 use crate::packets::runs::lead_end;

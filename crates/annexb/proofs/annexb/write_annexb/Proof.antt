@@ -6,7 +6,7 @@ use denote.Ref.{now}
 use Rattle.bitio.specs.Parse.{accepted}
 use Rattle.container.specs.AnnexB.{annexbBytes}
 use Rattle.container.specs.Units.{unitsAt, countOf, byteCountSays}
-use Rattle.annexb.specs.Fill.{readOf}
+use Rattle.annexb.specs.code.Fill.{readOf}
 use Rattle.container.specs.Lists.{accepts}
 use Rattle.annexb.proofs.WriteLaws.{writes-refused, writes-whole, not-bytes, write-long, write-bad, write-refused, write-full, write-whole, writing}
 use Rattle.annexb.proofs.annexb.write_annexb.Statement.{statement}

@@ -4,7 +4,7 @@ use mathlib.Core.Path.{sym, ap, _∙_}
 use borrow.Author.Tests.{not-true, not-false}
 use denote.Ref.{now}
 use Rattle.assemble.specs.Whole.{six}
-use Rattle.assemble.specs.Stages.{fitsIn}
+use Rattle.assemble.specs.code.Stages.{fitsIn}
 use Rattle.assemble.specs.declared.multi.Counts.{Counts}
 use Rattle.assemble.proofs.WholeLaws.{plan-ready, sound, full, can-lay, can-pictures, can-shows, can-header, plan-refused, plan-refused-in, all-made}
 use Rattle.assemble.proofs.multi.assemble_multi.Statement.{statement}

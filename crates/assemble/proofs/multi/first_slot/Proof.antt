@@ -3,7 +3,7 @@ use Prim.Native.Nat.{ℕ}
 use mathlib.Core.Path.{ap, ap₂, _∙_}
 use mathlib.Core.List.{List}
 use Rattle.header.specs.Sequence.{sequenceOf}
-use Rattle.pictures.specs.Code.{judged, answerOr}
+use Rattle.pictures.specs.Flat.{judged, answerOr}
 use Rattle.assemble.proofs.multi.first_slot.Statement.{statement}
 use Rattle.assemble.proofs.multi.first_slot.Tie as tie
 

@@ -6,7 +6,7 @@ use lib.ListN.{length}
 use denote.Ref.{now}
 use Rattle.obu.specs.Place.{extensionSays}
 use Rattle.obu.specs.Write.{obuLength}
-use Rattle.pictures.specs.Code.{capped}
+use Rattle.pictures.specs.Flat.{capped}
 use Rattle.assemble.proofs.MultiLaws.{length-new, length-own}
 use Rattle.assemble.proofs.multi.header_len.Statement.{statement}
 use Rattle.assemble.proofs.multi.header_len.Tie as tie

@@ -8,9 +8,9 @@ use Rattle.header.specs.Support.{supportedSequence}
 use Rattle.obu.specs.Place.{part}
 use Rattle.pictures.specs.Assemble.{sameHeaders}
 use Rattle.pictures.specs.Sizes.{checkedSays}
-use Rattle.pictures.specs.Code.{laterSegments}
+use Rattle.pictures.specs.Flat.{laterSegments}
 use Rattle.blocks.specs.Numbers.{headKey}
-use Rattle.pictures.specs.Rewrite.{obuIn}
+use Rattle.pictures.specs.code.Rewrite.{obuIn}
 use Rattle.assemble.proofs.PlanLaws.{none-planned, none-planned-in, header-refused, header-other, header-same}
 use Rattle.assemble.proofs.plan.plan_header.Statement.{statement}
 use Rattle.assemble.proofs.plan.plan_header.Tie as tie

@@ -4,11 +4,11 @@ use mathlib.Core.Path.{_≡_, sym, ap, _∙_}
 use denote.Ref.{now}
 use Rattle.pictures.specs.Assemble.{made}
 use Rattle.pictures.specs.Sizes.{checkedSays}
-use Rattle.pictures.specs.Code.{firstSequence}
+use Rattle.pictures.specs.Flat.{firstSequence}
 use Rattle.bitio.specs.Parse.{accepted, andNext}
 use Rattle.pictures.proofs.HeaderLaws.{first-found}
-use Rattle.pictures.specs.Rewrite.{obuIn}
-use Rattle.assemble.specs.Stages.{checked}
+use Rattle.pictures.specs.code.Rewrite.{obuIn}
+use Rattle.assemble.specs.code.Stages.{checked}
 use Rattle.assemble.proofs.StageLaws.{Sound, checked-sound}
 use Rattle.assemble.proofs.PlanLaws.{none-planned, none-planned-in, plan-unchecked, plan-unfound, plan-found, found-type, found-at}
 use Rattle.assemble.proofs.plan.plan_multi.Statement.{statement}

@@ -4,9 +4,9 @@ use mathlib.Core.Path.{sym, ap, _∙_}
 use mathlib.Core.List.{List}
 use denote.Ref.{now}
 use Rattle.header.specs.Sequence.{sequenceOf}
-use Rattle.pictures.specs.Code.{allSegments, measured}
+use Rattle.pictures.specs.Flat.{allSegments, measured}
 use Rattle.pictures.specs.Says.{measuredSays}
-use Rattle.assemble.specs.Stages.{planSays}
+use Rattle.assemble.specs.code.Stages.{planSays}
 use Rattle.assemble.proofs.PlanLaws.{none-planned-in, pictures-refused, pictures-made}
 use Rattle.assemble.proofs.plan.plan_pictures.Statement.{statement}
 use Rattle.assemble.proofs.plan.plan_pictures.Tie as tie

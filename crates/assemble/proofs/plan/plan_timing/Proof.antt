@@ -4,7 +4,7 @@ use mathlib.Core.Path.{refl, sym, ap, _∙_}
 use denote.Ref.{now}
 use Rattle.header.specs.Sequence.{sequenceOf, sequenceSays}
 use Rattle.blocks.specs.Numbers.{headKey}
-use Rattle.pictures.specs.Rewrite.{obuIn}
+use Rattle.pictures.specs.code.Rewrite.{obuIn}
 use Rattle.assemble.proofs.PlanLaws.{timing-there, timing-new, header-own, never-refused, timed-whole, timed-emits}
 use Rattle.assemble.proofs.plan.plan_timing.Statement.{statement}
 use Rattle.assemble.proofs.plan.plan_timing.Tie as tie

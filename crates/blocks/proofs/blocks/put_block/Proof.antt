@@ -8,7 +8,7 @@ use denote.Ref.{now}
 use Rattle.bitio.specs.Lent.{pasted}
 use Rattle.bitio.proofs.LentLaws.{pasted-one, pasted-length}
 use Rattle.blocks.specs.Blocks.{Show, Key, block}
-use Rattle.blocks.specs.Lay.{entriesOf}
+use Rattle.blocks.specs.code.Lay.{entriesOf}
 use Rattle.blocks.proofs.BlockLaws.{code-small}
 use Rattle.blocks.proofs.LayLaws.{block-one, block-more, two-and-more, length-block-entries}
 use Rattle.blocks.proofs.blocks.put_block.Statement.{statement}

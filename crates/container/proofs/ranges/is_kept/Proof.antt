@@ -1,7 +1,7 @@
 use borrow.Author.Needs.{needs}
 use mathlib.Core.Path.{ap}
 use mathlib.Core.Bool.{Bool, not, _||_}
-use Rattle.container.specs.Ranges.{isKept}
+use Rattle.container.specs.code.Ranges.{isKept}
 use Rattle.container.proofs.ranges.is_kept.Statement.{statement}
 use Rattle.container.proofs.ranges.is_kept.Tie as tie
 

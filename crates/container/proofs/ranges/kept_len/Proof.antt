@@ -5,7 +5,7 @@ use mathlib.Core.Bool.{true, false}
 use Prim.Native.Nat.{_-_}
 use Rattle.bitio.proofs.LebLaws.{bytes-length}
 use Rattle.obu.proofs.WriteLaws.{ext-length}
-use Rattle.container.specs.Ranges.{isKept}
+use Rattle.container.specs.code.Ranges.{isKept}
 use Rattle.container.proofs.ranges.kept_len.Statement.{statement}
 use Rattle.container.proofs.ranges.kept_len.Tie as tie
 

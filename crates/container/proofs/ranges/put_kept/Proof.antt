@@ -9,7 +9,7 @@ use Rattle.obu.specs.Obu.{Obu, obuBytes}
 use Rattle.obu.specs.Place.{extensionSays, part}
 use Rattle.obu.specs.Write.{obu}
 use Rattle.obu.proofs.LengthLaws.{obu-length}
-use Rattle.container.specs.Ranges.{keptOne}
+use Rattle.container.specs.code.Ranges.{keptOne}
 use Rattle.container.proofs.RangeLaws.{kept-some, kept-none}
 use Rattle.container.proofs.ranges.put_kept.Statement.{statement}
 use Rattle.container.proofs.ranges.put_kept.Tie as tie

@@ -1,6 +1,6 @@
 use borrow.Author.Needs.{needs}
 use mathlib.Core.Path.{sym, ap, _∙_}
-use Rattle.container.specs.Survey.{sizesFit}
+use Rattle.container.specs.code.Survey.{sizesFit}
 use Rattle.container.proofs.StreamTurns.{roomy-most}
 use Rattle.container.proofs.stream.is_roomy.Statement.{statement}
 use Rattle.container.proofs.stream.is_roomy.Tie as tie

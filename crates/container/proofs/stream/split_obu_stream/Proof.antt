@@ -3,7 +3,7 @@ use borrow.Author.Tests.{not-true, not-false}
 use native.Mathlib.Omega.{arith}
 use mathlib.Core.Path.{sym, ap, _∙_}
 use denote.Ref.{now}
-use Rattle.container.specs.Survey.{seenSays, Surveyed}
+use Rattle.container.specs.code.Survey.{seenSays, Surveyed}
 use Rattle.container.proofs.StreamTurns.{surveyed, read-long, read-bad, read-full, read-room, read-done}
 use Rattle.container.proofs.stream.split_obu_stream.Statement.{statement}
 use Rattle.container.proofs.stream.split_obu_stream.Tie as tie

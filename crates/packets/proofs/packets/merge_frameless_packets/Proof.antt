@@ -3,7 +3,7 @@ use borrow.Author.Tests.{not-true, not-false}
 use native.Mathlib.Omega.{arith}
 use mathlib.Core.Path.{sym, _∙_}
 use denote.Ref.{now}
-use Rattle.packets.specs.PacketRuns.{Given}
+use Rattle.packets.specs.code.PacketRuns.{Given}
 use Rattle.packets.proofs.PacketOutcomeLaws.{out-long, out-unmatched, out-wrong, none-closes, four}
 use Rattle.packets.proofs.packets.merge_frameless_packets.Statement.{statement}
 use Rattle.packets.proofs.packets.merge_frameless_packets.Tie as tie

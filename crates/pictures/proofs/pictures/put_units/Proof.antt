@@ -6,7 +6,7 @@ use Prim.Native.Nat.{ℕ, _+_}
 use lib.ListN.{length, length-append, length-set}
 use denote.Ref.{now}
 use Rattle.bitio.proofs.LentLaws.{pasted-length}
-use Rattle.pictures.specs.Code.{sentBytes}
+use Rattle.pictures.specs.Flat.{sentBytes}
 use Rattle.pictures.proofs.PutLaws.{two-units, two-ends}
 use Rattle.pictures.proofs.pictures.put_units.Statement.{statement}
 use Rattle.pictures.proofs.pictures.put_units.Tie as tie

@@ -1,6 +1,6 @@
 use borrow.Author.Needs.{needs}
 use mathlib.Core.Path.{sym, ap, _∙_}
-use Rattle.pictures.specs.Code.{answerOr}
+use Rattle.pictures.specs.Flat.{answerOr}
 use Rattle.pictures.specs.Says.{slotSays}
 use Rattle.pictures.proofs.pictures.slot_or_zero.Statement.{statement}
 use Rattle.pictures.proofs.pictures.slot_or_zero.Tie as tie

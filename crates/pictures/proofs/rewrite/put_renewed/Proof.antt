@@ -8,7 +8,7 @@ use Rattle.obu.specs.Obu.{Obu, obuBytes}
 use Rattle.obu.specs.Write.{obu}
 use Rattle.obu.proofs.LengthLaws.{obu-length}
 use Rattle.pictures.specs.Prepare.{renewed}
-use Rattle.pictures.specs.Rewrite.{obuIn}
+use Rattle.pictures.specs.code.Rewrite.{obuIn}
 use Rattle.pictures.proofs.RewriteLaws.{renewed-some, renewed-none}
 use Rattle.pictures.proofs.rewrite.put_renewed.Statement.{statement}
 use Rattle.pictures.proofs.rewrite.put_renewed.Tie as tie

@@ -12,8 +12,8 @@ use Rattle.bitio.proofs.LentLaws.{pasted-nil}
 use Rattle.obu.specs.Obu.{obus}
 use Rattle.obu.specs.Unit.{count, countedSays}
 use Rattle.pictures.specs.Prepare.{isSequence}
-use Rattle.pictures.specs.Code.{readable, sentBytes}
-use Rattle.pictures.specs.Rewrite.{rewritten}
+use Rattle.pictures.specs.Flat.{readable, sentBytes}
+use Rattle.pictures.specs.code.Rewrite.{rewritten}
 use Rattle.pictures.proofs.SentLaws.{sent-plain, sent-refused, sent-copied, sent-rewritten}
 use Rattle.pictures.proofs.rewrite.put_sent.Statement.{statement}
 use Rattle.pictures.proofs.rewrite.put_sent.Tie as tie

@@ -9,7 +9,7 @@ use Rattle.bitio.specs.Parse.{accepted, answer}
 use Rattle.obu.specs.Obu.{obus}
 use Rattle.obu.specs.Unit.{count, countedSays}
 use Rattle.pictures.specs.Prepare.{isSequence}
-use Rattle.pictures.specs.Code.{capped}
+use Rattle.pictures.specs.Flat.{capped}
 use Rattle.pictures.proofs.SentLaws.{sent-plain, sent-refused, sent-copied, sent-rewritten}
 use Rattle.pictures.proofs.rewrite.sent_len.Statement.{statement}
 use Rattle.pictures.proofs.rewrite.sent_len.Tie as tie

@@ -3,7 +3,7 @@ use native.Mathlib.Omega.{arith}
 use Prim.Native.Nat.{_+_}
 use mathlib.Core.Path.{ap, _∙_}
 use denote.Ref.{now}
-use Rattle.player.specs.Code.{playedBy}
+use Rattle.player.specs.Values.{playedBy}
 use Rattle.playback.proofs.ShownLaws.{unit-at}
 use Rattle.playback.proofs.play.play_at.Statement.{statement}
 use Rattle.playback.proofs.play.play_at.Tie as tie

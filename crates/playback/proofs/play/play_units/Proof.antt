@@ -3,7 +3,7 @@ use native.Mathlib.Omega.{arith}
 use Prim.Native.Nat.{_-_}
 use mathlib.Core.Path.{refl, ap, _∙_}
 use lib.ListN.{length}
-use Rattle.player.specs.Code.{stateSays}
+use Rattle.player.specs.Values.{stateSays}
 use Rattle.player.proofs.StepLaws.{start-says, leaves-so}
 use Rattle.playback.specs.Shown.{codeNumber}
 use Rattle.playback.proofs.ShownLaws.{number-says, Playing, playing-start, playing-slot, playing-next, playing-long, playing-end}

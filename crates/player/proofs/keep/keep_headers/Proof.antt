@@ -13,7 +13,7 @@ use Rattle.obu.specs.Unit.{isType, isKind}
 use Rattle.obu.specs.declared.unit.Kind.the-variants.{SequenceHeader}
 use Rattle.obu.proofs.PlaceLaws.{IsPlaced, is-placed, at-end, Walked, walk-start, walk-next, walk-end, walk-stop, not-found, part-placed}
 use Rattle.player.specs.Player.{keepAs}
-use Rattle.player.specs.Code.{keptOf, keeping, keptBehind}
+use Rattle.player.specs.Values.{keptOf, keeping, keptBehind}
 use Rattle.player.proofs.KeepLaws.{turn-header, turn-other}
 use Rattle.player.proofs.keep.keep_headers.Statement.{statement}
 use Rattle.player.proofs.keep.keep_headers.Tie as tie

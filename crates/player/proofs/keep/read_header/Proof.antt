@@ -1,6 +1,6 @@
 use borrow.Author.Needs.{needs}
 use mathlib.Core.Path.{ap}
-use Rattle.player.specs.Code.{keeping}
+use Rattle.player.specs.Values.{keeping}
 use Rattle.player.proofs.KeepLaws.{header-refused, header-read}
 use Rattle.player.proofs.keep.read_header.Statement.{statement}
 use Rattle.player.proofs.keep.read_header.Tie as tie

@@ -1,7 +1,7 @@
 use borrow.Author.Needs.{needs}
 use mathlib.Core.Path.{sym, ap, _∙_}
 use Rattle.player.specs.Player.{act}
-use Rattle.player.specs.Code.{actedOn}
+use Rattle.player.specs.Values.{actedOn}
 use Rattle.player.proofs.slots.play_frame.Statement.{statement}
 use Rattle.player.proofs.slots.play_frame.Tie as tie
 

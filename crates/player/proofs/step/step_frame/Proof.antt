@@ -3,7 +3,7 @@ use mathlib.Core.Path.{sym, ap, _∙_}
 use denote.Ref.{now}
 use Rattle.frame.specs.Frame.{frameSays}
 use Rattle.player.specs.Player.{act}
-use Rattle.player.specs.Code.{keptSays, playedOn, leftIn}
+use Rattle.player.specs.Values.{keptSays, playedOn, leftIn}
 use Rattle.player.proofs.StepLaws.{frame-left, kept-none, kept-refused, kept-frame}
 use Rattle.player.proofs.step.step_frame.Statement.{statement}
 use Rattle.player.proofs.step.step_frame.Tie as tie

@@ -1,6 +1,6 @@
 use borrow.Author.Needs.{needs}
 use denote.Ref.{now}
-use Rattle.protocol.proofs.MemoryLaws.{getD-past}
+use Rattle.bitio.proofs.EndsLaws.{getD-past}
 use Rattle.protocol.proofs.memory.number_at.Statement.{statement}
 use Rattle.protocol.proofs.memory.number_at.Tie as tie
 

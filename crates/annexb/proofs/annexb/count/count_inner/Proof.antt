@@ -6,7 +6,7 @@ use denote.Ref.{now}
 use lib.ListN.{length}
 use Rattle.obu.specs.Place.{obuSays, extensionSays}
 use Rattle.obu.proofs.PlaceLaws.{IsPlaced, is-placed, not-found}
-use Rattle.annexb.specs.Join.{framedLength}
+use Rattle.annexb.specs.code.Join.{framedLength}
 use Rattle.annexb.proofs.JoinLaws.{Counting, counting-start, counting-next, counting-stop, counting-end, inner-few}
 use Rattle.annexb.proofs.annexb.count.count_inner.Statement.{statement}
 use Rattle.annexb.proofs.annexb.count.count_inner.Tie as tie

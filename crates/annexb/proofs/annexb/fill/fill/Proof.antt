@@ -9,7 +9,7 @@ use Rattle.bitio.specs.Parse.{accepted, answer, item, many}
 use Rattle.obu.specs.Obu.{Obu, unitBytes}
 use Rattle.container.specs.Stream.{flat}
 use Rattle.container.specs.AnnexB.{frameUnit, temporalUnit}
-use Rattle.annexb.specs.Spans.{span, partSays}
+use Rattle.annexb.specs.code.Spans.{span, partSays}
 use Rattle.bitio.specs.Lent.{Wrote}
 use Rattle.bitio.specs.Limits.{limit}
 use Rattle.container.proofs.AnnexBLaws.{temporal-shrinks}

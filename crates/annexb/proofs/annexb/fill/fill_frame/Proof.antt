@@ -6,7 +6,7 @@ use denote.Ref.{now}
 use Rattle.obu.specs.Obu.{obuBytes}
 use Rattle.obu.specs.Place.{extensionSays}
 use Rattle.container.specs.AnnexB.{lengthObu}
-use Rattle.annexb.specs.Spans.{innerSays}
+use Rattle.annexb.specs.code.Spans.{innerSays}
 use Rattle.container.proofs.AnnexBLaws.{length-shrinks}
 use Rattle.annexb.proofs.PartLaws.{IsObuAt, is-obu-at, not-obu}
 use Rattle.annexb.proofs.MeasureLaws.{obu-size}

@@ -3,7 +3,7 @@ use mathlib.Core.Path.{sym, ap, _∙_}
 use Prim.Native.Nat.{_+_}
 use denote.Ref.{now}
 use Rattle.obu.proofs.LengthLaws.{obu-length}
-use Rattle.annexb.specs.Spans.{span}
+use Rattle.annexb.specs.code.Spans.{span}
 use Rattle.annexb.proofs.SpanLaws.{span-length}
 use Rattle.annexb.proofs.annexb.fill.put_inner.Statement.{statement}
 use Rattle.annexb.proofs.annexb.fill.put_inner.Tie as tie

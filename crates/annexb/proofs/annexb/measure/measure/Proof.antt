@@ -8,7 +8,7 @@ use mathlib.Core.Logic.{⊎-elim}
 use denote.Ref.{now}
 use Rattle.bitio.specs.Parse.{refused}
 use Rattle.obu.specs.Place.{extensionSays}
-use Rattle.annexb.specs.Spans.{partSays, innerSays}
+use Rattle.annexb.specs.code.Spans.{partSays, innerSays}
 use Rattle.annexb.proofs.PartLaws.{IsPart, is-part, not-part, IsObuAt, is-obu-at, not-obu}
 use Rattle.annexb.proofs.MeasureLaws.{UnitsDone, FramesDone, Obus, Left, ended, faulted, units-start, frames-start, obus-start, obus-next, obus-end, frames-end, units-stop, frames-stop, obus-stop, last-in, left-answer}
 use Rattle.annexb.proofs.annexb.measure.measure.Statement.{statement}

@@ -2,7 +2,7 @@ use borrow.Author.Needs.{needs}
 use native.Mathlib.Omega.{arith}
 use mathlib.Core.Path.{sym, ap, _∙_}
 use denote.Ref.{now}
-use Rattle.annexb.specs.Spans.{partSays}
+use Rattle.annexb.specs.code.Spans.{partSays}
 use Rattle.annexb.proofs.PartLaws.{IsPart, is-part, not-part, length-stop, length-part}
 use Rattle.annexb.proofs.annexb.part.length_obu_at.Statement.{statement}
 use Rattle.annexb.proofs.annexb.part.length_obu_at.Tie as tie

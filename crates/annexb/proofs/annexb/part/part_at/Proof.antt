@@ -8,7 +8,7 @@ use lib.ListN.{length}
 use Rattle.bitio.specs.Leb.{readLeb, number, lebAnswer}
 use Rattle.bitio.specs.declared.leb128.Leb.the-variants.{Value}
 use Rattle.bitio.proofs.LebLaws.{is-number, is-bad}
-use Rattle.annexb.specs.Spans.{span}
+use Rattle.annexb.specs.code.Spans.{span}
 use Rattle.annexb.proofs.SpanLaws.{span-length, span-drop}
 use Rattle.annexb.proofs.PartLaws.{part-none, part-over, part-got}
 use Rattle.annexb.proofs.annexb.part.part_at.Statement.{statement}

@@ -7,9 +7,9 @@ use lib.ListN.{length}
 use Rattle.bitio.specs.Leb.{lebBytes}
 use Rattle.obu.specs.Place.{extensionSays}
 use Rattle.obu.proofs.ObuLaws.{passes-small}
-use Rattle.annexb.specs.Spans.{span}
+use Rattle.annexb.specs.code.Spans.{span}
 use Rattle.bitio.specs.Lent.{Wrote}
-use Rattle.annexb.specs.Join.{innerLength}
+use Rattle.annexb.specs.code.Join.{innerLength}
 use Rattle.annexb.proofs.SpanLaws.{span-length}
 use Rattle.annexb.proofs.JoinLaws.{inner-laid}
 use Rattle.annexb.proofs.annexb.write.put_length_obu.Statement.{statement}

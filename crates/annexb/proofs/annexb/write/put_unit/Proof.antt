@@ -10,7 +10,7 @@ use Rattle.bitio.specs.Leb.{lebBytes}
 use Rattle.container.specs.AnnexB.{innerBytes, annexbUnit}
 use Rattle.container.specs.Units.{byteCountSays}
 use Rattle.bitio.specs.Lent.{Wrote}
-use Rattle.annexb.specs.Join.{atMost, framedLength}
+use Rattle.annexb.specs.code.Join.{atMost, framedLength}
 use Rattle.annexb.proofs.JoinLaws.{counts-held, counts-refused, unit-size, unit-laid}
 use Rattle.annexb.proofs.WriteLaws.{not-bytes}
 use Rattle.annexb.proofs.annexb.write.put_unit.Statement.{statement}

@@ -5,7 +5,7 @@ use Rattle.emit.proofs.seq_header.emit_opening.put_points.Tie as tie
 use Prim.Native.Nat.{_≤_, _*_, _-_}
 use lib.ListN.{take}
 use Rattle.emittable.specs.PutSequence.{putPoints}
-use Rattle.emit.specs.WroteBits.{WroteBits}
+use Rattle.emit.specs.code.WroteBits.{WroteBits}
 use Rattle.emit.proofs.WroteLaws.{wrote-first, wrote-point, wrote-points}
 
 abbrev Inv-loop : tie.InvT-loop

@@ -5,7 +5,7 @@ use Rattle.bitio.specs.Parse.{Answer}
 use Rattle.bitio.specs.Bits.{bitsSays}
 use Rattle.header.specs.Sequence.{sequenceOf}
 use Rattle.frame.specs.Frame.{modelled, frameInfo}
-use Rattle.frame.specs.FrameSays.{startSays, removalSays, asFrame}
+use Rattle.frame.specs.code.FrameSays.{startSays, removalSays, asFrame}
 use Rattle.frame.specs.declared.frame_header.FrameHeaderInfo.{FrameHeaderInfo}
 use Rattle.header.proofs.ReadLaws.{Chain}
 use Rattle.frame.proofs.FrameChain.{on-in}

@@ -5,7 +5,7 @@ use Rattle.bitio.specs.Bits.{bitsSays}
 use Rattle.bitio.specs.Parse.{Answer}
 use Rattle.frame.specs.Frame.{showExisting}
 use Rattle.frame.specs.declared.frame_header.FrameHeaderInfo.{FrameHeaderInfo}
-use Rattle.frame.specs.FrameSays.{existing}
+use Rattle.frame.specs.code.FrameSays.{existing}
 use Rattle.header.proofs.ReadLaws.{Chain}
 use Rattle.frame.proofs.FrameChain.{on-in, at-test-in}
 use Rattle.frame.proofs.frame_header.read.show_existing.Statement.{statement}

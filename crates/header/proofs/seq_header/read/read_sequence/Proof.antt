@@ -7,7 +7,7 @@ use Rattle.bitio.specs.Bits.{reads}
 use Rattle.header.specs.SequenceRules.{ours}
 use Rattle.header.specs.SequenceOpening.{opening}
 use Rattle.header.specs.Sequence.{sequenceRead}
-use Rattle.header.specs.ReadSays.{refusalOf, openingSays, pointsRefusal, codingSays}
+use Rattle.header.specs.code.ReadSays.{refusalOf, openingSays, pointsRefusal, codingSays}
 use Rattle.header.specs.declared.seq_header.read_points.Points.{Points}
 use Rattle.header.proofs.WithinLaws.{opening-within}
 use Rattle.header.proofs.ParseLaws.{no-opening, no-points, no-coding, whole}

@@ -4,7 +4,7 @@ use denote.Ref.{now}
 use Rattle.bitio.specs.Bits.{Reading}
 use Rattle.header.specs.SequenceRules.{ours}
 use Rattle.header.specs.SequenceCoding.{coding}
-use Rattle.header.specs.ReadSays.{filtersSays, idsSays, screenSays, sizeSays, toolsSays, codingFrom}
+use Rattle.header.specs.code.ReadSays.{filtersSays, idsSays, screenSays, sizeSays, toolsSays, codingFrom}
 use Rattle.header.specs.declared.seq_header.Coding.{Coding}
 use Rattle.header.proofs.ReadLaws.{Chain, on}
 use Rattle.header.proofs.seq_header.read_coding.read_coding.Statement.{statement}

@@ -3,7 +3,7 @@ use mathlib.Core.Path.{refl, sym}
 use denote.Ref.{now}
 use Rattle.bitio.specs.Bits.{Reading}
 use Rattle.header.specs.Fields.{flagSays}
-use Rattle.header.specs.ReadSays.{colorSays, samplingSays, codingFrom}
+use Rattle.header.specs.code.ReadSays.{colorSays, samplingSays, codingFrom}
 use Rattle.header.specs.declared.seq_header.Coding.{Coding}
 use Rattle.header.proofs.ReadLaws.{Chain, on}
 use Rattle.header.proofs.seq_header.read_coding.read_coding_from.Statement.{statement}

@@ -5,7 +5,7 @@ use Rattle.bitio.specs.Bits.{Reading, bitsSays}
 use Rattle.header.specs.Fields.{flagSays}
 use Rattle.header.specs.SequenceRules.{ours}
 use Rattle.header.specs.SequenceOpening.{opening}
-use Rattle.header.specs.ReadSays.{openingFrom}
+use Rattle.header.specs.code.ReadSays.{openingFrom}
 use Rattle.header.specs.declared.seq_header.Opening.{Opening}
 use borrow.Author.Tests.{lt-ltb, le-ltb}
 use Rattle.header.proofs.ReadLaws.{Chain, on, at-test}

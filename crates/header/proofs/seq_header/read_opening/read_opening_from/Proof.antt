@@ -3,7 +3,7 @@ use mathlib.Core.Path.{refl, sym, ap, _∙_}
 use denote.Ref.{now}
 use Rattle.bitio.specs.Bits.{Reading, fails, bitsSays}
 use Rattle.header.specs.Fields.{flagSays}
-use Rattle.header.specs.ReadSays.{refusalOf, modelSays, timingSays, openingFrom}
+use Rattle.header.specs.code.ReadSays.{refusalOf, modelSays, timingSays, openingFrom}
 use Rattle.header.specs.declared.seq_header.Opening.{Opening}
 use Rattle.header.proofs.ReadLaws.{Chain, on}
 use Rattle.header.proofs.seq_header.read_opening.read_opening_from.Statement.{statement}

@@ -3,7 +3,7 @@ use mathlib.Core.Path.{refl, sym}
 use denote.Ref.{now}
 use Rattle.bitio.specs.Bits.{Reading, bitsSays}
 use Rattle.header.specs.Fields.{flagSays}
-use Rattle.header.specs.ReadSays.{pointFrom}
+use Rattle.header.specs.code.ReadSays.{pointFrom}
 use Rattle.header.specs.declared.seq_header.OperatingPoint.{OperatingPoint}
 use Rattle.header.proofs.ReadLaws.{Chain, on}
 use Rattle.header.proofs.seq_header.read_points.read_point_from.Statement.{statement}

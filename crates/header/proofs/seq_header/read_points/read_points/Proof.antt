@@ -6,7 +6,7 @@ use mathlib.Core.Path.{_≡_, sym, ap, _∙_}
 use mathlib.Core.List.{List}
 use denote.Ref.{now}
 use Rattle.header.specs.SequencePoints.{operatingPoints, pointCount, padded}
-use Rattle.header.specs.ReadSays.{pointSays, pointsRead}
+use Rattle.header.specs.code.ReadSays.{pointSays, pointsRead}
 use Rattle.header.specs.declared.seq_header.OperatingPoint.{OperatingPoint}
 use Rattle.header.specs.declared.seq_header.read_points.PointsAnswer.the-variants.{Refused}
 use Rattle.header.proofs.PointLaws.{filled, fill-more, fill-short, fill-end, fill-start}

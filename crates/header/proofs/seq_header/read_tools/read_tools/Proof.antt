@@ -4,7 +4,7 @@ use denote.Ref.{now}
 use Rattle.bitio.specs.Bits.{Reading}
 use Rattle.header.specs.Fields.{flagSays}
 use Rattle.header.specs.SequenceCoding.{codingTools}
-use Rattle.header.specs.ReadSays.{toolsFrom}
+use Rattle.header.specs.code.ReadSays.{toolsFrom}
 use Rattle.header.specs.declared.seq_header.Tools.{Tools}
 use Rattle.header.proofs.ReadLaws.{Chain, on}
 use Rattle.header.proofs.seq_header.read_tools.read_tools.Statement.{statement}

@@ -9,11 +9,11 @@ use lib.ListN.{length, length-append}
 use borrow.Author.Tests.{not-true, not-false, leb-true}
 use Rattle.bitio.specs.Lent.{pasted}
 use Rattle.bitio.proofs.LentLaws.{pasted-more, pasted-length}
-use Rattle.container.specs.Ranges.{Range, keptBytes}
+use Rattle.container.specs.code.Ranges.{Range, keptBytes}
 use Rattle.bitio.proofs.ParseLaws.{and-both}
 use Rattle.bitio.specs.Limits.{limit}
 use Rattle.container.specs.Limits.{fits}
-use Rattle.packets.specs.PacketRuns.{most}
+use Rattle.packets.specs.code.PacketRuns.{most}
 use Rattle.packets.proofs.RoomLaws.{fits-most}
 use Rattle.packets.proofs.CanonicalLaws.{split-first, Stray, stray, outRoom, canon-roomless, canon-there}
 use Rattle.packets.proofs.packets.canonical.clean_unit.Statement.{statement}

@@ -1,7 +1,7 @@
 use borrow.Author.Needs.{needs}
 use mathlib.Core.Path.{sym, ap, _∙_}
 use Rattle.obu.specs.Place.{obuSays}
-use Rattle.packets.specs.Canonical.{endOf}
+use Rattle.packets.specs.code.Canonical.{endOf}
 use Rattle.packets.proofs.packets.canonical.first_end.Statement.{statement}
 use Rattle.packets.proofs.packets.canonical.first_end.Tie as tie
 

@@ -5,7 +5,7 @@ use Prim.Native.Nat.{_-_, _≤_}
 use lib.ListN.{length}
 use lib.Seq.{slice}
 use Rattle.bitio.specs.Every.{Every}
-use Rattle.packets.specs.PacketRuns.{listed, closes, Waits}
+use Rattle.packets.specs.code.PacketRuns.{listed, closes, Waits}
 use Rattle.packets.proofs.PacketListLaws.{listed-length, none-yet, wait-more}
 use denote.Ref.{now}
 use Rattle.packets.proofs.packets.lists.next_close.Statement.{statement}

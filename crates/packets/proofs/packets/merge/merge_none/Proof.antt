@@ -6,7 +6,7 @@ use mathlib.Core.Bool.{true}
 use Prim.Native.Nat.{_<_}
 use denote.Ref.{now}
 use lib.ListN.{length}
-use Rattle.packets.specs.PacketRuns.{Totals, MergeRoom}
+use Rattle.packets.specs.code.PacketRuns.{Totals, MergeRoom}
 use Rattle.packets.specs.PacketLists.{fitsPackets, lentRoom}
 use Rattle.packets.proofs.PacketOutcomeLaws.{none-run, out-none, out-full, out-room, out-size, out-there, one-totals, one-room, one-slots, one-written}
 use Rattle.packets.proofs.packets.merge.merge_none.Statement.{statement}

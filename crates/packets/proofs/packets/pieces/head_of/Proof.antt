@@ -1,5 +1,5 @@
 use native.Mathlib.Omega.{arith}
-use Rattle.packets.specs.PacketRuns.{found, missing}
+use Rattle.packets.specs.code.PacketRuns.{found, missing}
 use Rattle.packets.proofs.packets.pieces.head_of.Statement.{statement}
 use Rattle.packets.proofs.packets.pieces.head_of.Tie as tie
 

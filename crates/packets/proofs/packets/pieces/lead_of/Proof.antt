@@ -1,6 +1,6 @@
 use borrow.Author.Needs.{needs}
 use native.Mathlib.Omega.{arith}
-use Rattle.packets.specs.PacketRuns.{waiting, closing, behind}
+use Rattle.packets.specs.code.PacketRuns.{waiting, closing, behind}
 use Rattle.packets.proofs.PacketPieceLaws.{front-run, back-run, lead-yes, lead-no}
 use Rattle.packets.proofs.packets.pieces.lead_of.Statement.{statement}
 use Rattle.packets.proofs.packets.pieces.lead_of.Tie as tie

@@ -3,7 +3,7 @@ use native.Mathlib.Omega.{arith}
 use mathlib.Core.Path.{sym, ap, _∙_}
 use denote.Ref.{now}
 use lib.ListN.{length}
-use Rattle.packets.specs.PacketRuns.{parsesUnit}
+use Rattle.packets.specs.code.PacketRuns.{parsesUnit}
 use Rattle.packets.proofs.PacketPieceLaws.{parses-is, parses-not, front-run, back-run, apart-size}
 use Rattle.packets.proofs.packets.pieces.piece_len.Statement.{statement}
 use Rattle.packets.proofs.packets.pieces.piece_len.Tie as tie

@@ -6,7 +6,7 @@ use denote.Ref.{now}
 use lib.ListN.{length}
 use Rattle.bitio.specs.Parse.{refused}
 use Rattle.obu.specs.Obu.{obus}
-use Rattle.packets.specs.PacketRuns.{unitOf, parsesUnit}
+use Rattle.packets.specs.code.PacketRuns.{unitOf, parsesUnit}
 use Rattle.packets.proofs.PacketPieceLaws.{parses-is, parses-not, wrote-copy, apart-front, apart-mid, apart-back, apart-wrote}
 use Rattle.packets.proofs.packets.pieces.put_piece.Statement.{statement}
 use Rattle.packets.proofs.packets.pieces.put_piece.Tie as tie

@@ -5,7 +5,7 @@ use Prim.Native.Nat.{_-_, _≤_}
 use denote.Ref.{now}
 use lib.ListN.{length}
 use Rattle.bitio.specs.Lent.{Wrote}
-use Rattle.packets.specs.PacketRuns.{listed}
+use Rattle.packets.specs.code.PacketRuns.{listed}
 use Rattle.packets.proofs.PacketRunLaws.{runBytes, run-start, run-roomy, run-same, run-wrote, run-wrote-all}
 use Rattle.packets.proofs.packets.runs.put_run.Statement.{statement}
 use Rattle.packets.proofs.packets.runs.put_run.Tie as tie

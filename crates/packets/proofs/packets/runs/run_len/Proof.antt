@@ -4,7 +4,7 @@ use mathlib.Core.Path.{_≡_, ap}
 use Prim.Native.Nat.{_-_, _≤_, min}
 use denote.Ref.{now}
 use lib.ListN.{length}
-use Rattle.packets.specs.PacketRuns.{listed, most}
+use Rattle.packets.specs.code.PacketRuns.{listed, most}
 use Rattle.packets.proofs.PacketRunLaws.{runBytes, run-none, run-ranged, run-turn, run-done}
 use Rattle.packets.proofs.packets.runs.run_len.Statement.{statement}
 use Rattle.packets.proofs.packets.runs.run_len.Tie as tie

@@ -10,7 +10,7 @@ use Rattle.obu.specs.Obu.{Obu, unitBytes}
 use Rattle.obu.specs.Unit.{isFrame, count}
 use Rattle.container.specs.Limits.{Room, fits}
 use Rattle.container.specs.Units.{Sizes}
-use Rattle.container.specs.Extents.{StreamFrames}
+use Rattle.container.specs.code.Extents.{StreamFrames}
 use Rattle.container.specs.declared.survey.Seen.{Seen}
 use Rattle.container.specs.declared.survey.Seen.the-variants.{Stream, Refused}
 

@@ -13,7 +13,7 @@ use Rattle.obu.specs.Place.{part}
 use Rattle.obu.specs.Unit.{ofUnit}
 use Rattle.container.specs.Stream.{lead, others, either, hasFrame, streamBytes}
 use Rattle.bitio.specs.Limits.{limit}
-use Rattle.container.specs.Ranges.{keptBytes}
+use Rattle.container.specs.code.Ranges.{keptBytes}
 use Rattle.packets.specs.Packets.{Packet, mergePackets}
 use Rattle.container.specs.Units.{unitsAt, endsOf, sizesOf, bytesAfter, endsAfter}
 use Rattle.container.specs.Lists.{accepts}

@@ -9,7 +9,7 @@ use Rattle.obu.specs.Obu.{Obu, obus, unitBytes}
 use Rattle.obu.specs.Unit.{isDelimiter, isFrame, count}
 use Rattle.container.specs.Stream.{opens, lead, either, others, units, flat}
 use Rattle.bitio.specs.Limits.{limit}
-use Rattle.container.specs.Ranges.{Range}
+use Rattle.container.specs.code.Ranges.{Range}
 use Rattle.bitio.specs.Lent.{Wrote}
 
 -- the last delimiter, if there is one

@@ -21,7 +21,7 @@ use Rattle.pictures.specs.Prepare.{effective, renewal, Prepared}
 use Rattle.pictures.specs.declared.settings.Settings.{Settings}
 use Rattle.pictures.specs.Assemble.{Outcome, stopped, made, andAlso, inSegment, sameHeaders, headerObu, prepareAll, pictureOf, Room}
 use Rattle.pictures.specs.Sizes.{sizedAll, ranged}
-use Rattle.pictures.specs.Code.{allSegments, laterSegments, firstSequence, judged, renewing, answerOr, allPrepared, capped}
+use Rattle.pictures.specs.Flat.{allSegments, laterSegments, firstSequence, judged, renewing, answerOr, allPrepared, capped}
 use Rattle.assemble.specs.declared.multi.Counts.{Counts}
 use Rattle.assemble.specs.declared.plan.Basis.{Basis}
 use Rattle.assemble.specs.declared.plan.Planned.{Planned}

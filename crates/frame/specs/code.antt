@@ -1,0 +1,2 @@
+pub mod FrameSays
+pub mod RemovalFlag
