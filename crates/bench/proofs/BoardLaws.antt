@@ -12,7 +12,7 @@ use lib.Dec.{leb}
 use borrow.Author.Tests.{le-leb, lt-leb, eqb-true}
 use Rattle.blocks.specs.Numbers.{width, segmentCount, isWhole, recordAt, recordsFrom, records, recordsBehind}
 use Rattle.blocks.proofs.NumberLaws.{number-at, behind-start, behind-end, behind-more, records-length}
-use Rattle.pictures.specs.Assemble.{Outcome, stopped, Output}
+use Rattle.pictures.specs.Assemble.{stopped}
 use Rattle.pictures.specs.declared.settings.Settings.{Settings}
 use Rattle.assemble.specs.Whole.{Lent, outcome}
 use Rattle.assemble.specs.Records.{numbersOf, noRoom, recordsOutcome}

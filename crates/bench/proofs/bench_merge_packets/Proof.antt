@@ -1,5 +1,5 @@
 use borrow.Author.Needs.{needs}
-use mathlib.Core.Path.{_≡_, sym, ap, _∙_}
+use mathlib.Core.Path.{sym, ap, _∙_}
 use Rattle.packets.specs.PacketLists.{mergedSays}
 use Rattle.bench.specs.Counts.{unitsOrNone}
 use Rattle.bench.proofs.bench_merge_packets.Statement.{statement}

@@ -1,7 +1,7 @@
 use borrow.Author.Needs.{needs}
 use borrow.Author.Tests.{le-leb, lt-leb}
 use native.Mathlib.Omega.{arith}
-use mathlib.Core.Path.{_≡_, sym, _∙_}
+use mathlib.Core.Path.{sym, _∙_}
 use Rattle.bitio.proofs.LentLaws.{lent-room, lent-full}
 use Rattle.bench.proofs.bench_put_bytes.Statement.{statement}
 use Rattle.bench.proofs.bench_put_bytes.Tie as tie
