@@ -56,16 +56,16 @@ uint32_t magbelo_split_obu_stream(const uint8_t *data, size_t data_len, uint8_t 
  *   shows     5 * n bytes, no fewer
  *   header    400 bytes where the first key's sequence header has no timing (it is replaced); else its own OBU's bytes + 8
  *   pictures  the lengths of all keys and goldens added up, which ranges that overlap make more than picture_bytes. Where
- *             the sequence header has timing that is all, and no less will do; else 410 more for each of their sequence header OBUs and 8 for
- *             each other OBU
+ *             the sequence header has timing that is all, and no less will do; else 410 more for each of their sequence
+ *             header OBUs and 8 for each other OBU
  *
  * Or returns a refusal. Its low 32 bits are the number, the high ones the segment counted from 1, or 0 where no segment
  * is to blame:
  *   34  more than 4,000,000,000 bytes of input
  *   36  a range that is not within `picture`, or numbers that are no five a segment
- *   21  no segments
- *   22  gop_size under 2
- *   23  under 2 frames in all
+ *   21  there is no segment
+ *   22  gop_size is 0 or 1
+ *   23  fewer than two frames in all
  *   24  a segment without frames
  *   25  over 5,000,000 frames in all
  *    1 to 5  a unit that does not read, as above
