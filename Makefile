@@ -1,8 +1,8 @@
-# The gate and the programs. All need the Rattle kit (the command rt); the tests from C need gcc and g++.
+# The gate and the programs. All need the Rattle kit (the command rt); the tests need gcc, g++ and python3.
 .PHONY: test run check channel
 
 # The gate: from nothing, every proof, every must-fail edit, every program against its recorded output, then the C program
-# against the exported functions and boardplay's text.
+# against the exported functions, every refusal and boardplay's text.
 test:
 	.ci/run
 
