@@ -1,12 +1,12 @@
 -- What putting a byte string into memory comes to.
 use mathlib.Core.Path.{_≡_, refl, sym, ap, _∙_}
 use mathlib.Core.List.{List, []}
-use mathlib.Core.Bool.{Bool, true, false, cond as pick}
+use mathlib.Core.Bool.{true, false}
 use Prim.Native.Nat.{ℕ, _+_, _≤_, _<_}
 use native.Mathlib.Omega.{arith}
 use native.Mathlib.Nat.{add-zero}
 use lib.ListN.{length}
-use borrow.Author.Tests.{le-leb, lt-leb, leb-true}
+use borrow.Author.Tests.{le-leb, lt-leb}
 use Rattle.bitio.specs.Lent.{hasRoom, pasted}
 use Rattle.bitio.proofs.LentLaws.{pasted-nil, lent-room, lent-full}
 use Rattle.protocol.specs.Text.{Meaning, none, spells}
@@ -52,13 +52,3 @@ module _ (d : List ℕ) (w : ℕ) where
   comes-dash m e h =
       let p = comes-bytes m [] 0 e refl (rw (add-zero w) h) in
       (ap (λ (n : ℕ). spells n) (sym (add-zero w)) ∙ p .0, sym (pasted-nil d w) ∙ p .1)
-
-  -- the place behind the bytes lies within the memory
-  pub comes-within : (m : Meaning (List ℕ)) (n : ℕ) → spells n ≡ decodedTo d w m → n ≤ length d
-  unfolding hasRoom decodedTo
-  comes-within none n e = let z : _≡_ {A = ℕ} 0 1 = cc in absurd (omega arith)
-  comes-within (spells xs) n e = go (hasRoom d w xs) refl e
-    where
-      go : (t : Bool) → hasRoom d w xs ≡ t → spells n ≡ pick t (spells (w + length xs)) none → n ≤ length d
-      go true h e = let k : n ≡ w + length xs = cc in omega (arith, leb-true (w + length xs) (length d) h)
-      go false h e = let z : _≡_ {A = ℕ} 0 1 = cc in absurd (omega arith)

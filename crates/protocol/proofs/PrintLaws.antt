@@ -9,8 +9,9 @@ use lib.Dec.{leb, eqb}
 use borrow.Author.Tests.{leb-true, eq-eqb, ne-eqb}
 use Rattle.protocol.specs.Kinds.{separatorOf, refilledOf, restOf}
 use Rattle.protocol.specs.Marked.{isClean}
+use Rattle.protocol.specs.Told.{Told}
 use Rattle.protocol.specs.Typed.{Typed, typed, decimalText, bytesText}
-use Rattle.protocol.specs.Printed.{Left, dirtyText, partEnd, partStart, partText, valueText, itemText, isPrinted, openedOf, pastOf, itemsText, firstOf, formatOf, headText, endText, answerText}
+use Rattle.protocol.specs.Printed.{dirtyText, partEnd, partStart, partText, valueText, itemText, isPrinted, openedOf, pastOf, itemsText, firstOf, formatOf, headText, endText, answerText}
 use Rattle.protocol.specs.declared.answer.Answer.{Answer}
 use Rattle.protocol.specs.declared.kinds.Format.{Format}
 use Rattle.protocol.specs.declared.printer.Printed.{Printed}
@@ -54,7 +55,7 @@ module _ (kind v : ℕ) where
 
 -- ---- items
 
-module _ (l : Left) (p : Printed) {c : ℕ} (sep : c ≡ separatorOf (p .kind)) where
+module _ (l : Told) (p : Printed) {c : ℕ} (sep : c ≡ separatorOf (p .kind)) where
   pub item-part : p .kind % 16 ≡ 1 → (c ∷ []) ++ partText (l .answer) (l .bytes) (l .ends) (p .parts) ≡ itemText l p
   unfolding itemText
   item-part k = rw (sep, eq-eqb (p .kind % 16) 1 k)
@@ -84,7 +85,7 @@ module _ (ns : List ℕ) (p : Printed) {f g : Format} (head : f ≡ refilledOf (
 
 -- ---- all items
 
-module _ (l : Left) where
+module _ (l : Told) where
   -- one item more
   pub items-more : (k : ℕ) (p : Printed) {o q : Printed} → 0 < k → isPrinted (l .answer) p ≡ false → o ≡ openedOf (l .numbers) p → q ≡ pastOf o
       → itemsText k l p ≡ itemText l o ++ itemsText (k - 1) l q

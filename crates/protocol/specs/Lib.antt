@@ -10,3 +10,4 @@ pub mod Typed
 pub mod Printed
 pub mod Answers
 pub mod Memory
+pub mod Checks

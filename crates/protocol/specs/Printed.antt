@@ -1,4 +1,4 @@
--- The line of an answer, from the memory that it accounts for, in ASCII codes.
+-- The line of an answer, from what the call left in the memory lent to it, in ASCII codes.
 use Prim.Native.Nat.{ℕ, zero, suc, _+_, _-_, _%_, _^_, min}
 use mathlib.Core.List.{List, [], _∷_, _++_}
 use mathlib.Core.Bool.{Bool, _&&_, _||_, cond as pick}
@@ -6,20 +6,11 @@ use lib.ListN.{length, take, drop, getD}
 use lib.Dec.{leb, ltb, eqb}
 use Rattle.protocol.specs.Kinds.{separatorOf, refilledOf, restOf}
 use Rattle.protocol.specs.Marked.{isClean}
+use Rattle.protocol.specs.Told.{Told}
 use Rattle.protocol.specs.Typed.{decimalText, bytesText}
 use Rattle.protocol.specs.declared.answer.Answer.{Answer}
 use Rattle.protocol.specs.declared.kinds.Format.{Format}
 use Rattle.protocol.specs.declared.printer.Printed.{Printed}
-
--- what is printed: an answer, and what the call left in the bytes, ends and numbers lent to it
-pub record Left : Type 0 where
-  pub answer : Answer
-  pub bytes : List ℕ
-  pub ends : List ℕ
-  pub numbers : List ℕ
-
-abbrev pub left : Answer → (bytes ends numbers : List ℕ) → Left
-left a s es ns = record { answer = a; bytes = s; ends = es; numbers = ns }
 
 -- ---- one item
 
@@ -47,15 +38,15 @@ valueText kind v =
     pick (eqb kind 5 && eqb v 256) (45 ∷ []) (pick (eqb kind 8) (110 ∷ 111 ∷ 32 ∷ decimalText v) (decimalText v))
 
 -- an item of a kind: the next part (1), the part that the next number names (7), how many parts there are (6), or a number
-abbrev pub bodyText : Left → ℕ → ℕ → ℕ → List ℕ
-bodyText l kind part v =
-    pick (eqb kind 1) (partText (l .answer) (l .bytes) (l .ends) part) (
-    pick (eqb kind 7) (partText (l .answer) (l .bytes) (l .ends) v) (
-    pick (eqb kind 6) (decimalText (l .answer .ends)) (valueText kind v)))
+abbrev pub bodyText : Told → ℕ → ℕ → ℕ → List ℕ
+bodyText t kind part v =
+    pick (eqb kind 1) (partText (t .answer) (t .bytes) (t .ends) part) (
+    pick (eqb kind 7) (partText (t .answer) (t .bytes) (t .ends) v) (
+    pick (eqb kind 6) (decimalText (t .answer .ends)) (valueText kind v)))
 
 -- the item that comes, behind what stands before it
-unfoldable pub itemText : Left → Printed → List ℕ
-itemText l p = separatorOf (p .kind) ∷ bodyText l (p .kind % 16) (p .parts) (getD (l .numbers) (p .numbers) 0)
+unfoldable pub itemText : Told → Printed → List ℕ
+itemText t p = separatorOf (p .kind) ∷ bodyText t (p .kind % 16) (p .parts) (getD (t .numbers) (p .numbers) 0)
 
 -- ---- all items
 
@@ -85,10 +76,12 @@ pastOf p =
     pick (eqb (p .kind % 16) 6) p (record { kind = p .kind; format = p .format; parts = p .parts; numbers = afterOf (p .numbers) }))
 
 -- the items from here on, k at most
-unfoldable pub itemsText : ℕ → Left → Printed → List ℕ
-itemsText zero l p = []
-itemsText (suc k) l p =
-    pick (isPrinted (l .answer) p) [] (itemText l (openedOf (l .numbers) p) ++ itemsText k l (pastOf (openedOf (l .numbers) p)))
+unfoldable pub itemsText : ℕ → Told → Printed → List ℕ
+itemsText zero t p = []
+itemsText (suc k) t p =
+    let o = openedOf (t .numbers) p in
+    let rest = itemText t o ++ itemsText k t (pastOf o) in
+    pick (isPrinted (t .answer) p) [] rest
 
 -- ---- the line
 
@@ -107,10 +100,10 @@ headText a = pick (ltb 0 (a .refusal)) (valueText 8 (a .refusal)) (111 ∷ 107 �
 abbrev pub endText : Bool → List ℕ
 endText clean = pick clean (10 ∷ []) (32 ∷ 100 ∷ 105 ∷ 114 ∷ 116 ∷ 121 ∷ 10 ∷ [])
 
-unfoldable pub answerText : Left → Format → Bool → List ℕ
-answerText l f own =
-    headText (l .answer)
-    ++ (itemsText (2 ^ 64 - 1) l (firstOf (formatOf (l .answer) f)) ++ endText (isClean own (l .answer) (l .bytes) (l .ends) (l .numbers)))
+unfoldable pub answerText : Told → Format → Bool → List ℕ
+answerText t f own =
+    headText (t .answer)
+    ++ (itemsText (2 ^ 64 - 1) t (firstOf (formatOf (t .answer) f)) ++ endText (isClean own (t .answer) (t .bytes) (t .ends) (t .numbers)))
 
 -- `bad line`
 abbrev pub badLine : List ℕ

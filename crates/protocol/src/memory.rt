@@ -12,12 +12,6 @@ pub fn number_at(numbers: &[u64], i: usize) -> u64
     0
 }
 
-pub fn wide(x: u32) -> u64
-    ensures { λ r. ⌜ r ≡ x ⌝ }
-{
-    x as u64
-}
-
 // Where byte string i ends.
 pub fn end_of(ends: &[u32], i: usize) -> usize
     ensures { λ r. ⌜ r ≡ getD (now (ends .entry)) i 0 ⌝ }

@@ -1,8 +1,9 @@
 // Answers as lines, by a format, from the memory that they account for.
 ghost use mathlib.Core.Path.{_≡_};
 ghost use Prim.Native.Nat.{_-_, _^_};
+ghost use Rattle.protocol.specs.Told.{told};
 ghost use Rattle.protocol.specs.Typed.{typing, typed};
-ghost use Rattle.protocol.specs.Printed.{left, partEnd, partStart, partText, valueText, itemText, isPrinted, openedOf, pastOf, itemsText, firstOf, formatOf, headText, answerText, badLine};
+ghost use Rattle.protocol.specs.Printed.{partEnd, partStart, partText, valueText, itemText, isPrinted, openedOf, pastOf, itemsText, firstOf, formatOf, headText, answerText, badLine};
 use crate::answer::Answer;
 use crate::kinds::BYTES;
 use crate::kinds::COUNT;
@@ -147,7 +148,7 @@ fn put_item(
     at: usize,
     item: Printed,
 ) -> usize
-    ensures { λ r. ⌜ typing r (now (out .exit)) ≡ typed (typing at (now (out .entry))) (itemText (left answer (now (memory .entry)) (now (ends .entry)) (now (numbers .entry))) item) ⌝ }
+    ensures { λ r. ⌜ typing r (now (out .exit)) ≡ typed (typing at (now (out .entry))) (itemText (told answer (now (memory .entry)) (now (ends .entry)) (now (numbers .entry))) item) ⌝ }
 {
     let before = [separator(item.kind)];
     let to = put_text(out, at, &before);
@@ -171,7 +172,7 @@ fn put_items(
     out: &mut Buffer,
     at: usize,
 ) -> usize
-    ensures { λ r. ⌜ typing r (now (out .exit)) ≡ typed (typing at (now (out .entry))) (itemsText (2 ^ 64 - 1) (left answer (now (memory .entry)) (now (ends .entry)) (now (numbers .entry))) (firstOf format)) ⌝ }
+    ensures { λ r. ⌜ typing r (now (out .exit)) ≡ typed (typing at (now (out .entry))) (itemsText (2 ^ 64 - 1) (told answer (now (memory .entry)) (now (ends .entry)) (now (numbers .entry))) (firstOf format)) ⌝ }
 {
     let mut printed = Printed {
         kind: 0,
@@ -223,7 +224,7 @@ pub fn put_answer(
     out: &mut Buffer,
     at: usize,
 ) -> usize
-    ensures { λ r. ⌜ typing r (now (out .exit)) ≡ typed (typing at (now (out .entry))) (answerText (left answer (now (memory .entry)) (now (ends .entry)) (now (numbers .entry))) format «is_own») ⌝ }
+    ensures { λ r. ⌜ typing r (now (out .exit)) ≡ typed (typing at (now (out .entry))) (answerText (told answer (now (memory .entry)) (now (ends .entry)) (now (numbers .entry))) format «is_own») ⌝ }
 {
     let form = format_of(answer, format);
     let to = put_head(answer, out, at);

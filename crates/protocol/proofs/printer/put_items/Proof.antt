@@ -7,14 +7,15 @@ use denote.Ref.{now}
 use borrow.Author.Tests.{not-true, not-false}
 use native.Mathlib.Omega.{arith}
 use Rattle.protocol.specs.Typed.{Typed, typing, typed}
-use Rattle.protocol.specs.Printed.{left, itemsText}
+use Rattle.protocol.specs.Told.{told}
+use Rattle.protocol.specs.Printed.{itemsText}
 use Rattle.protocol.proofs.TypedLaws.{typed-more}
 use Rattle.protocol.proofs.PrintLaws.{items-more, items-end, items-none}
 use Rattle.protocol.proofs.printer.put_items.Statement.{statement}
 use Rattle.protocol.proofs.printer.put_items.Tie as tie
 
 abbrev Inv-loop : tie.InvT-loop
-Inv-loop answer memory ends numbers out₀ at printed₀ to₀ turns₀ out printed to turns = typed (typing at out₀) (itemsText turns₀ (left answer memory ends numbers) printed₀) ≡ typed (typing to out) (itemsText turns (left answer memory ends numbers) printed)
+Inv-loop answer memory ends numbers out₀ at printed₀ to₀ turns₀ out printed to turns = typed (typing at out₀) (itemsText turns₀ (told answer memory ends numbers) printed₀) ≡ typed (typing to out) (itemsText turns (told answer memory ends numbers) printed)
 
 abbrev μ-loop : tie.MeasureT-loop
 μ-loop answer memory ends numbers out₀ at printed₀ to₀ turns₀ out printed to turns = turns
@@ -23,7 +24,7 @@ loop-again : tie.Need-loop-again Inv-loop μ-loop
 loop-again c =
     let l = c .before .before .before .before .before .before .before .loop in
     let a = c .before .before .before .before .before .before .before .before .before .before .before .args in
-    let d = left (a .answer) (now (a .memory)) (now (a .ends)) (now (a .numbers)) in
+    let d = told (a .answer) (now (a .memory)) (now (a .ends)) (now (a .numbers)) in
     let t = typing (l .to) (l .out) in
     l .inv
     ∙ ap (λ (x : List ℕ). typed t x) (items-more d (l .turns) (l .printed) (c .before .before .before .before .before .before .loop-test .taken) (sym (c .before .before .before .before .before .is-all .ensures) ∙ not-true _ (c .before .before .before .before .if1 .taken)) (c .before .before .before .opened .ensures) (c .past .ensures))
@@ -34,13 +35,13 @@ returns : tie.Need-returns Inv-loop μ-loop
 returns c =
     let l = c .before .before .before .loop in
     let a = c .before .before .before .before .before .before .before .args in
-    sym (l .inv ∙ items-end (left (a .answer) (now (a .memory)) (now (a .ends)) (now (a .numbers))) _ (l .turns) (l .printed) (sym (c .before .is-all .ensures) ∙ not-false _ (c .if1 .left)))
+    sym (l .inv ∙ items-end (told (a .answer) (now (a .memory)) (now (a .ends)) (now (a .numbers))) _ (l .turns) (l .printed) (sym (c .before .is-all .ensures) ∙ not-false _ (c .if1 .left)))
 
 returns-2 : tie.Need-returns-2 Inv-loop μ-loop
 returns-2 c =
     let l = c .before .loop in
     let a = c .before .before .before .before .before .args in
-    sym (l .inv ∙ items-none (left (a .answer) (now (a .memory)) (now (a .ends)) (now (a .numbers))) _ (l .turns) (l .printed) (omega arith))
+    sym (l .inv ∙ items-none (told (a .answer) (now (a .memory)) (now (a .ends)) (now (a .numbers))) _ (l .turns) (l .printed) (omega arith))
 
 pub put-items-spec : {M : Type 1} → statement M
 put-items-spec =
