@@ -1,6 +1,11 @@
 // The requests: a row for each, and the operation that answers it.
+ghost use mathlib.Core.Path.{_≡_};
+ghost use Rattle.protocol.specs.Told.{told};
+ghost use Rattle.replay_requests.specs.Requests.{rowOf, requested, requestIn, requestOf};
+ghost use Rattle.replay_requests.specs.Operations.{operated};
 use bitio::numbers::least;
 use protocol::answer::Answer;
+use protocol::answer::refused;
 use protocol::fields::Fields;
 use protocol::fields::read_fields;
 use protocol::input::Input;
@@ -57,12 +62,17 @@ const ASSEMBLE: u64 = 0x6173_7365_6d62_6c65;
 
 const PLAY: u64 = 0x706c_6179;
 
+// No operation refuses with this number: a line whose name is none of these is no request, and is never operated on.
+const NO_REQUEST: u32 = u32::MAX;
+
 // The kinds of a request's fields, those that may follow them any number of times, the same two of its answer (see
 // protocol::kinds), and what it is lent (see Room::lent).
 struct Row(u64, u64, u64, u64, u64);
 
 // A name that is none asks for a field of no kind.
-fn row_of(key: u64) -> Row {
+fn row_of(key: u64) -> Row
+    ensures { λ r. ⌜ r ≡ rowOf key ⌝ }
+{
     match key {
         BITS => Row(0x020201, 0, 0x0202, 0, 0x1000),
         UVLC => Row(0x0201, 0, 0x0202, 0, 0x1000),
@@ -99,7 +109,9 @@ pub struct Request {
 }
 
 // Its fields are read behind its name, which stands behind a prefix `room`.
-fn read_line(line: &[u8], decoded: &mut [u8], ends: &mut [u32], numbers: &mut [u64]) -> Request {
+fn read_line(line: &[u8], decoded: &mut [u8], ends: &mut [u32], numbers: &mut [u64]) -> Request
+    ensures { λ r. ⌜ requested r (now (decoded .exit)) (now (ends .exit)) (now (numbers .exit)) ≡ requestIn (now (line .entry)) (now (decoded .entry)) (now (ends .entry)) (now (numbers .entry)) ⌝ }
+{
     let room = room_prefix(line);
     let from = least(room.next, line.len());
     let end = word_end(line, from, b' ');
@@ -132,7 +144,9 @@ pub fn read_request(
     decoded: &mut [u8],
     ends: &mut [u32],
     numbers: &mut [u64],
-) -> Request {
+) -> Request
+    ensures { λ r. ⌜ requested r (now (decoded .exit)) (now (ends .exit)) (now (numbers .exit)) ≡ requestOf input (now (kept .entry)) (now (decoded .entry)) (now (ends .entry)) (now (numbers .entry)) ⌝ }
+{
     let n = least(input.len, kept.len());
     let mut request = read_line(&kept[0..n], decoded, ends, numbers);
     request.is_line = input.is_line();
@@ -150,7 +164,9 @@ pub fn operate(
     memory: &mut [u8],
     out_ends: &mut [u32],
     out_numbers: &mut [u64],
-) -> Answer {
+) -> Answer
+    ensures { λ r. ⌜ told r (now (memory .exit)) (now («out_ends» .exit)) (now («out_numbers» .exit)) ≡ operated key lent (now (s .entry)) (now (ends .entry)) (now (numbers .entry)) (now (memory .entry)) (now («out_ends» .entry)) (now («out_numbers» .entry)) ⌝ }
+{
     let a = number_at(numbers, 0);
     let b = number_at(numbers, 1);
     match key {
@@ -172,6 +188,7 @@ pub fn operate(
         CANON => container_ops::canon(s, memory),
         PACKETS => container_ops::packets(s, ends, numbers, memory, out_ends, out_numbers),
         ASSEMBLE => assemble_ops::assemble(lent, s, ends, numbers, memory, out_ends, out_numbers),
-        _ => play_ops::play(s, ends, numbers, out_numbers),
+        PLAY => play_ops::play(s, ends, numbers, out_numbers),
+        _ => refused(NO_REQUEST),
     }
 }

@@ -1,0 +1,2 @@
+mod OperateLaws
+mod RequestLaws
