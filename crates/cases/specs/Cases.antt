@@ -45,8 +45,17 @@ use Rattle.cases.specs.Rows.{Row}
 use Rattle.cases.specs.MarkedRows.{markedRows}
 use Rattle.cases.specs.AssemblyRows.{assemblyRows}
 use Rattle.cases.specs.BoardlistRows.{boardlistRows}
+use Rattle.protocol.specs.Text.{hexDigit, hexText, hexValue, allHex, hexBytes, pairs, byteString, numberFrom, readNumber, word, keyFrom, wordKey}
+use Rattle.protocol.specs.Says.{decodedTo, decodedIn}
+use Rattle.protocol.specs.Marked.{isMarked}
+use Rattle.protocol.specs.Room.{numberField, roomPrefix}
+use Rattle.protocol.specs.Kinds.{separatorOf, refilledOf}
+use Rattle.protocol.specs.Typed.{placesIn}
+use Rattle.protocol.specs.Fields.{bytesField, valueOf, valueField, fieldOf, fieldsIn}
+use Rattle.protocol.specs.Printed.{partText, valueText, itemText, isPrinted, openedOf, pastOf, itemsText, answerText}
 use Rattle.cases.specs.PacketRows.{packetRows}
 use Rattle.cases.specs.PlayerRows.{playerRows}
+use Rattle.cases.specs.LineRows.{lineRows}
 
 abbrev sameLists : List (List ℕ) → List (List ℕ) → Bool
 sameLists [] [] = true
@@ -65,8 +74,8 @@ check [] = true
 check (r ∷ rs) = same (r .0) (r .1) && check rs
 
 abbrev pub rows : List Row
-rows = markedRows ++ (packetRows ++ (assemblyRows ++ (boardlistRows ++ playerRows)))
+rows = markedRows ++ (packetRows ++ (assemblyRows ++ (boardlistRows ++ (playerRows ++ lineRows))))
 
 pub cases : check rows ≡ true
-unfolding check many manyF readLeb lebRead lebBytes lebWrite sized framed passes headObuOf obusOf obuBytes unitBytes flatMap isType count cut group others join behind joined units streamUnits flat streamBytes innerObu lengthObu frameUnit temporalUnit annexbUnits annexbUnit annexbBytes read write bitAt bitsAt bitsWithin readBits leadingZeros uvlcSuffix uvlc bitsOf halvings uvlcZeros readFlag readOr flagOr uvlcOr timingInfo decoderModelInfo opening operatingPoint operatingPoints frameSize frameIds codingTools screenTools filters colorDescription colorSampling coding sequenceHeader parseSequence limited retimed withTiming timed put putOr putFlag putFlagOr putUvlcOr fits fitsOr flagFitsOr uvlcFitsOr putTiming putModel putOpening putPoint putPoints putSize putIds putTools putScreen putFilters putColor putSampling putCoding putSequence timingFits modelFits openingFits pointFits pointsFit sizeFits idsFit toolsFit screenFits colorFits samplingFits codingFits emittable ofBits packN pack trailed sequenceBytes emitted showExisting frameStart orderHint removalTimes bufferRemoval frameInfo frameBits frameHeader parseFrameFrom parseFrame andNext has lastPayload part support blocks layout positions total segmentAt segmentsFrom segmentsOf firstOf sent unitFrame framePayload lowest prepare andAlso inSegment overall noneEmpty sizes supportedSequence sameBytes sameHeaders prepareAll endsFrom fitsRoom assembled assemble firstPayload named unitsOf numberAt unitsLength fileNumbersFrom isFile readInto fileNumbersAfter hasRoom lent pasted digitsIn decimal line lines listing refresh keepAs play unitsFrom mergedAt packetsAt stamped bytesOf mergePackets alone behindP canonicalAt canonical
+unfolding check many manyF readLeb lebRead lebBytes lebWrite sized framed passes headObuOf obusOf obuBytes unitBytes flatMap isType count cut group others join behind joined units streamUnits flat streamBytes innerObu lengthObu frameUnit temporalUnit annexbUnits annexbUnit annexbBytes read write bitAt bitsAt bitsWithin readBits leadingZeros uvlcSuffix uvlc bitsOf halvings uvlcZeros readFlag readOr flagOr uvlcOr timingInfo decoderModelInfo opening operatingPoint operatingPoints frameSize frameIds codingTools screenTools filters colorDescription colorSampling coding sequenceHeader parseSequence limited retimed withTiming timed put putOr putFlag putFlagOr putUvlcOr fits fitsOr flagFitsOr uvlcFitsOr putTiming putModel putOpening putPoint putPoints putSize putIds putTools putScreen putFilters putColor putSampling putCoding putSequence timingFits modelFits openingFits pointFits pointsFit sizeFits idsFit toolsFit screenFits colorFits samplingFits codingFits emittable ofBits packN pack trailed sequenceBytes emitted showExisting frameStart orderHint removalTimes bufferRemoval frameInfo frameBits frameHeader parseFrameFrom parseFrame andNext has lastPayload part support blocks layout positions total segmentAt segmentsFrom segmentsOf firstOf sent unitFrame framePayload lowest prepare andAlso inSegment overall noneEmpty sizes supportedSequence sameBytes sameHeaders prepareAll endsFrom fitsRoom assembled assemble firstPayload named unitsOf numberAt unitsLength fileNumbersFrom isFile readInto fileNumbersAfter hasRoom lent pasted digitsIn decimal line lines listing refresh keepAs play unitsFrom mergedAt packetsAt stamped bytesOf mergePackets alone behindP canonicalAt canonical hexDigit hexText hexValue allHex hexBytes pairs byteString numberFrom readNumber word keyFrom wordKey decodedTo decodedIn isMarked numberField roomPrefix separatorOf refilledOf placesIn bytesField valueOf valueField fieldOf fieldsIn partText valueText itemText isPrinted openedOf pastOf itemsText answerText
 cases = refl

@@ -4,4 +4,5 @@ pub mod AssemblyRows
 pub mod BoardlistRows
 pub mod PacketRows
 pub mod PlayerRows
+pub mod LineRows
 pub mod Cases

@@ -10,4 +10,3 @@ pub mod Typed
 pub mod Printed
 pub mod Answers
 pub mod Memory
-pub mod Checks

@@ -15,7 +15,7 @@ use Rattle.frame.specs.Frame.{parseFrameFrom}
 use Rattle.container.specs.Container.{stream, annexb, read, writeAt}
 use Rattle.container.specs.Units.{countOf, outAfter}
 use Rattle.packets.specs.Packets.{canonicalAt}
-use Rattle.packets.specs.PacketLists.{roomOf, mergedAt}
+use Rattle.packets.specs.PacketLists.{lentRoom, mergedAt}
 use Rattle.protocol.specs.Answers.{partsOf, refusedWith, numbered, withNumbers, parted}
 use Rattle.protocol.specs.Told.{toldBy, countTold, numbersBy, Told, told, numbersTold, partsTold}
 use Rattle.protocol.specs.Memory.{partIn}
@@ -99,7 +99,7 @@ module _ (room : Lent) (s es ns m e n : List ℕ) where
   unfolding operated
   as-canon i h l = same-told {e = e} {f = e} {n = n} {m = n} (h) (l) refl refl ∙ ap by (sym i)
 
-  pub as-packets : {key : ℕ} {t : Told} → key ≡ packetsName → t ≡ packetsTold (mergedAt (roomOf m e n) s es ns) m e n → t ≡ by key
+  pub as-packets : {key : ℕ} {t : Told} → key ≡ packetsName → t ≡ packetsTold (mergedAt (lentRoom m e n) s es ns) m e n → t ≡ by key
   unfolding operated
   as-packets i h = h ∙ ap by (sym i)
 

@@ -15,7 +15,7 @@ use Rattle.frame.specs.Frame.{parseFrameFrom}
 use Rattle.container.specs.Container.{stream, annexb, read, writeAt}
 use Rattle.container.specs.Units.{countOf, outAfter}
 use Rattle.packets.specs.Packets.{canonicalAt}
-use Rattle.packets.specs.PacketLists.{roomOf, mergedAt}
+use Rattle.packets.specs.PacketLists.{lentRoom, mergedAt}
 use Rattle.protocol.specs.Answers.{partsOf, refusedWith, numbered, withNumbers}
 use Rattle.protocol.specs.Told.{toldBy, countTold, numbersBy, Told, told, numbersTold, partsTold}
 use Rattle.protocol.specs.Memory.{partIn}
@@ -50,7 +50,7 @@ operated key room s es ns m e n =
     pick (eqb key wstreamName) (told (countTold (countOf (writeAt stream (record { bytes = length m; ends = 0 }) s es))) (outAfter (writeAt stream (record { bytes = length m; ends = 0 }) s es) m) e n) (
     pick (eqb key wannexbName) (told (countTold (countOf (writeAt annexb (record { bytes = length m; ends = 0 }) s es))) (outAfter (writeAt annexb (record { bytes = length m; ends = 0 }) s es) m) e n) (
     pick (eqb key canonName) (told (countTold (countOf (canonicalAt (record { bytes = length m; ends = 0 }) s))) (outAfter (canonicalAt (record { bytes = length m; ends = 0 }) s) m) e n) (
-    pick (eqb key packetsName) (packetsTold (mergedAt (roomOf m e n) s es ns) m e n) (
+    pick (eqb key packetsName) (packetsTold (mergedAt (lentRoom m e n) s es ns) m e n) (
     pick (eqb key assembleName) (assembleTold room s es ns m e n) (
     pick (eqb key playName) (numbersTold m e (withNumbers (numbered (partsOf 0 0) n) (playsOf s es ns))) (
     (told (refusedWith noRequest) m e n))))))))))))))))))))
