@@ -13,8 +13,6 @@ use Rattle.bitio.specs.Bits.{Reading, fails, reads}
 use Rattle.bitio.specs.declared.leb128.Leb.{Leb}
 use Rattle.bitio.specs.declared.leb128.Leb.the-variants.{Value, Bad}
 use Rattle.obu.specs.Obu.{Obu, obus}
-use Rattle.obu.specs.declared.reader.Extension.{Extension}
-use Rattle.obu.specs.declared.reader.Extension.the-variants.{Absent, Byte}
 use Rattle.header.specs.Sequence.{Sequence, parseSequence}
 use Rattle.header.specs.Support.{support}
 use Rattle.header.specs.declared.seq_header.SequenceHeader.{SequenceHeader}

@@ -1,11 +1,10 @@
 // The operations of the crate header.
 ghost use mathlib.Core.Path.{_≡_};
 ghost use Prim.Native.Nat.{_%_, _^_};
-ghost use Rattle.bitio.specs.Parse.{accepted, andNext};
+ghost use Rattle.bitio.specs.Parse.{andNext};
 ghost use Rattle.bitio.specs.Limits.{limited};
 ghost use Rattle.header.specs.Sequence.{sequenceOf, sequenceSays};
 ghost use Rattle.header.specs.Support.{support as supportIn};
-ghost use Rattle.header.specs.Timed.{timed};
 ghost use Rattle.emit.specs.Emit.{emitPlaced, emitLent};
 ghost use Rattle.frame.specs.Frame.{parseFrameFrom};
 ghost use Rattle.frame.specs.declared.frame_header.FrameHeaderInfo.the-variants.{Frame};

@@ -5,7 +5,6 @@ use Rattle.player.specs.Code.{playedBy, startState}
 use Rattle.player.specs.declared.slots.Answer.{Answer as Shows}
 use Rattle.player.specs.declared.slots.Answer.the-variants.{Shown, Nothing, Refused}
 use Rattle.player.specs.declared.step.State.{State}
-use Rattle.player.specs.declared.step.Played.{Played}
 use Rattle.protocol.specs.Memory.{partIn}
 
 -- a position as a number, `-`, or `no` and document 01's number (the kinds 2, 5 and 8)

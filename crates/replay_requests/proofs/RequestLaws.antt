@@ -1,14 +1,14 @@
 -- Laws of a line read as a request, as the code reads it.
 use Prim.Native.Nat.{ℕ, _+_, _-_, min}
 use native.Mathlib.Omega.{arith}
-use mathlib.Core.Path.{_≡_, sym, ap, _∙_}
+use mathlib.Core.Path.{_≡_, ap, _∙_}
 use mathlib.Core.Bool.{Bool, true, _&&_}
 use mathlib.Core.List.{List}
 use lib.ListN.{length, take, drop}
 use lib.Dec.{eqb}
 use Rattle.protocol.specs.Text.{wordAt, wordKey}
 use Rattle.protocol.specs.Room.{roomPrefix, lentBy, isThere}
-use Rattle.protocol.specs.Fields.{Reading, reading, fieldsOf, isAllOf}
+use Rattle.protocol.specs.Fields.{reading, fieldsOf, isAllOf}
 use Rattle.protocol.specs.Lines.{isLine}
 use Rattle.protocol.specs.declared.fields.Fields.{Fields}
 use Rattle.protocol.specs.declared.input.Input.{Input}
@@ -16,7 +16,6 @@ use Rattle.protocol.specs.declared.lent.Room.{Room}
 use Rattle.protocol.specs.declared.lent.Lent.{Lent}
 use Rattle.protocol.proofs.TextLaws.{word-between}
 use Rattle.replay_requests.specs.declared.Row.{Row}
-use Rattle.replay_requests.specs.declared.Request.{Request}
 use Rattle.replay_requests.specs.Requests.{rowOf, asked, answered, Requested, requested, requestWith, nameFrom, nameIn, rowIn, readingIn, requestIn, requestOf}
 
 module _ (s d es ns : List ℕ) where

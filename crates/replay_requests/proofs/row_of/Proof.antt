@@ -1,4 +1,3 @@
-use borrow.Author.Needs.{needs}
 use borrow.Author.Tests.{ne-eqb}
 use mathlib.Core.Path.{sym, ap}
 use mathlib.Core.Logic.{⊎-elim, inl, inr}

@@ -1,12 +1,12 @@
 use borrow.Author.Needs.{needs}
-use mathlib.Core.Path.{_≡_, ap, _∙_}
+use mathlib.Core.Path.{ap, _∙_}
 use denote.Ref.{now}
 use Rattle.assemble.specs.Whole.{outcome}
 use native.Mathlib.Omega.{arith}
 use Prim.Native.Nat.{_*_}
 use Rattle.blocks.specs.Numbers.{width}
 use Rattle.replay_lists.specs.Lists.{settingsOf, segmentsAsked, slicesLent, outcomeTold, assembleTold}
-use Rattle.replay_lists.proofs.LentLaws.{records-whole, zeros-length}
+use Rattle.replay_lists.proofs.SegmentFieldLaws.{records-whole, zeros-length}
 use Rattle.replay_lists.proofs.assemble_ops.assemble.Statement.{statement}
 use Rattle.replay_lists.proofs.assemble_ops.assemble.Tie as tie
 

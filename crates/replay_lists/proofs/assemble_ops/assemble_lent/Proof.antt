@@ -1,10 +1,10 @@
 use borrow.Author.Needs.{needs}
-use mathlib.Core.Path.{_≡_, sym, ap, _∙_}
+use mathlib.Core.Path.{ap, _∙_}
 use denote.Ref.{now}
 use Rattle.assemble.specs.Whole.{outcome}
-use Rattle.replay_lists.specs.Lists.{slicesOf, slicesLent, outcomeTold}
+use Rattle.replay_lists.specs.Lists.{outcomeTold}
 use Rattle.protocol.specs.Marked.{byteMark, endMark}
-use Rattle.replay_lists.proofs.LentLaws.{marks-taken, same-slices}
+use Rattle.replay_lists.proofs.SegmentFieldLaws.{marks-taken, same-slices}
 use Rattle.replay_lists.proofs.assemble_ops.assemble_lent.Statement.{statement}
 use Rattle.replay_lists.proofs.assemble_ops.assemble_lent.Tie as tie
 

@@ -2,7 +2,6 @@ use borrow.Author.Needs.{needs}
 use native.Mathlib.Omega.{arith}
 use mathlib.Core.Path.{_≡_, refl, sym, _∙_}
 use Prim.Native.Nat.{_-_, _≤_}
-use denote.Ref.{now}
 use lib.ListN.{length, drop}
 use Rattle.protocol.specs.Answers.{numbered, withNumbers}
 use Rattle.replay_lists.specs.Plays.{playFields}

@@ -1,7 +1,6 @@
 use borrow.Author.Needs.{needs}
-use mathlib.Core.Path.{_≡_, sym, ap, _∙_}
+use mathlib.Core.Path.{sym, ap, _∙_}
 use Rattle.packets.specs.PacketLists.{mergedSays}
-use Rattle.protocol.specs.declared.answer.Answer.{Answer}
 use Rattle.replay_units.specs.Containers.{stampedTold}
 use Rattle.protocol.proofs.ToldLaws.{same-told}
 use Rattle.replay_units.proofs.container_ops.packets.Statement.{statement}

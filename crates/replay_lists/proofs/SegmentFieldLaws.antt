@@ -3,10 +3,10 @@ use Prim.Native.Nat.{ℕ, zero, suc, _+_, _-_, _*_, _%_, _^_, _≤_, _<_, min}
 use native.Mathlib.Omega.{arith}
 use native.Mathlib.Numerals.{add-one}
 use mathlib.Core.Path.{_≡_, refl, sym, ap, _∙_}
-use mathlib.Core.List.{List, [], _∷_, _++_, append-nil}
-use lib.ListN.{length, getD, take, drop, replicate, length-append, length-take, length-replicate, drop-of-length-le}
+use mathlib.Core.List.{List, _∷_, _++_, append-nil}
+use lib.ListN.{length, getD, take, replicate, length-append, length-take, length-replicate, drop-of-length-le}
 use Rattle.bitio.specs.Lent.{pasted}
-use Rattle.bitio.proofs.LentLaws.{pasted-nil, pasted-more, pasted-length}
+use Rattle.bitio.proofs.LentLaws.{pasted-nil, pasted-more}
 use Rattle.blocks.specs.Numbers.{width, recordOf, segmentCount}
 use Rattle.pictures.specs.declared.settings.Settings.{Settings}
 use Rattle.protocol.specs.Memory.{startIn}

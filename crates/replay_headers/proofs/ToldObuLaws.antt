@@ -3,16 +3,15 @@ use Prim.Native.Nat.{ℕ, suc}
 use native.Mathlib.Omega.{arith}
 use mathlib.Core.Path.{_≡_, refl, sym, ap, _∙_}
 use mathlib.Core.List.{List, [], _∷_, _++_}
-use mathlib.Core.Option.{Option}
 use lib.ListN.{length}
 use Rattle.bitio.specs.Parse.{Answer, refused, accepted, answer}
-use Rattle.obu.specs.Obu.{Obu, obus}
+use Rattle.obu.specs.Obu.{Obu}
 use Rattle.obu.specs.Unit.{isType, isKind, count}
 use Rattle.obu.specs.declared.unit.Kind.the-variants.{Any}
 use Rattle.protocol.specs.declared.answer.Answer.{Answer as Line}
 use Rattle.protocol.specs.Answers.{partsOf, Numbered, numbered, withNumbers, parted, withParts}
 use Rattle.protocol.specs.Told.{Told, told, numbersTold, partsTold, tellNumbers, tellParts}
-use Rattle.replay_headers.specs.Headers.{extensionNumber, tellObu, tellObus, obusTold}
+use Rattle.replay_headers.specs.Headers.{tellObu, tellObus, obusTold}
 
 -- numbers, then a part
 pub tell-one : (a : Line) (m e n : List ℕ) (t : ℕ) {v w : ℕ} {xs ys : List ℕ} {b r : Line} {m' e' n' : List ℕ} → v ≡ w → xs ≡ ys
