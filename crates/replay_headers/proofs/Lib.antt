@@ -1,3 +1,3 @@
-mod NumberLaws
-mod ReadLaws
-mod ObuLaws
+mod FieldNumberLaws
+mod HeaderReadLaws
+mod ToldObuLaws

@@ -1,3 +1,3 @@
 mod PlayLaws
-mod ListLaws
-mod LentLaws
+mod ToldListLaws
+mod SegmentFieldLaws

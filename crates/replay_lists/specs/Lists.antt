@@ -71,7 +71,7 @@ abbrev pub numbersMade : Counts → (list cues : List ℕ) → List ℕ
 numbersMade c list cues =
     (c .units ∷ c .«golden_slot» ∷ entriesOf c ∷ []) ++ (kindFields 2 0x22 (take (c .cues) cues) ++ kindFields 7 7 (take (c .units) list))
 
--- in the memory s, es, ns that is lent to the answer
+-- in the memory s, es, ns lent to the answer; a refusal leaves its bytes and ends
 unfoldable pub assembledTold : Outcome Counts → Lent → List ℕ → List ℕ → List ℕ → Told
 assembledTold (made c) d s es ns = tellNumbers (tellParts (told (partsOf 0 0) s es ns) (partsMade c d)) (numbersMade c (d .list) (d .cues))
 assembledTold (stopped k none) d s es ns = told (refusedWith k) s es ns
@@ -98,7 +98,7 @@ handedTold x d s es ns =
     told (asDirty (not (slicesMarked (accountedFor x) d)) (assembledTold x d s es ns .answer)) (assembledTold x d s es ns .bytes) (assembledTold x d s es ns .ends)
     (assembledTold x d s es ns .numbers)
 
--- ---- the whole, rs being the segments' records and d the slices that assembly is lent
+-- ---- the whole, d being the slices that assembly is lent
 
 unfoldable pub outcomeTold : Outcome Output → Lent → List ℕ → List ℕ → List ℕ → Told
 outcomeTold x d s es ns = handedTold (countsOf x) (lentAfter x d) s es ns

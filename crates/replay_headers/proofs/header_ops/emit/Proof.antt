@@ -1,7 +1,7 @@
 use borrow.Author.Needs.{needs}
 use mathlib.Core.Path.{sym, ap, _∙_}
 use Rattle.header.specs.Sequence.{sequenceSays}
-use Rattle.replay_headers.proofs.ReadLaws.{emitted-read, emitted-refused, emit-some, emit-none}
+use Rattle.replay_headers.proofs.HeaderReadLaws.{emitted-read, emitted-refused, emit-some, emit-none}
 use Rattle.replay_headers.proofs.header_ops.emit.Statement.{statement}
 use Rattle.replay_headers.proofs.header_ops.emit.Tie as tie
 

@@ -1,5 +1,5 @@
 use borrow.Author.Needs.{needs}
-use Rattle.replay_headers.proofs.NumberLaws.{from-done}
+use Rattle.replay_headers.proofs.FieldNumberLaws.{from-done}
 use Rattle.replay_headers.proofs.header_ops.frame_info.Statement.{statement}
 use Rattle.replay_headers.proofs.header_ops.frame_info.Tie as tie
 

@@ -1,5 +1,5 @@
 use borrow.Author.Needs.{needs}
-use Rattle.replay_headers.proofs.NumberLaws.{from-done, frame-told}
+use Rattle.replay_headers.proofs.FieldNumberLaws.{from-done, frame-told}
 use Rattle.replay_headers.proofs.header_ops.header_info.Statement.{statement}
 use Rattle.replay_headers.proofs.header_ops.header_info.Tie as tie
 

@@ -1,5 +1,5 @@
 use borrow.Author.Needs.{needs}
-use Rattle.replay_headers.proofs.ReadLaws.{is-timed, stays-refused, is-untimed}
+use Rattle.replay_headers.proofs.HeaderReadLaws.{is-timed, stays-refused, is-untimed}
 use Rattle.replay_headers.proofs.header_ops.retimed.Statement.{statement}
 use Rattle.replay_headers.proofs.header_ops.retimed.Tie as tie
 

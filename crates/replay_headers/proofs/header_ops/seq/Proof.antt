@@ -2,7 +2,7 @@ use borrow.Author.Needs.{needs}
 use mathlib.Core.Path.{refl}
 use Rattle.protocol.proofs.ToldLaws.{tells, refuses}
 use Rattle.replay_headers.specs.Fields.{sequenceFields}
-use Rattle.replay_headers.proofs.ReadLaws.{header-read, header-refused}
+use Rattle.replay_headers.proofs.HeaderReadLaws.{header-read, header-refused}
 use Rattle.replay_headers.proofs.header_ops.seq.Statement.{statement}
 use Rattle.replay_headers.proofs.header_ops.seq.Tie as tie
 

@@ -1,7 +1,7 @@
 use borrow.Author.Needs.{needs}
 use mathlib.Core.Path.{ap, _∙_}
 use Rattle.protocol.specs.Told.{toldBy}
-use Rattle.replay_headers.proofs.ReadLaws.{support-read, support-refused}
+use Rattle.replay_headers.proofs.HeaderReadLaws.{support-read, support-refused}
 use Rattle.replay_headers.proofs.header_ops.support.Statement.{statement}
 use Rattle.replay_headers.proofs.header_ops.support.Tie as tie
 

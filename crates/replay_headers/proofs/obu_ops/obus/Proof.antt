@@ -5,7 +5,7 @@ use Rattle.obu.specs.Obu.{obus}
 use Rattle.obu.specs.Unit.{countedSays}
 use Rattle.protocol.specs.Told.{told}
 use Rattle.replay_headers.specs.Headers.{obusTold}
-use Rattle.replay_headers.proofs.ObuLaws.{counted-all, counted-none, tell-obus}
+use Rattle.replay_headers.proofs.ToldObuLaws.{counted-all, counted-none, tell-obus}
 use Rattle.replay_headers.proofs.obu_ops.obus.Statement.{statement}
 use Rattle.replay_headers.proofs.obu_ops.obus.Tie as tie
 

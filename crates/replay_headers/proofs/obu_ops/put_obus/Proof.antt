@@ -11,7 +11,7 @@ use Rattle.obu.specs.Place.{obuSays, extensionSays}
 use Rattle.obu.proofs.PlaceLaws.{IsPlaced, is-placed, at-end, Walked, walk-start, walk-next, walk-end, walk-stop, not-found, placed-obu}
 use Rattle.protocol.specs.Told.{told}
 use Rattle.replay_headers.specs.Headers.{tellObu, tellObus}
-use Rattle.replay_headers.proofs.ObuLaws.{tell-next}
+use Rattle.replay_headers.proofs.ToldObuLaws.{tell-next}
 use Rattle.replay_headers.proofs.obu_ops.put_obus.Statement.{statement}
 use Rattle.replay_headers.proofs.obu_ops.put_obus.Tie as tie
 

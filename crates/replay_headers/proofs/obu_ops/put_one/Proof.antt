@@ -1,5 +1,5 @@
 use borrow.Author.Needs.{needs}
-use Rattle.replay_headers.proofs.ObuLaws.{tell-one}
+use Rattle.replay_headers.proofs.ToldObuLaws.{tell-one}
 use Rattle.replay_headers.proofs.obu_ops.put_one.Statement.{statement}
 use Rattle.replay_headers.proofs.obu_ops.put_one.Tie as tie
 

@@ -6,7 +6,7 @@ use denote.Ref.{now}
 use lib.ListN.{length, take}
 use Rattle.protocol.specs.Answers.{numbered, withNumbers}
 use Rattle.replay_headers.specs.Fields.{pointsFields}
-use Rattle.replay_headers.proofs.NumberLaws.{points-none, points-more, points-all}
+use Rattle.replay_headers.proofs.FieldNumberLaws.{points-none, points-more, points-all}
 use Rattle.replay_headers.proofs.sequence_fields.put_points.Statement.{statement}
 use Rattle.replay_headers.proofs.sequence_fields.put_points.Tie as tie
 

@@ -1,7 +1,7 @@
 use borrow.Author.Needs.{needs}
 use Rattle.protocol.proofs.ToldLaws.{numbers-then}
 use Rattle.replay_headers.specs.Fields.{sequenceFields}
-use Rattle.replay_headers.proofs.NumberLaws.{from-done}
+use Rattle.replay_headers.proofs.FieldNumberLaws.{from-done}
 use Rattle.replay_headers.proofs.sequence_fields.put_sequence.Statement.{statement}
 use Rattle.replay_headers.proofs.sequence_fields.put_sequence.Tie as tie
 

@@ -6,7 +6,7 @@ use native.Mathlib.Omega.{arith}
 use Prim.Native.Nat.{_*_}
 use Rattle.blocks.specs.Numbers.{width}
 use Rattle.replay_lists.specs.Lists.{settingsOf, segmentsAsked, slicesLent, outcomeTold, assembleTold}
-use Rattle.replay_lists.proofs.LentLaws.{records-whole, zeros-length}
+use Rattle.replay_lists.proofs.SegmentFieldLaws.{records-whole, zeros-length}
 use Rattle.replay_lists.proofs.assemble_ops.assemble.Statement.{statement}
 use Rattle.replay_lists.proofs.assemble_ops.assemble.Tie as tie
 

@@ -1,5 +1,5 @@
 use borrow.Author.Needs.{needs}
-use Rattle.replay_lists.proofs.ListLaws.{told-outcome}
+use Rattle.replay_lists.proofs.ToldListLaws.{told-outcome}
 use Rattle.replay_lists.proofs.assemble_ops.assemble_into.Statement.{statement}
 use Rattle.replay_lists.proofs.assemble_ops.assemble_into.Tie as tie
 

@@ -7,7 +7,7 @@ use lib.ListN.{length}
 use Rattle.bitio.specs.Lent.{pasted}
 use Rattle.blocks.specs.Numbers.{width}
 use Rattle.replay_lists.specs.Lists.{segmentRecords}
-use Rattle.replay_lists.proofs.LentLaws.{record-is, record-next, records-end}
+use Rattle.replay_lists.proofs.SegmentFieldLaws.{record-is, record-next, records-end}
 use Rattle.replay_lists.proofs.assemble_ops.put_segments.Statement.{statement}
 use Rattle.replay_lists.proofs.assemble_ops.put_segments.Tie as tie
 

@@ -1,6 +1,6 @@
 use borrow.Author.Needs.{needs}
 use denote.Ref.{now}
-use Rattle.replay_lists.proofs.LentLaws.{settings-is}
+use Rattle.replay_lists.proofs.SegmentFieldLaws.{settings-is}
 use Rattle.replay_lists.proofs.assemble_ops.settings_of.Statement.{statement}
 use Rattle.replay_lists.proofs.assemble_ops.settings_of.Tie as tie
 

@@ -1,5 +1,5 @@
 use borrow.Author.Needs.{needs}
-use Rattle.replay_lists.proofs.ListLaws.{told-made, told-refused, told-refused-in}
+use Rattle.replay_lists.proofs.ToldListLaws.{told-made, told-refused, told-refused-in}
 use Rattle.replay_lists.proofs.assembled.put_answer.Statement.{statement}
 use Rattle.replay_lists.proofs.assembled.put_answer.Tie as tie
 

@@ -1,5 +1,5 @@
 use borrow.Author.Needs.{needs}
-use Rattle.replay_lists.proofs.ListLaws.{told-handed}
+use Rattle.replay_lists.proofs.ToldListLaws.{told-handed}
 use Rattle.replay_lists.proofs.assembled.put_assembled.Statement.{statement}
 use Rattle.replay_lists.proofs.assembled.put_assembled.Tie as tie
 

@@ -3,7 +3,7 @@ use mathlib.Core.Path.{ap, _∙_}
 use denote.Ref.{now}
 use Rattle.protocol.specs.Answers.{partsOf, parted, withParts}
 use Rattle.replay_lists.specs.Lists.{entryUnits, assembledTold}
-use Rattle.replay_lists.proofs.ListLaws.{tell-made}
+use Rattle.replay_lists.proofs.ToldListLaws.{tell-made}
 use Rattle.replay_lists.proofs.assembled.put_made.Statement.{statement}
 use Rattle.replay_lists.proofs.assembled.put_made.Tie as tie
 

@@ -7,7 +7,7 @@ use lib.ListN.{length, drop, take, length-take}
 use lib.Seq.{getD-take}
 use Rattle.protocol.specs.Answers.{numbered, withNumbers}
 use Rattle.replay_lists.specs.Lists.{kindFields}
-use Rattle.replay_lists.proofs.ListLaws.{kind-next, kinds-end}
+use Rattle.replay_lists.proofs.ToldListLaws.{kind-next, kinds-end}
 use Rattle.replay_lists.proofs.assembled.put_told.Statement.{statement}
 use Rattle.replay_lists.proofs.assembled.put_told.Tie as tie
 

@@ -6,7 +6,7 @@ use denote.Ref.{now}
 use lib.ListN.{length}
 use Rattle.protocol.specs.Answers.{partsOf, parted, withParts}
 use Rattle.replay_lists.specs.Lists.{entryUnits}
-use Rattle.replay_lists.proofs.ListLaws.{unit-next, units-end}
+use Rattle.replay_lists.proofs.ToldListLaws.{unit-next, units-end}
 use Rattle.replay_lists.proofs.assembled.put_units.Statement.{statement}
 use Rattle.replay_lists.proofs.assembled.put_units.Tie as tie
 
