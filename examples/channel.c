@@ -18,7 +18,7 @@ struct board {
     uint64_t frames;
 };
 
-static const char *const words[40] = {
+static const char *const words[] = {
     [1] = "an OBU's forbidden bit is set", [2] = "a reserved OBU type", [3] = "an extension byte is missing",
     [4] = "an OBU's size is no number", [5] = "an OBU reaches past the end", [14] = "a header's bits run out",
     [15] = "an unknown profile", [16] = "a number in the header is too long", [17] = "a reduced still picture header",
@@ -41,7 +41,7 @@ static void fail(const char *format, ...) {
 }
 
 static void refuse(uint64_t number, const char *file) {
-    const char *why = number < 40 && words[number] ? words[number] : "not known here";
+    const char *why = number < sizeof words / sizeof *words && words[number] ? words[number] : "not known here";
     fail("%s%srefused %llu: %s", file ? file : "", file ? ": " : "", (unsigned long long)number, why);
 }
 

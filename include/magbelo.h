@@ -68,10 +68,19 @@ uint32_t magbelo_split_obu_stream(const uint8_t *data, size_t data_len, uint8_t 
  *   23  fewer than two frames in all
  *   24  a segment without frames
  *   25  over 5,000,000 frames in all
- *    1 to 5  a unit that does not read, as above
+ *    1  a unit that does not read: an OBU's forbidden bit is set
+ *    2  an OBU type from 9 to 14
+ *    3  an extension byte is missing
+ *    4  an OBU's size is no leb128 number
+ *    5  an OBU's size reaches past the end
  *   26  the first key has no sequence header
- *   14, 15, 16  it does not read: bits run out, the profile, a uvlc number
- *   17, 18, 19, 20  it is not supported: reduced still picture, frame ids, a model with unequal intervals, film grain
+ *   14  its bits run out, or a frame header's
+ *   15  its profile is above 2
+ *   16  a uvlc number in it has 32 leading zeros or more
+ *   17  it is a reduced still picture header
+ *   18  it has frame ids
+ *   19  it has a decoder model, and pictures at unequal intervals
+ *   20  it has film grain
  *   27  a later key has another one, or none
  *   28  a unit without a frame
  *   29  a key that is no shown key frame

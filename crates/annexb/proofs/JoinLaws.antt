@@ -27,9 +27,9 @@ use Rattle.bitio.specs.Lent.{Wrote}
 use Rattle.container.specs.Lists.{accepts}
 use Rattle.annexb.specs.code.Join.{innerLength, framedLength, Putting, Writing}
 use Rattle.annexb.proofs.SpanLaws.{span-all, ahead, Passed, passed-start, passed-next, passed-stop, passed-end}
-use Rattle.annexb.proofs.MeasureLaws.{ext-few}
 use Rattle.annexb.proofs.FillLaws.{flatMap-append, Whole}
 use Rattle.annexb.proofs.CutLaws.{Cut, cut-start, cut-next, cut-good, cut-part, cut-done, accepted-is}
+use Rattle.container.proofs.RangeLaws.{ext-most}
 
 -- ---- lengths
 
@@ -59,7 +59,7 @@ leb-few n l =
 
 pub inner-few : (x : Option ℕ) (n : ℕ) → n ≤ limit → (innerLength x n ≤ n + 2) × (framedLength (innerLength x n) ≤ n + 12)
 inner-few x n l =
-    let a = ext-few x in
+    let a = ext-most x in
     (omega arith, omega (arith, leb-few (innerLength x n) (omega arith) .0))
 
 -- at most three bytes more than four times as many

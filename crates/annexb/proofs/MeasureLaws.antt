@@ -3,7 +3,7 @@ use Prim.Native.Nat.{ℕ, _+_, _-_, _*_, _^_, _≤_, _<_, min}
 use native.Mathlib.Omega.{arith}
 use mathlib.Core.Path.{_≡_, refl, sym, ap, _∙_}
 use mathlib.Core.List.{List, [], _∷_, _++_, map, flatMap, append-nil}
-use mathlib.Core.Option.{Option, none, some}
+use mathlib.Core.Option.{Option}
 use mathlib.Core.Bool.{cond as pick}
 use lib.ListN.{length, length-append, length-map}
 use lib.Dec.{ltb}
@@ -11,7 +11,7 @@ use borrow.Author.Tests.{lt-ltb, le-ltb}
 use Rattle.bitio.specs.Parse.{Answer, refused, accepted, answer, stop, within, before, many}
 use Rattle.bitio.specs.Leb.{sized}
 use Rattle.bitio.proofs.LebLaws.{bytes-most}
-use Rattle.obu.specs.Obu.{Obu, extBytes, obuBytes, unitBytes}
+use Rattle.obu.specs.Obu.{Obu, obuBytes, unitBytes}
 use Rattle.obu.specs.Write.{obuLength}
 use Rattle.obu.proofs.LengthLaws.{obu-length}
 use Rattle.container.specs.Stream.{flat, streamBytes}
@@ -23,6 +23,7 @@ use Rattle.container.proofs.StreamLaws.{bytes-append, bytes-flat, flat-append}
 use Rattle.container.proofs.AnnexBLaws.{length-shrinks, frame-shrinks, temporal-shrinks}
 use Rattle.annexb.proofs.SpanLaws.{span-all, Passed, passed-start, passed-next, passed-end, passed-stop}
 use Rattle.annexb.proofs.PartLaws.{IsPart, IsObuAt}
+use Rattle.container.proofs.RangeLaws.{ext-most}
 
 -- ---- bytes of what is behind, and one more
 
@@ -39,13 +40,9 @@ flat-bytes a u = ap unitBytes (flat-more a u) ∙ bytes-append (flat a) u
 
 -- ---- how long an OBU gets
 
-pub ext-few : (x : Option ℕ) → length (extBytes x) ≤ 1
-ext-few none = omega arith
-ext-few (some e) = omega arith
-
 -- at most twelve bytes more than its payload
 pub obu-most : (x : Option ℕ) (n : ℕ) → n ≤ limit → obuLength x n ≤ n + 12
-obu-most x n l = omega (arith, ext-few x, bytes-most 9 n (omega arith))
+obu-most x n l = omega (arith, ext-most x, bytes-most 9 n (omega arith))
 
 module _ {s : List ℕ} {at e t : ℕ} {x : Option ℕ} {a b : ℕ} (i : IsObuAt s at e t x a b) where
   pub obu-size : length (obuBytes (i .obu)) ≡ obuLength x (b - a)

@@ -7,3 +7,4 @@ pub mod WholeLaws
 pub mod RecordLaws
 pub mod Relend
 pub mod Handed
+pub mod ExampleLaws

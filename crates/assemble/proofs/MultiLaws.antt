@@ -1,4 +1,4 @@
--- Laws of what is written: how much there is, that it fits, and that it is what assembly hands out.
+-- Laws of what is written: how much there is, that it outputFits, and that it is what assembly hands out.
 use Prim.Native.Nat.{ℕ, _+_, _-_, _≤_, _<_, min}
 use native.Mathlib.Omega.{arith}
 use mathlib.Core.Path.{_≡_, refl, sym, ap, _∙_}
@@ -14,7 +14,7 @@ use Rattle.obu.specs.Write.{obuLength, obu}
 use Rattle.obu.proofs.LengthLaws.{obu-length}
 use Rattle.bitio.proofs.ParseLaws.{and-both}
 use Rattle.blocks.specs.Blocks.{layout, number, listOf, total}
-use Rattle.pictures.specs.Assemble.{Output, Room, fits}
+use Rattle.pictures.specs.Assemble.{Output, OutputRoom, outputFits}
 use Rattle.pictures.specs.Flat.{capped}
 use Rattle.assemble.specs.code.Stages.{headerIn, ownIn, fitsIn}
 use Rattle.assemble.specs.declared.multi.Counts.{Counts}
@@ -62,24 +62,24 @@ same-counts a b d i j k l = rw (a, b, d, i, j, k, l)
 
 -- ---- room
 
-pub over-limit : (room : Room) (n : Counts) → limit < n .picture + n .shows + n .header → false ≡ fitsIn room n
+pub over-limit : (room : OutputRoom) (n : Counts) → limit < n .picture + n .shows + n .header → false ≡ fitsIn room n
 unfolding fitsIn
 over-limit room n h = rw (lt-leb (n .picture + n .shows + n .header) limit h)
 
-pub in-limit : (room : Room) (n : Counts) (r : Bool)
+pub in-limit : (room : OutputRoom) (n : Counts) (r : Bool)
     → r ≡ (leb (n .picture + n .shows + n .header) limit && leb (n .units) (room .list) && leb (n .cues) (room .cues) && leb (n .picture) (room .picture) && leb (n .ends) (room .ends) && leb (n .shows) (room .shows) && leb (n .header) (room .header))
     → r ≡ fitsIn room n
 unfolding fitsIn
 in-limit room n r e = e
 
 -- picture bytes and the header counted as far as a usize counts are judged alike
-module _ (room : Room) (n : Counts) (o : Output) (u : n .units ≡ length (o .list)) (c : n .cues ≡ length (o .cues)) (p : n .picture ≡ capped (length (o .picture)))
+module _ (room : OutputRoom) (n : Counts) (o : Output) (u : n .units ≡ length (o .list)) (c : n .cues ≡ length (o .cues)) (p : n .picture ≡ capped (length (o .picture)))
     (e : n .ends ≡ length (o .ends)) (w : n .shows ≡ length (o .shows)) (h : n .header ≡ capped (length (o .header))) where
   abbrev allBytes : ℕ
   allBytes = length (o .picture) + length (o .shows) + length (o .header)
 
-  pub fits-same : fitsIn room n ≡ fits room o
-  unfolding fitsIn fits
+  pub fits-same : fitsIn room n ≡ outputFits room o
+  unfolding fitsIn outputFits
   fits-same = go (leb allBytes limit) refl
     where
       go : (t : Bool) → leb allBytes limit ≡ t
@@ -96,7 +96,7 @@ module _ (room : Room) (n : Counts) (o : Output) (u : n .units ≡ length (o .li
           rw (lt-leb (n .picture + n .shows + n .header) limit m, t)
 
 -- each buffer has room
-pub record RoomForAll (room : Room) (o : Output) : Type 0 where
+pub record RoomForAll (room : OutputRoom) (o : Output) : Type 0 where
   pub bytes : length (o .picture) + length (o .shows) + length (o .header) ≤ limit
   pub list : length (o .list) ≤ room .list
   pub cues : length (o .cues) ≤ room .cues
@@ -105,8 +105,8 @@ pub record RoomForAll (room : Room) (o : Output) : Type 0 where
   pub shows : length (o .shows) ≤ room .shows
   pub header : length (o .header) ≤ room .header
 
-pub fits-roomy : (room : Room) (o : Output) → fits room o ≡ true → RoomForAll room o
-unfolding fits
+pub fits-roomy : (room : OutputRoom) (o : Output) → outputFits room o ≡ true → RoomForAll room o
+unfolding outputFits
 fits-roomy room o g =
     let (g, g7) = and-both _ _ g in
     let (g, g6) = and-both _ _ g in

@@ -18,7 +18,7 @@ use Rattle.blocks.specs.Numbers.{width, segmentCount, firstRecords}
 use Rattle.pictures.specs.Assemble.{Outcome, stopped, Output}
 use Rattle.pictures.specs.declared.settings.Settings.{Settings}
 use Rattle.assemble.specs.Whole.{Lent, outcome}
-use Rattle.assemble.specs.Records.{recordIn, numbersOf, copyCount, numbersAfter, noRoom, copiedOutcome, recordsOutcome}
+use Rattle.assemble.specs.Records.{recordIn, numbersOf, copyCount, numbersAfter, noRoom, copiedOutcome, recordsOutcome, noRecord}
 use Rattle.assemble.specs.declared.segments.Segment.{Segment}
 
 -- ---- how many are copied
@@ -36,10 +36,6 @@ pub copied-room : (count room : ℕ) → copyCount count room ≤ room / width
 copied-room count room = pick-cases (λ n. n ≤ room / width) (leb count (room / width)) (λ e. leb-true count (room / width) e) (λ e. omega arith)
 
 -- ---- all segments
-
--- what stands for a segment where there is none
-abbrev pub noRecord : Segment
-noRecord = record { «key_start» = 0; «key_end» = 0; «golden_start» = 0; «golden_end» = 0; frames = 0 }
 
 pub numbers-length : (xs : List Segment) → length (numbersOf xs) ≡ width * length xs
 unfolding numbersOf

@@ -18,7 +18,7 @@ use Rattle.blocks.specs.Numbers.{headKey, headFrames, headInside, rest, segment
 use Rattle.pictures.specs.Segments.{Segment, framesOf, segmentIn, segmentAt, segmentsFrom, segmentsOf}
 use Rattle.pictures.specs.Prepare.{effective, renewal}
 use Rattle.pictures.specs.declared.settings.Settings.{Settings}
-use Rattle.pictures.specs.Assemble.{Outcome, stopped, made, andAlso, verdict, inSegment, overall, noneEmpty, sizes, sameHeaders, headerObu, prepareAll, pictureOf, Output, outputOf, Room, assembled, fitted, assemble}
+use Rattle.pictures.specs.Assemble.{Outcome, stopped, made, andAlso, verdict, inSegment, overall, noneEmpty, sizes, sameHeaders, headerObu, prepareAll, pictureOf, Output, outputOf, OutputRoom, assembled, fitted, assemble}
 use Rattle.pictures.specs.Sizes.{sizedAll, ranged}
 use Rattle.pictures.specs.Flat.{allSegments, laterSegments, firstSequence, capped}
 use Rattle.assemble.specs.code.Stages.{Going, going, fromTiming, fromHeader, fromKey, checked, planned}
@@ -79,7 +79,7 @@ first-both {A} {B} {C} {D} {E} i (accepted a) p f g h k e = go (p a)
 abbrev fine : Outcome Unit
 fine = made tt
 
-module _ (room : Room) (set : Settings) where
+module _ (room : OutputRoom) (set : Settings) where
   -- what is handed out of what goes out, if it fits
   abbrev pub fittedOut : List ℕ → Going → Outcome Output
   fittedOut ns g = fitted room (outputOf (set .gop) ns (g .header) (g .units))

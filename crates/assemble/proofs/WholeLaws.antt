@@ -16,7 +16,7 @@ use Rattle.blocks.specs.code.Lay.{CanLayAll}
 use Rattle.pictures.specs.Segments.{segmentIn}
 use Rattle.pictures.specs.Prepare.{Prepared, showUnit}
 use Rattle.pictures.specs.declared.settings.Settings.{Settings}
-use Rattle.pictures.specs.Assemble.{Outcome, stopped, made, andAlso, pictureOf, endsFrom, showsOf, firstSlot, Output, outputOf, Room, fits, fitted}
+use Rattle.pictures.specs.Assemble.{Outcome, stopped, made, andAlso, pictureOf, endsFrom, showsOf, firstSlot, Output, outputOf, OutputRoom, outputFits, fitted}
 use Rattle.pictures.specs.Flat.{allSegments, judged, answerOr, allPrepared, allSent, slotsOf, capped}
 use Rattle.assemble.specs.Whole.{counts, countsOf, assembledSays, Lent, outcome, lentAfter, Handed}
 use Rattle.assemble.specs.code.Stages.{Going, planned, headerIn, newIn, basisSays, answerSays, planSays, needed, fitsIn, roomFor}
@@ -51,7 +51,7 @@ same-lent : {l l′ c c′ p p′ e e′ w w′ h h′ : List ℕ} → l ≡ l�
 same-lent a b d i j k = rw (a, b, d, i, j, k)
 
 module _ (s rs : List ℕ) (set : Settings) (d : Lent) where
-  abbrev room : Room
+  abbrev room : OutputRoom
   room = roomFor (length (d .list)) (length (d .cues)) (length (d .pictures)) (length (d .ends)) (length (d .shows)) (length (d .header))
 
   abbrev whole : Outcome Output
@@ -112,7 +112,7 @@ module _ (s rs : List ℕ) (set : Settings) (d : Lent) where
     unfolding andAlso
     whole-is = whole-staged ∙ ap (λ (x : Outcome Going). andAlso x (fittedOut room set (framesIn rs))) ready
 
-    fit-is : fitsIn room need ≡ fits room output
+    fit-is : fitsIn room need ≡ outputFits room output
     fit-is = fits-same room need output refl refl weighed ends-are shows-are refl
 
     -- 35

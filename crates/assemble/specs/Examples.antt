@@ -1,32 +1,18 @@
 -- Three lists to work with, and what assembly hands out for them: 01's own, and two segments that differ in every unit, untimed and timed.
 use Prim.Native.Nat.{ℕ}
-use mathlib.Core.Path.{_≡_, refl}
-use mathlib.Core.List.{List, [], _∷_, _++_, flatMap}
-use Rattle.frame.specs.UnitFrame.{framePayload, unitFrame}
-use Rattle.bitio.specs.Parse.{many, manyF, andNext}
-use Rattle.bitio.specs.Bits.{bitAt, bitsAt, bitsWithin, readBits}
-use Rattle.bitio.specs.Uvlc.{leadingZeros, uvlcSuffix, uvlc}
-use Rattle.bitio.specs.Write.{bitsOf, halvings, uvlcZeros}
-use Rattle.bitio.specs.Leb.{lebRead, readLeb, lebWrite, lebBytes, sized, framed}
-use Rattle.obu.specs.Obu.{passes, headObuOf, obusOf, obuBytes, unitBytes}
-use Rattle.obu.specs.Unit.{isType, has, lastPayload, count, firstPayload}
-use Rattle.obu.specs.Place.{part}
-use Rattle.header.specs.Fields.{readFlag, readOr, flagOr, uvlcOr}
-use Rattle.header.specs.SequenceOpening.{timingInfo, decoderModelInfo, opening}
-use Rattle.header.specs.SequencePoints.{operatingPoint, operatingPoints}
-use Rattle.header.specs.SequenceCoding.{frameSize, frameIds, codingTools, screenTools, filters, colorDescription, colorSampling, coding}
-use Rattle.header.specs.Sequence.{sequenceHeader, parseSequence}
-use Rattle.header.specs.Support.{support, supportedSequence}
-use Rattle.header.specs.Timed.{retimed, withTiming}
-use Rattle.emittable.specs.PutFields.{put, putOr, putFlag, putFlagOr, putUvlcOr}
-use Rattle.emittable.specs.PutSequence.{putTiming, putModel, putOpening, putPoint, putPoints, putSize, putIds, putTools, putScreen, putFilters, putColor, putSampling, putCoding, putSequence}
-use Rattle.emit.specs.Emit.{ofBits, packN, pack, trailed, sequenceBytes}
-use Rattle.frame.specs.Frame.{showExisting, frameStart, orderHint, removalTimes, bufferRemoval, frameInfo, frameBits, frameHeader, parseFrame}
-use Rattle.blocks.specs.Blocks.{blocks, layout, positions, total}
-use Rattle.pictures.specs.Segments.{segmentAt, segmentsFrom, segmentsOf}
-use Rattle.pictures.specs.Prepare.{firstOf, sent, lowest, prepare, showUnit}
+use mathlib.Core.List.{List, [], _∷_, _++_}
+use Rattle.pictures.specs.Segments.{Segment}
+use Rattle.pictures.specs.Prepare.{showUnit}
 use Rattle.pictures.specs.declared.settings.Settings.{Settings}
-use Rattle.pictures.specs.Assemble.{made, andAlso, inSegment, overall, noneEmpty, sizes, sameBytes, sameHeaders, prepareAll, endsFrom, Output, Room, fits, assembled, assemble}
+use Rattle.pictures.specs.Assemble.{Output, OutputRoom}
+
+-- the payload of K's sequence header
+abbrev pub payloadK : List ℕ
+payloadK = 0x00 ∷ 0x00 ∷ 0x00 ∷ 0x01 ∷ 0x9F ∷ 0xF8 ∷ 0x00 ∷ 0x00 ∷ 0x10 ∷ []
+
+-- a board: its units, and its frames
+abbrev pub ordered : List ℕ → List ℕ → ℕ → Segment
+ordered k g n = record { key = k; golden = g; frames = n }
 
 -- 01's K and G, and K with its header timed 25/1
 abbrev pub unitK : List ℕ
@@ -53,7 +39,7 @@ abbrev pub rangesKG : ℕ → ℕ → List ℕ
 rangesKG n m = 0 ∷ 16 ∷ 16 ∷ 22 ∷ n ∷ 22 ∷ 38 ∷ 38 ∷ 44 ∷ m ∷ []
 
 -- as much as is needed, and no more
-abbrev pub roomKG : Room
+abbrev pub roomKG : OutputRoom
 roomKG = record { list = 5; cues = 2; picture = 60; ends = 4; shows = 10; header = 19 }
 
 abbrev pub outputKG : Output
@@ -97,7 +83,7 @@ pictureTimed = timedK ++ unitG ++ timedOtherK ++ otherG
 abbrev pub rangesTimed : List ℕ
 rangesTimed = 0 ∷ 24 ∷ 24 ∷ 30 ∷ 4 ∷ 30 ∷ 55 ∷ 55 ∷ 62 ∷ 3 ∷ []
 
-abbrev pub roomTwo : Room
+abbrev pub roomTwo : OutputRoom
 roomTwo = record { list = 7; cues = 2; picture = 62; ends = 4; shows = 10; header = 19 }
 
 abbrev pub outputTwo : Output
@@ -111,11 +97,3 @@ outputTwo =
       header = timedHeader;
       slot = 3;
     }
-
--- ---- what is handed out: of the second and the third, rewritten or copied, the same
-
-pub examples-made
-    : (assemble roomKG settingsKG pictureKG (rangesKG 4 1) ∷ assemble roomTwo settingsKG pictureTwo rangesTwo ∷ assemble roomTwo settingsKG pictureTimed rangesTimed ∷ [])
-    ≡ made outputKG ∷ made outputTwo ∷ made outputTwo ∷ []
-unfolding many manyF andNext bitAt bitsAt bitsWithin readBits leadingZeros uvlcSuffix uvlc bitsOf halvings uvlcZeros lebRead readLeb lebWrite lebBytes sized framed passes headObuOf obusOf obuBytes unitBytes isType has lastPayload part readFlag readOr flagOr uvlcOr timingInfo decoderModelInfo opening operatingPoint operatingPoints frameSize frameIds codingTools screenTools filters colorDescription colorSampling coding sequenceHeader parseSequence support retimed withTiming put putOr putFlag putFlagOr putUvlcOr putTiming putModel putOpening putPoint putPoints putSize putIds putTools putScreen putFilters putColor putSampling putCoding putSequence ofBits packN pack trailed sequenceBytes showExisting frameStart orderHint removalTimes bufferRemoval frameInfo frameBits frameHeader parseFrame blocks layout positions total segmentAt segmentsFrom segmentsOf firstOf sent unitFrame framePayload lowest prepare andAlso inSegment overall noneEmpty sizes supportedSequence sameBytes sameHeaders prepareAll endsFrom fits assembled assemble flatMap count firstPayload
-examples-made = refl

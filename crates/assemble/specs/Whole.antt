@@ -1,5 +1,5 @@
 -- The whole of assembly, answered: its counts, and its outcome into lent slices.
-use Prim.Native.Nat.{ℕ}
+use Prim.Native.Nat.{ℕ, _+_, _*_, _%_}
 use mathlib.Core.Path.{_≡_}
 use mathlib.Core.List.{List}
 use mathlib.Core.Option.{none, some}
@@ -33,6 +33,12 @@ abbrev pub assembledSays : Assembled → Outcome Counts
 assembledSays (Made c) = made c
 assembledSays (AllRefused k) = stopped k none
 assembledSays (SegmentRefused k i) = stopped k (some i)
+
+-- for C: 0, or 01's number; where 01 adds the segment, its number from 1 stands above 32 bits. Nothing is cut off below 2^32 - 1 segments
+abbrev pub assembledCode : Outcome Counts → ℕ
+assembledCode (made c) = 0
+assembledCode (stopped k none) = k
+assembledCode (stopped k (some i)) = k + (i % 4294967295 + 1) * 4294967296
 
 -- the six lent slices, at one moment
 pub record Lent : Type 0 where

@@ -15,9 +15,9 @@ use Rattle.blocks.proofs.NumberLaws.{number-at, behind-start, behind-end, behin
 use Rattle.pictures.specs.Assemble.{stopped}
 use Rattle.pictures.specs.declared.settings.Settings.{Settings}
 use Rattle.assemble.specs.Whole.{Lent, outcome}
-use Rattle.assemble.specs.Records.{numbersOf, noRoom, recordsOutcome}
+use Rattle.assemble.specs.Records.{numbersOf, noRoom, recordsOutcome, noRecord}
 use Rattle.assemble.specs.declared.segments.Segment.{Segment}
-use Rattle.bench.specs.Boards.{boardOf, boards, noBoard, boardsIn, boardsOutcome}
+use Rattle.bench.specs.Boards.{boardOf, boards, boardsIn, boardsOutcome}
 
 -- ---- one after the other
 
@@ -35,12 +35,12 @@ pub record Filling (rs : List ℕ) (l : List Segment) (i : ℕ) : Type 0 where
   pub within : i ≤ segmentCount rs
   pub rest : sets l i (map boardOf (recordsBehind rs i)) ≡ boardsIn rs
 
-pub fill-start : (rs : List ℕ) → Filling rs (replicate 64 noBoard) 0
+pub fill-start : (rs : List ℕ) → Filling rs (replicate 64 noRecord) 0
 fill-start rs =
     record {
-      len = length-replicate 64 noBoard;
+      len = length-replicate 64 noRecord;
       within = omega arith;
-      rest = ap (λ (ls : List (List ℕ)). sets (replicate 64 noBoard) 0 (map boardOf ls)) (behind-start rs);
+      rest = ap (λ (ls : List (List ℕ)). sets (replicate 64 noRecord) 0 (map boardOf ls)) (behind-start rs);
     }
 
 module _ {rs : List ℕ} {l : List Segment} {i : ℕ} (f : Filling rs l i) where
@@ -83,8 +83,8 @@ boards-length rs = length-map (records rs) boardOf ∙ records-length (segmentCo
 
 front-of : (rs : List ℕ) → segmentCount rs ≤ 64 → take (segmentCount rs) (boardsIn rs) ≡ boards rs
 front-of rs h =
-    ap (take (segmentCount rs)) (sets-eq (boards rs) (replicate 64 noBoard) 0 (omega (arith, boards-length rs, length-replicate 64 noBoard)))
-    ∙ take-at (boards rs) (drop (0 + length (boards rs)) (replicate 64 noBoard)) (segmentCount rs) (boards-length rs)
+    ap (take (segmentCount rs)) (sets-eq (boards rs) (replicate 64 noRecord) 0 (omega (arith, boards-length rs, length-replicate 64 noRecord)))
+    ∙ take-at (boards rs) (drop (0 + length (boards rs)) (replicate 64 noRecord)) (segmentCount rs) (boards-length rs)
 
 -- ---- assembly
 

@@ -1,18 +1,18 @@
 -- Flat numbers as segment structs, and assembly by way of these.
-use Prim.Native.Nat.{ℕ, _+_, _*_, _%_}
+use Prim.Native.Nat.{ℕ}
 use mathlib.Core.Path.{_≡_}
 use mathlib.Core.List.{List, map}
 use mathlib.Core.Bool.{cond as pick}
-use mathlib.Core.Option.{none, some}
+use mathlib.Core.Option.{none}
 use lib.ListN.{getD, replicate}
 use lib.Seq.{sets}
 use lib.Dec.{leb}
 use denote.Triple.Both.{Both}
 use Rattle.blocks.specs.Numbers.{records, isWhole, segmentCount}
-use Rattle.pictures.specs.Assemble.{Outcome, stopped, made, Output}
+use Rattle.pictures.specs.Assemble.{Outcome, stopped, Output}
 use Rattle.pictures.specs.declared.settings.Settings.{Settings}
-use Rattle.assemble.specs.Whole.{Lent, outcome, lentAfter, countsOf}
-use Rattle.assemble.specs.declared.multi.Counts.{Counts}
+use Rattle.assemble.specs.Whole.{Lent, outcome, lentAfter, countsOf, assembledCode}
+use Rattle.assemble.specs.Records.{noRecord}
 use Rattle.assemble.specs.declared.segments.Segment.{Segment}
 
 -- the segment of the record at the head of rs
@@ -23,24 +23,15 @@ boardOf rs = record { «key_start» = getD rs 0 0; «key_end» = getD rs 1 0; «
 abbrev pub boards : List ℕ → List Segment
 boards rs = map boardOf (records rs)
 
-abbrev pub noBoard : Segment
-noBoard = record { «key_start» = 0; «key_end» = 0; «golden_start» = 0; «golden_end» = 0; frames = 0 }
-
 -- the same in an array of 64, behind them empty ones
 abbrev pub boardsIn : List ℕ → List Segment
-boardsIn rs = sets (replicate 64 noBoard) 0 (boards rs)
+boardsIn rs = sets (replicate 64 noRecord) 0 (boards rs)
 
 -- assembly, where the numbers are those of at most 64 segments and no more
 unfoldable pub boardsOutcome : List ℕ → List ℕ → Settings → Lent → Outcome Output
 boardsOutcome s rs set l = pick (leb (segmentCount rs) 64) (pick (isWhole rs) (outcome s rs set l) (stopped 4294967295 none)) (stopped 4294967295 none)
 
--- the answer as C has it: 0, or the number, with the segment from 1 above 32 bits
-abbrev pub toldCode : Outcome Counts → ℕ
-toldCode (made c) = 0
-toldCode (stopped k none) = k
-toldCode (stopped k (some i)) = k + (i % 4294967295 + 1) * 4294967296
-
 -- that, and the lent slices at exit
 pub record Told (x : Lent → Outcome Output) (r : ℕ) (d : Both Lent Lent) : Type 0 where
-  pub code : r ≡ toldCode (countsOf (x (d .entry)))
+  pub code : r ≡ assembledCode (countsOf (x (d .entry)))
   pub lent : d .exit ≡ lentAfter (x (d .entry)) (d .entry)

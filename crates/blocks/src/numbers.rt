@@ -1,5 +1,5 @@
 // The flat numbers of the segments, read and written by name: where its key starts and ends in the picture bytes, where
-// its golden does, and its frames. Which number stands where is known here alone.
+// its golden does, and its frames. Code above goes by these names, not by places, but for bench's board_of.
 ghost use mathlib.Core.Path.{_≡_};
 ghost use Prim.Native.Nat.{_*_, _<_};
 ghost use Rattle.bitio.specs.Lent.{pasted};

@@ -10,14 +10,14 @@ use lib.Dec.{ltb}
 use Rattle.bitio.specs.Limits.{limit}
 use Rattle.bitio.proofs.ParseLaws.{pick-cases}
 use Rattle.pictures.specs.Segments.{segmentsOf}
-use Rattle.pictures.specs.Assemble.{Outcome, stopped, made, andAlso, overall, Output, Room, fits, assembled, fitted, assemble}
+use Rattle.pictures.specs.Assemble.{Outcome, stopped, made, andAlso, overall, Output, OutputRoom, outputFits, assembled, fitted, assemble}
 use Rattle.pictures.specs.declared.settings.Settings.{Settings}
 use Rattle.assemble.specs.Whole.{Lent, outcome}
 use Rattle.assemble.specs.code.Stages.{roomFor}
 use Rattle.assemble.proofs.MultiLaws.{RoomForAll, fits-roomy}
 
 -- the room that these have
-abbrev pub roomIn : Lent → Room
+abbrev pub roomIn : Lent → OutputRoom
 roomIn d = roomFor (length (d .list)) (length (d .cues)) (length (d .pictures)) (length (d .ends)) (length (d .shows)) (length (d .header))
 
 -- what was made last, made a
@@ -26,10 +26,10 @@ unfolding andAlso
 last (stopped n i) f b e = let z : _≡_ {A = ℕ} 0 1 = cc in absurd (omega arith)
 last (made a) f b e = (a, e)
 
-fitted-fits : (room : Room) (r o : Output) → fitted room r ≡ made o → fits room o ≡ true
-fitted-fits room r o e = go (fits room r) refl e
+fitted-fits : (room : OutputRoom) (r o : Output) → fitted room r ≡ made o → outputFits room o ≡ true
+fitted-fits room r o e = go (outputFits room r) refl e
   where
-    go : (t : Bool) → fits room r ≡ t → pick t (made r) (stopped 35 none) ≡ made o → fits room o ≡ true
+    go : (t : Bool) → outputFits room r ≡ t → pick t (made r) (stopped 35 none) ≡ made o → outputFits room o ≡ true
     go true w e = let k : r ≡ o = cc in rw (← k) w
     go false w e = let z : _≡_ {A = ℕ} 0 1 = cc in absurd (omega arith)
 

@@ -1,8 +1,7 @@
 -- An answer as numbers for C.
-use Prim.Native.Nat.{ℕ, _+_, _*_, _%_}
+use Prim.Native.Nat.{ℕ}
 use mathlib.Core.Path.{_≡_}
 use mathlib.Core.List.{List}
-use mathlib.Core.Option.{none, some}
 use lib.ListN.{length}
 use denote.Ref.{RefT, now}
 use denote.Triple.Both.{Both}
@@ -10,7 +9,7 @@ use Rattle.bitio.specs.Parse.{Answer, refused, accepted}
 use Rattle.container.specs.Limits.{Room}
 use Rattle.container.specs.Units.{Sizes, sizesOf, bytesAfter, endsAfter}
 use Rattle.pictures.specs.Assemble.{Outcome, stopped, made, Output}
-use Rattle.assemble.specs.Whole.{Lent, lentAfter, countsOf}
+use Rattle.assemble.specs.Whole.{Lent, lentAfter, countsOf, assembledCode}
 use Rattle.assemble.specs.declared.multi.Counts.{Counts}
 
 -- 0, or 01's number
@@ -48,12 +47,6 @@ pub record UnitsRead (x : Room → Answer (List (List ℕ))) (r : ℕ) (d : Both
   pub lent : d .exit ≡ streamLentAfter (x (record { bytes = length (d .entry .out); ends = length (d .entry .ends) })) (d .entry)
 
 -- ---- assembly
-
--- 0, or 01's number; where 01 adds the segment, its number from 1 stands above 32 bits. Nothing is cut off below 2^32 - 1 segments
-abbrev pub assembledCode : Outcome Counts → ℕ
-assembledCode (made c) = 0
-assembledCode (stopped k none) = k
-assembledCode (stopped k (some i)) = k + (i % 4294967295 + 1) * 4294967296
 
 -- the numbers lent to C, at one moment
 pub record Numbers : Type 0 where

@@ -7,28 +7,25 @@ use Rattle.bitio.specs.Parse.{Answer, refused, accepted}
 use Rattle.blocks.specs.Blocks.{code, kinds}
 use Rattle.pictures.specs.Segments.{Segment}
 use Rattle.pictures.specs.Prepare.{showUnit}
-use Rattle.pictures.specs.Assemble.{Outcome, stopped, made, Output, Room as OutputRoom, andAlso, sizes, assembled, assemble, named, unitsOf}
-use Rattle.assemble.specs.Examples.{unitK, unitG, timedPayload, timedHeader, timedK, pictureKG, rangesKG, roomKG, settingsKG, outputKG, pictureTwo, rangesTwo, pictureTimed, rangesTimed, roomTwo, outputTwo}
-use Rattle.cases.specs.Rows.{Row, payloadK}
+use Rattle.pictures.specs.Assemble.{Outcome, stopped, made, Output, OutputRoom, andAlso, sizes, assembled, assemble, named, unitsOf}
+use Rattle.assemble.specs.Examples.{unitK, unitG, timedPayload, timedHeader, timedK, pictureKG, rangesKG, roomKG, settingsKG, outputKG, pictureTwo, rangesTwo, pictureTimed, rangesTimed, roomTwo, outputTwo, payloadK, ordered}
+use Rattle.cases.specs.Rows.{Row}
 
 -- all of an assembly; to a refusal of one segment, counted from 1, so many thousands are added
-abbrev told : Outcome Output → Answer (List (List ℕ))
-told (stopped k none) = refused k
-told (stopped k (some i)) = refused (k + 1000 * suc i)
-told (made o) = accepted (o .list ∷ o .cues ∷ o .picture ∷ o .ends ∷ o .shows ∷ o .header ∷ (o .slot ∷ []) ∷ [])
+abbrev handedOut : Outcome Output → Answer (List (List ℕ))
+handedOut (stopped k none) = refused k
+handedOut (stopped k (some i)) = refused (k + 1000 * suc i)
+handedOut (made o) = accepted (o .list ∷ o .cues ∷ o .picture ∷ o .ends ∷ o .shows ∷ o .header ∷ (o .slot ∷ []) ∷ [])
 
 -- 01's list in this room, and with these ranges
 abbrev roomedKG : OutputRoom → Answer (List (List ℕ))
-roomedKG room = told (assemble room settingsKG pictureKG (rangesKG 4 1))
+roomedKG room = handedOut (assemble room settingsKG pictureKG (rangesKG 4 1))
 
 abbrev rangedKG : List ℕ → Answer (List (List ℕ))
-rangedKG rs = told (assemble roomKG settingsKG pictureKG rs)
-
-abbrev ordered : List ℕ → List ℕ → ℕ → Segment
-ordered k g n = record { key = k; golden = g; frames = n }
+rangedKG rs = handedOut (assemble roomKG settingsKG pictureKG rs)
 
 abbrev assembledAt : ℕ → List Segment → Answer (List (List ℕ))
-assembledAt gop xs = told (assembled (record { gop = gop; fps = 25; den = 1 }) xs)
+assembledAt gop xs = handedOut (assembled (record { gop = gop; fps = 25; den = 1 }) xs)
 
 -- K G with so many frames each
 abbrev framesKG : ℕ → List ℕ → Answer (List (List ℕ))
@@ -36,7 +33,7 @@ framesKG gop ns = assembledAt gop (map (ordered unitK unitG) ns)
 
 -- whether frames pass
 abbrev sizesPass : ℕ → List ℕ → Answer (List (List ℕ))
-sizesPass gop ns = told (andAlso (sizes gop ns) (λ _. made outputKG))
+sizesPass gop ns = handedOut (andAlso (sizes gop ns) (λ _. made outputKG))
 
 -- a delimiter and a frame OBU with this payload
 abbrev framedBy : List ℕ → List ℕ
@@ -68,10 +65,10 @@ extendedMade header = accepted ((0 ∷ 1 ∷ []) ∷ (1 ∷ []) ∷ (extendedTim
 abbrev pub assemblyRows : List Row
 assemblyRows =
     -- two segments that differ in every unit, rewritten and copied
-    (told (assemble roomTwo settingsKG pictureTwo rangesTwo), told (made outputTwo))
-    ∷ (told (assemble roomTwo settingsKG pictureTimed rangesTimed), told (made outputTwo))
+    (handedOut (assemble roomTwo settingsKG pictureTwo rangesTwo), handedOut (made outputTwo))
+    ∷ (handedOut (assemble roomTwo settingsKG pictureTimed rangesTimed), handedOut (made outputTwo))
     -- 01's list with as much room as it needs, and with each room one too small
-    ∷ (roomedKG roomKG, told (made outputKG))
+    ∷ (roomedKG roomKG, handedOut (made outputKG))
     ∷ (roomedKG (record { list = 4; cues = 2; picture = 60; ends = 4; shows = 10; header = 19 }), refused 35)
     ∷ (roomedKG (record { list = 5; cues = 1; picture = 60; ends = 4; shows = 10; header = 19 }), refused 35)
     ∷ (roomedKG (record { list = 5; cues = 2; picture = 59; ends = 4; shows = 10; header = 19 }), refused 35)
@@ -87,8 +84,8 @@ assemblyRows =
     ∷ (framesKG 1 (4 ∷ 1 ∷ []), refused 22)
     ∷ (framesKG 2 (1 ∷ []), refused 23)
     ∷ (framesKG 2 (5000000 ∷ 1 ∷ []), refused 25)
-    ∷ (sizesPass 2 (2 ∷ []), told (made outputKG))
-    ∷ (sizesPass 2 (4999999 ∷ 1 ∷ []), told (made outputKG))
+    ∷ (sizesPass 2 (2 ∷ []), handedOut (made outputKG))
+    ∷ (sizesPass 2 (4999999 ∷ 1 ∷ []), handedOut (made outputKG))
     -- no frames, in the order of refusals; a total over u64
     ∷ (framesKG 3 (0 ∷ 2 ∷ []), refused 1024)
     ∷ (framesKG 3 (0 ∷ []), refused 23)

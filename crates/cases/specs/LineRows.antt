@@ -5,6 +5,7 @@ use mathlib.Core.Bool.{Bool, true, false}
 use mir.Val.{boolByte}
 use Rattle.bitio.specs.Parse.{Answer, accepted}
 use Rattle.protocol.specs.Answers.{partsOf}
+use Rattle.protocol.specs.Text.{wordKey}
 use Rattle.protocol.specs.Room.{roomPrefix}
 use Rattle.protocol.specs.Told.{Told, told}
 use Rattle.protocol.specs.Fields.{Reading, fieldsOf}
@@ -34,13 +35,15 @@ abbrev pub lineRows : List Row
 lineRows =
     -- `room 1 2 30 leb 00`
     (accepted (roomNumbers (roomPrefix (114 ∷ 111 ∷ 111 ∷ 109 ∷ 32 ∷ 49 ∷ 32 ∷ 50 ∷ 32 ∷ 51 ∷ 48 ∷ 32 ∷ 108 ∷ 101 ∷ 98 ∷ 32 ∷ 48 ∷ 48 ∷ [])) ∷ []), accepted ((1 ∷ 1 ∷ 2 ∷ 30 ∷ 12 ∷ []) ∷ []))
+    -- `leb` as a number, and no number for a name behind a NUL
+    ∷ (accepted ((wordKey (108 ∷ 101 ∷ 98 ∷ []) ∷ wordKey (0 ∷ 108 ∷ 101 ∷ 98 ∷ []) ∷ []) ∷ []), accepted ((0x6c6562 ∷ 0 ∷ []) ∷ []))
     -- `bits 0a0b 12 3`, whose fields start at 5
     ∷ (accepted (fieldNumbers (fieldsOf (98 ∷ 105 ∷ 116 ∷ 115 ∷ 32 ∷ 48 ∷ 97 ∷ 48 ∷ 98 ∷ 32 ∷ 49 ∷ 50 ∷ 32 ∷ 51 ∷ []) 5 (record { kinds = 0x020201; repeated = 0 }) (1 ∷ 2 ∷ 3 ∷ []) (9 ∷ 9 ∷ []) (8 ∷ 8 ∷ 8 ∷ []))), accepted ((15 ∷ 2 ∷ 1 ∷ 2 ∷ []) ∷ (10 ∷ 11 ∷ 3 ∷ []) ∷ (2 ∷ 9 ∷ []) ∷ (12 ∷ 3 ∷ 8 ∷ []) ∷ []))
     -- `ok 1 120032002a00`, and with ` dirty` behind it where the byte behind the answer has changed
     ∷ (streamAnswer 0xa5, accepted ((111 ∷ 107 ∷ 32 ∷ 49 ∷ 32 ∷ 49 ∷ 50 ∷ 48 ∷ 48 ∷ 51 ∷ 50 ∷ 48 ∷ 48 ∷ 50 ∷ 97 ∷ 48 ∷ 48 ∷ 10 ∷ []) ∷ []))
     ∷ (streamAnswer 0xa4, accepted ((111 ∷ 107 ∷ 32 ∷ 49 ∷ 32 ∷ 49 ∷ 50 ∷ 48 ∷ 48 ∷ 51 ∷ 50 ∷ 48 ∷ 48 ∷ 50 ∷ 97 ∷ 48 ∷ 48 ∷ 32 ∷ 100 ∷ 105 ∷ 114 ∷ 116 ∷ 121 ∷ 10 ∷ []) ∷ []))
-    -- `no 35 7`, assembly refused at a segment
-    ∷ (printed (told (record { refusal = 35; bytes = 0; ends = 0; numbers = 1; «is_dirty» = false }) [] [] (7 ∷ [])) (record { kinds = 0x070202; repeated = 0x09 }) true, accepted ((110 ∷ 111 ∷ 32 ∷ 51 ∷ 53 ∷ 32 ∷ 55 ∷ 10 ∷ []) ∷ []))
+    -- `no 24 7`, assembly refused at a segment
+    ∷ (printed (told (record { refusal = 24; bytes = 0; ends = 0; numbers = 1; «is_dirty» = false }) [] [] (7 ∷ [])) (record { kinds = 0x070202; repeated = 0x09 }) true, accepted ((110 ∷ 111 ∷ 32 ∷ 50 ∷ 52 ∷ 32 ∷ 55 ∷ 10 ∷ []) ∷ []))
     -- `ok 5 - no 14`, units played
     ∷ (printed (told (record { refusal = 0; bytes = 0; ends = 0; numbers = 6; «is_dirty» = false }) [] [] (2 ∷ 5 ∷ 5 ∷ 256 ∷ 8 ∷ 14 ∷ [])) (record { kinds = 0; repeated = 0x09 }) true, accepted ((111 ∷ 107 ∷ 32 ∷ 53 ∷ 32 ∷ 45 ∷ 32 ∷ 110 ∷ 111 ∷ 32 ∷ 49 ∷ 52 ∷ 10 ∷ []) ∷ []))
     ∷ []

@@ -4,7 +4,6 @@ use mathlib.Core.List.{List, [], _∷_, _++_}
 use Rattle.bitio.specs.Parse.{Answer, refused, accepted, answer, andNext}
 use Rattle.container.specs.Limits.{Room}
 use Rattle.container.specs.Container.{stream, annexb, read, write}
-use mir.Val.{boolByte}
 use Rattle.bitio.specs.Limits.{limited}
 use Rattle.header.specs.Sequence.{parseSequence}
 use Rattle.header.specs.Timed.{timed}
@@ -12,10 +11,9 @@ use Rattle.emit.specs.Emit.{emitted}
 use Rattle.frame.specs.Frame.{parseFrameFrom}
 use Rattle.pictures.specs.Prepare.{showUnit}
 use Rattle.pictures.specs.Assemble.{Outcome, stopped, made, Output, assemble}
-use Rattle.assemble.specs.Examples.{timedPayload, pictureKG, rangesKG, roomKG, settingsKG}
-use Rattle.frame.specs.declared.frame_header.FrameHeaderInfo.{FrameHeaderInfo}
-use Rattle.frame.specs.declared.frame_header.FrameHeaderInfo.the-variants.{Existing, Frame}
-use Rattle.cases.specs.Rows.{Row, payloadK}
+use Rattle.assemble.specs.Examples.{timedPayload, pictureKG, rangesKG, roomKG, settingsKG, payloadK}
+use Rattle.cases.specs.Rows.{Row}
+use Rattle.replay_headers.specs.Headers.{frameFields}
 
 abbrev ample : Room
 ample = record { bytes = 64; ends = 8 }
@@ -38,13 +36,9 @@ emittedTimed num den s =
     andNext (timed num den (q .header)) (λ h.
     answer (λ bs. bs ∷ []) (emitted (record { header = h; points = q .points }))))
 
--- a frame header as numbers: 1 and the slot shown again; or 0, type, shown, showable, refresh flags, order hint
-abbrev frameNumbers : FrameHeaderInfo → List ℕ
-frameNumbers (Existing slot) = 1 ∷ slot ∷ []
-frameNumbers (Frame f) = 0 ∷ f .«frame_type» ∷ boolByte (f .«show_frame») ∷ boolByte (f .«showable_frame») ∷ f .«refresh_frame_flags» ∷ f .«order_hint» ∷ []
-
+-- a frame header's fields as replay tells them
 abbrev frame : List ℕ → List ℕ → Answer (List (List ℕ))
-frame s f = answer (λ x. frameNumbers x ∷ []) (limited f (limited s (parseFrameFrom s f)))
+frame s f = answer (λ x. frameFields x ∷ []) (limited f (limited s (parseFrameFrom s f)))
 
 -- what of an assembly 01 marks P: the list's entries, that is kinds by segment; the cues; the show units, that is slots
 abbrev markedOf : Outcome Output → Answer (List (List ℕ))

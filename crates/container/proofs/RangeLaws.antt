@@ -167,7 +167,7 @@ kept-length keep o = go (isKept keep (o .type))
     go true = obu-length o
     go false = refl
 
-ext-most : (e : Option ℕ) → length (extBytes e) ≤ 1
+pub ext-most : (e : Option ℕ) → length (extBytes e) ≤ 1
 ext-most none = omega arith
 ext-most (some x) = omega arith
 

@@ -28,7 +28,7 @@ use Rattle.blocks.specs.Numbers.{headInside, rest, segmentCount, isWhole}
 use Rattle.pictures.specs.Segments.{Segment, framesOf, segmentIn, segmentAt, segmentsFrom, segmentsOf}
 use Rattle.pictures.specs.Prepare.{isSequence, timedSequence, effective, renewal, sent, keyOk, goldenFlags, slotOf, Prepared, prepare}
 use Rattle.pictures.specs.declared.settings.Settings.{Settings}
-use Rattle.pictures.specs.Assemble.{Outcome, stopped, made, andAlso, inSegment, overall, noneEmpty, sizes, sameBytes, sameHeader, sameHeaders, headerObu, prepareAll, Output, outputOf, Room, fits, assembled, assemble}
+use Rattle.pictures.specs.Assemble.{Outcome, stopped, made, andAlso, inSegment, overall, noneEmpty, sizes, sameBytes, sameHeader, sameHeaders, headerObu, prepareAll, Output, outputOf, OutputRoom, outputFits, assembled, assemble}
 use Rattle.player.proofs.StepLaws.{link}
 use Rattle.frame.specs.UnitFrame.{unitFrame}
 use Rattle.demand.specs.Premises.{listHeader, Premise, Formed, InFields}
@@ -342,8 +342,8 @@ and-first : (a b : Bool) → (a && b) ≡ true → a ≡ true
 and-first true b e = refl
 and-first false b e = e
 
-fits-limit : (room : Room) (r : Output) → fits room r ≡ true → length (r .picture) ≤ limit
-unfolding fits
+fits-limit : (room : OutputRoom) (r : Output) → outputFits room r ≡ true → length (r .picture) ≤ limit
+unfolding outputFits
 fits-limit room r e =
     let n : length (r .picture) + length (r .shows) + length (r .header) ≤ limit = leb-true _ limit (and-first _ _ (and-first _ _ (and-first _ _ (and-first _ _ (and-first _ _ (and-first _ _ e)))))) in
     omega arith
@@ -359,7 +359,7 @@ fitting : (t : Bool) (a b : Output) → pick t (made a) (stopped 35 none) ≡ ma
 fitting true a b e = (refl, cc)
 fitting false a b e = let z : _≡_ {A = ℕ} 0 1 = cc in absurd (omega arith)
 
-module _ (room : Room) (set : Settings) (s rs : List ℕ) (xs : List Segment) (r : Output) where
+module _ (room : OutputRoom) (set : Settings) (s rs : List ℕ) (xs : List Segment) (r : Output) where
   -- under demand 3's premises
   pub accepts : InFields set → segmentsOf s rs ≡ accepted xs → Formed xs → assemble room set s rs ≡ made r → (m : Made set xs) × (out m ≡ r) × (length (r .picture) ≤ limit)
   unfolding assemble overall
@@ -367,6 +367,6 @@ module _ (room : Room) (set : Settings) (s rs : List ℕ) (xs : List Segment) (r
       let (n, e) = not-over (length s) _ r e in
       link-made _ _ r e (λ ys e₁ e. link-made _ _ r e (λ r′ e₂ e.
       let y : ys ≡ xs = cc in
-      let (t, i) = fitting (fits room r′) r′ r e in
+      let (t, i) = fitting (outputFits room r′) r′ r e in
       let (m, o) = from-segments set xs r′ fields (within-rewritable (length s) n (segments-short s rs xs g)) p (rw y at e₂) in
       (m, o ∙ i, rw i at (fits-limit room r′ t))))

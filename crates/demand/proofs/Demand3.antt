@@ -17,7 +17,7 @@ use Rattle.blocks.proofs.BlockLaws.{length-layout}
 use Rattle.blocks.specs.Blocks.{Entry, number, layout, total}
 use Rattle.pictures.specs.Segments.{Segment, framesOf, segmentsOf}
 use Rattle.pictures.specs.declared.settings.Settings.{Settings}
-use Rattle.pictures.specs.Assemble.{made, pictureOf, Output, Room as OutputRoom, assemble, unitsOf}
+use Rattle.pictures.specs.Assemble.{made, pictureOf, Output, OutputRoom, assemble, unitsOf}
 use Rattle.player.specs.Player.{start}
 use Rattle.demand.specs.Premises.{Premise, Formed, Premises, InFields}
 use Rattle.demand.specs.Courses.{Course, Throughout}

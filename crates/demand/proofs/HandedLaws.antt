@@ -8,10 +8,10 @@ use lib.ListN.{length, getD, length-append}
 use lib.Seq.{take-append-seam, drop-append-seam}
 use lib.Dec.{eqb, ltb}
 use borrow.Author.Tests.{le-leb}
-use Rattle.obu.specs.Place.{part}
+use Rattle.obu.specs.Place.{part, partIn}
 use Rattle.blocks.specs.Blocks.{Kind, Key, Golden, Show, Entry, code, number, cuesOf}
 use Rattle.pictures.specs.Prepare.{Prepared, showUnit}
-use Rattle.pictures.specs.Assemble.{pictureOf, endsFrom, showsOf, unitIn, named}
+use Rattle.pictures.specs.Assemble.{pictureOf, endsFrom, showsOf, named}
 use Rattle.demand.specs.Demand.{Given}
 use Rattle.demand.proofs.ListLaws.{number-kind, number-segment}
 
@@ -94,7 +94,7 @@ unfolding named
 named-is bs e h = rw (number-kind e, number-segment e) (go (e .kind))
   where
     go : (k : Kind)
-        → pick (ltb (code k) 2) (unitIn (pictureOf bs) (endsFrom 0 bs) (2 * (e .segment) + code k)) (
+        → pick (ltb (code k) 2) (partIn (pictureOf bs) (endsFrom 0 bs) (2 * (e .segment) + code k)) (
         pick (eqb (code k) 2) (part (showsOf bs) (5 * (e .segment)) (5 * (e .segment) + 5)) [])
         ≡ unitOf k (getD bs (e .segment) noUnits)
     go Key = let n : 2 * (e .segment) + 0 ≡ 2 * (e .segment) = omega arith in rw n (key-there [] bs (e .segment) h)

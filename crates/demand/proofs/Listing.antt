@@ -33,7 +33,7 @@ use Rattle.pictures.specs.Segments.{Segment, segmentAt, segmentsFrom, segmentsO
 use Rattle.pictures.specs.Prepare.{effective, showUnit}
 use Rattle.pictures.specs.declared.settings.Settings.{Settings}
 use Rattle.pictures.specs.Assemble.{Outcome, stopped, Output, named, unitsOf}
-use Rattle.assemble.specs.Examples.{unitK, unitG, timedPayload, timedK, otherK, otherG, timedOtherK, pictureKG, rangesKG, roomKG, settingsKG, outputKG, pictureTwo, rangesTwo, pictureTimed, rangesTimed, roomTwo, outputTwo, examples-made}
+use Rattle.assemble.specs.Examples.{unitK, unitG, timedPayload, timedK, otherK, otherG, timedOtherK, pictureKG, rangesKG, roomKG, settingsKG, outputKG, pictureTwo, rangesTwo, pictureTimed, rangesTimed, roomTwo, outputTwo, payloadK, ordered}
 use Rattle.frame.specs.UnitFrame.{framePayload, unitFrame}
 use Rattle.player.specs.Player.{State, start, refresh, keepAs, play, leaves}
 use Rattle.demand.specs.Kinds.{unitKind, unitAt}
@@ -41,6 +41,7 @@ use Rattle.demand.specs.Premises.{listHeader, Premise, Formed, Premises}
 use Rattle.demand.specs.Courses.{Course, done, plays, noise, Throughout}
 use Rattle.demand.specs.Demand.{Right, PlaysRight, ReadBack, Demand3}
 use Rattle.demand.proofs.Demand3.{demand3}
+use Rattle.assemble.proofs.ExampleLaws.{examples-made}
 
 -- ---- what a list's units show, ks being their kinds
 
@@ -150,41 +151,34 @@ golden-formed s f u w =
       same = also {a = obu 2 []} (λ e. let z : _≡_ {A = ℕ} 0 1 = cc in absurd (omega arith)) (also {a = obu 6 f} (λ e. let z : _≡_ {A = ℕ} 0 1 = cc in absurd (omega arith)) nothing);
     }
 
--- K's sequence header
-abbrev header : List ℕ
-header = 0x00 ∷ 0x00 ∷ 0x00 ∷ 0x01 ∷ 0x9F ∷ 0xF8 ∷ 0x00 ∷ 0x00 ∷ 0x10 ∷ []
-
-abbrev segment : List ℕ → List ℕ → ℕ → Segment
-segment k g n = record { key = k; golden = g; frames = n }
-
 -- 01's list; the two that differ; and these timed
 abbrev segmentsKG : List Segment
-segmentsKG = segment unitK unitG 4 ∷ segment unitK unitG 1 ∷ []
+segmentsKG = ordered unitK unitG 4 ∷ ordered unitK unitG 1 ∷ []
 
 abbrev segmentsTwo : List Segment
-segmentsTwo = segment unitK unitG 4 ∷ segment otherK otherG 3 ∷ []
+segmentsTwo = ordered unitK unitG 4 ∷ ordered otherK otherG 3 ∷ []
 
 abbrev segmentsTimed : List Segment
-segmentsTimed = segment timedK unitG 4 ∷ segment timedOtherK otherG 3 ∷ []
+segmentsTimed = ordered timedK unitG 4 ∷ ordered timedOtherK otherG 3 ∷ []
 
 -- two segments whose units are formed under s
-formed : (s k g l h : List ℕ) (n m : ℕ) → listHeader (segment k g n ∷ segment l h m ∷ []) ≡ s → Premise s k → Premise s g → Premise s l → Premise s h → Formed (segment k g n ∷ segment l h m ∷ [])
+formed : (s k g l h : List ℕ) (n m : ℕ) → listHeader (ordered k g n ∷ ordered l h m ∷ []) ≡ s → Premise s k → Premise s g → Premise s l → Premise s h → Formed (ordered k g n ∷ ordered l h m ∷ [])
 formed s k g l h n m e a b c d =
-    subst (λ (s : List ℕ). Every (λ x. Premise s (x .key)) (segment k g n ∷ segment l h m ∷ []) → Every (λ x. Premise s (x .golden)) (segment k g n ∷ segment l h m ∷ []) → Formed (segment k g n ∷ segment l h m ∷ [])) e
+    subst (λ (s : List ℕ). Every (λ x. Premise s (x .key)) (ordered k g n ∷ ordered l h m ∷ []) → Every (λ x. Premise s (x .golden)) (ordered k g n ∷ ordered l h m ∷ []) → Formed (ordered k g n ∷ ordered l h m ∷ [])) e
     (λ ks gs. record { keys = ks; goldens = gs })
-    (also {a = segment k g n} a (also {a = segment l h m} c nothing)) (also {a = segment k g n} b (also {a = segment l h m} d nothing))
+    (also {a = ordered k g n} a (also {a = ordered l h m} c nothing)) (also {a = ordered k g n} b (also {a = ordered l h m} d nothing))
 
 all-formed : (Formed segmentsKG) × (Formed segmentsTwo) × (Formed segmentsTimed)
 unfolding many manyF lebRead readLeb sized lebWrite lebBytes framed passes headObuOf obusOf obuBytes unitBytes flatMap isType firstPayload
 all-formed =
     let golden : (s : List ℕ) → Premise s unitG = λ s. golden-formed s (0x38 ∷ 0x10 ∷ []) unitG (record { reads = refl; bytes = refl }) in
     let other : (s : List ℕ) → Premise s otherG = λ s. golden-formed s (0x39 ∷ 0x40 ∷ 0xCD ∷ []) otherG (record { reads = refl; bytes = refl }) in
-    let key = key-formed header (0x10 ∷ []) unitK (record { reads = refl; bytes = refl }) in
-    let more = key-formed header (0x10 ∷ 0xAB ∷ []) otherK (record { reads = refl; bytes = refl }) in
+    let key = key-formed payloadK (0x10 ∷ []) unitK (record { reads = refl; bytes = refl }) in
+    let more = key-formed payloadK (0x10 ∷ 0xAB ∷ []) otherK (record { reads = refl; bytes = refl }) in
     let timed = key-formed timedPayload (0x10 ∷ []) timedK (record { reads = refl; bytes = refl }) in
     let most = key-formed timedPayload (0x10 ∷ 0xAB ∷ []) timedOtherK (record { reads = refl; bytes = refl }) in (
-      formed header unitK unitG unitK unitG 4 1 refl key (golden header) key (golden header),
-      formed header unitK unitG otherK otherG 4 3 refl key (golden header) more (other header),
+      formed payloadK unitK unitG unitK unitG 4 1 refl key (golden payloadK) key (golden payloadK),
+      formed payloadK unitK unitG otherK otherG 4 3 refl key (golden payloadK) more (other payloadK),
       formed timedPayload timedK unitG timedOtherK otherG 4 3 refl timed (golden timedPayload) most (other timedPayload),
     )
 

@@ -299,7 +299,7 @@ module _ (set : Settings) (xs : List Segment) (m : Boards set xs) (short : Units
     from : c ≤ p
     size : length (st .slots) ≡ 8
     kept : c < p → st .kept ≡ some q
-    held : (i o : ℕ) → c ≤ o → Since E i o p → getD (st .slots) ((segmentUnits i) .slot) empty ≡ filled o true false
+    golden-in : (i o : ℕ) → c ≤ o → Since E i o p → getD (st .slots) ((segmentUnits i) .slot) empty ≡ filled o true false
 
   record Turn (c p : ℕ) (st : State) : Type 0 where
     right : PlaysRight set (m .first) xs us c p st
@@ -326,7 +326,7 @@ module _ (set : Settings) (xs : List Segment) (m : Boards set xs) (short : Units
             from = omega (arith, inv .from);
             size = length-refresh _ _ (st .slots) ∙ inv .size;
             kept = λ _. refl;
-            held = λ i o h s. since-last E i o p s
+            golden-in = λ i o h s. since-last E i o p s
                 (λ _ e. let z : _≡_ {A = ℕ} 0 1 = cc in absurd (omega arith))
                 (λ _ e. let z : _≡_ {A = ℕ} 0 1 = cc in absurd (omega arith));
           };
@@ -363,7 +363,7 @@ module _ (set : Settings) (xs : List Segment) (m : Boards set xs) (short : Units
             from = omega (arith, inv .from);
             size = length-refresh _ _ (st .slots) ∙ inv .size;
             kept = λ _. refl;
-            held = λ i o h s. since-last E i o p s
+            golden-in = λ i o h s. since-last E i o p s
                 (λ n e.
                 let j : (E p) .segment ≡ i = ap (λ (x : Entry). x .segment) e in
                 rw (n, ← j) (golden-fills b p (st .slots) (inv .size)))
@@ -379,7 +379,7 @@ module _ (set : Settings) (xs : List Segment) (m : Boards set xs) (short : Units
         let behind = key-before E ((E p) .segment) o p c s k (inv .from) cue in
         let lo-o : 1 ≤ o = omega arith in
         let hi-o : o ≤ length es = omega (arith, s .below) in
-        let held = inv .held ((E p) .segment) o (omega arith) s in
+        let found = inv .golden-in ((E p) .segment) o (omega arith) s in
         let here = segment-here p lo′ hi in
         record {
           right = record {
@@ -387,12 +387,12 @@ module _ (set : Settings) (xs : List Segment) (m : Boards set xs) (short : Units
             says = rw (← k) (kind-is p lo′ hi);
             shown = o;
             after = _;
-            answer = ap (λ (v : List ℕ). play st p v) u ∙ (play-show b (m .read) (m .supported) st p o (inv .kept (later Show refl k)) held);
+            answer = ap (λ (v : List ℕ). play st p v) u ∙ (play-show b (m .read) (m .supported) st p o (inv .kept (later Show refl k)) found);
             right = record {
               slot = (segmentUnits ((E p) .segment)) .slot;
               names = rw u (says-frame (show-says b (m .supported)));
               keyMark = false;
-              holds = held;
+              holds = found;
               below = s .below;
               golden = kind-is o lo-o hi-o ∙ ap (λ (x : Entry). accepted (x .kind)) (s .golden);
               greatest = λ j x y g.
@@ -409,9 +409,9 @@ module _ (set : Settings) (xs : List Segment) (m : Boards set xs) (short : Units
             from = omega (arith, inv .from);
             size = inv .size;
             kept = λ _. refl;
-            held = λ i o h s. since-last E i o p s
+            golden-in = λ i o h s. since-last E i o p s
                 (λ _ e. let z : _≡_ {A = ℕ} 0 1 = cc in absurd (omega arith))
-                (λ s′ e. inv .held i o h s′);
+                (λ s′ e. inv .golden-in i o h s′);
           };
         }
 
@@ -430,7 +430,7 @@ module _ (set : Settings) (xs : List Segment) (m : Boards set xs) (short : Units
   onward c p st t = rw (t .right .answer) (t .next)
 
   begins : (c : ℕ) → Inv c c start
-  begins c = record { from = omega arith; size = refl; kept = λ h. absurd (omega arith); held = λ i o h s. absurd (omega (arith, s .below)) }
+  begins c = record { from = omega arith; size = refl; kept = λ h. absurd (omega arith); golden-in = λ i o h s. absurd (omega (arith, s .below)) }
 
   module _ (c : ℕ) (lo : 1 ≤ c) (cue : (E c) .kind ≡ Key) where
     every : (st : State) (p : ℕ) (vs : List (List ℕ)) (k : Course st p vs) → Inv c p st → vs ≡ drop (p - 1) us

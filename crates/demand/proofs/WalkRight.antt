@@ -16,7 +16,7 @@ use Rattle.container.specs.Container.{Container}
 use Rattle.blocks.specs.Blocks.{total}
 use Rattle.pictures.specs.Segments.{Segment, framesOf, segmentsOf}
 use Rattle.pictures.specs.declared.settings.Settings.{Settings}
-use Rattle.pictures.specs.Assemble.{Outcome, made, overall, Output, Room as OutputRoom, assemble, unitsOf}
+use Rattle.pictures.specs.Assemble.{Outcome, made, overall, Output, OutputRoom, assemble, unitsOf}
 use Rattle.assemble.specs.Whole.{Lent, outcome}
 use Rattle.player.proofs.StepLaws.{link}
 use Rattle.player.specs.Player.{start}

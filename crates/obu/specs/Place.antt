@@ -1,9 +1,9 @@
 -- The OBU at a position of lent bytes.
 use Prim.Native.Nat.{ℕ, _-_}
-use mathlib.Core.List.{List, []}
+use mathlib.Core.List.{List, [], _∷_}
 use mathlib.Core.Option.{Option, none, some}
 use mathlib.Core.Bool.{cond as pick}
-use lib.ListN.{length, take, drop}
+use lib.ListN.{length, take, drop, getD}
 use lib.Dec.{leb, ltb}
 use Rattle.bitio.specs.Parse.{Head, stop, item}
 use Rattle.obu.specs.Obu.{Obu, headObu}
@@ -45,3 +45,7 @@ obuSays (Refused k) = wrong k
 -- the bytes from a to e, or none where they are not there
 unfoldable pub part : List ℕ → ℕ → ℕ → List ℕ
 part s a e = pick (leb a e) (pick (leb e (length s)) (take (e - a) (drop a s)) []) []
+
+-- part i of bytes whose parts lie one behind the other, each with its end in es
+abbrev pub partIn : List ℕ → List ℕ → ℕ → List ℕ
+partIn s es i = part s (getD (0 ∷ es) i 0) (getD es i 0)

@@ -243,7 +243,7 @@ put-start {s} {es} {ts} {o} {e} {t} {c} k =
     record {
       room = k .room;
       done = [];
-      state = done-start (k .closing);
+      state = done-start (k .measured);
       count = refl;
       wrote = record { next = refl; out = sym (pasted-nil o 0) };
       ends = sym (pasted-nil e 0);

@@ -204,8 +204,8 @@ module _ (s es ts : List ℕ) (g : None s es ts) where
             times = rw one-time (pasted-one t 0 (getD ts i 0) (k .1));
           }
 
-pub closing : {s es ts : List ℕ} {c : ℕ} → Some s es ts c → Closing s es ts c
-closing k = record { short = k .given .short; match = k .given .match; next = k .next; some = k .some }
+pub some-closing : {s es ts : List ℕ} {c : ℕ} → Some s es ts c → Closing s es ts c
+some-closing k = record { short = k .given .short; match = k .given .match; next = k .next; some = k .some }
 
 -- the first that closes is none
 pub none-closes : {s es ts : List ℕ} {c : ℕ} → Given s es ts → Next (listed s es) 0 c → length ts ≤ c → None s es ts

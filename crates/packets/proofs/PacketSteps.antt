@@ -93,8 +93,8 @@ module _ (qs : List Packet) where
   split : (a c : ℕ) → Next (bytesOf qs) a c → c < length qs → drop a qs ≡ slice a c qs ++ (getD qs c nil ∷ drop (c + 1) qs)
   split a c n l = slice-split a c qs (n .order) (omega arith) ∙ ap (λ r. slice a c qs ++ r) (drop-cons qs c nil l ∙ rw (add-one c))
 
-  closing : (a c : ℕ) → Next (bytesOf qs) a c → c < length qs → closes ((getD qs c nil) .bytes) ≡ true
-  closing a c n l = rw (bytes-at c) at (n .close (omega (arith, size)))
+  closes-at : (a c : ℕ) → Next (bytesOf qs) a c → c < length qs → closes ((getD qs c nil) .bytes) ≡ true
+  closes-at a c n l = rw (bytes-at c) at (n .close (omega (arith, size)))
 
   -- the packet that goes out
   abbrev made : ℕ → ℕ → ℕ → Packet
@@ -106,7 +106,7 @@ module _ (qs : List Packet) where
     step-more d m k =
         let e = split (c + 1) d m k in
         rw (split a c n l, e, times-at c, bytes-at c, slice-empty (c + 1) (bytesOf qs), ← bytes-slice a c)
-        (merge-more (waiting a c (n .wait)) (getD qs c nil) (closing a c n l) (waiting (c + 1) d (m .wait)) (getD qs d nil) (drop (d + 1) qs) (closing (c + 1) d m k))
+        (merge-more (waiting a c (n .wait)) (getD qs c nil) (closes-at a c n l) (waiting (c + 1) d (m .wait)) (getD qs d nil) (drop (d + 1) qs) (closes-at (c + 1) d m k))
 
     pub step-last : Every Short qs → Next (bytesOf qs) (c + 1) (length (bytesOf qs)) → mergePackets (drop a qs) ≡ made a c (length (bytesOf qs)) ∷ []
     unfolding piece
@@ -115,7 +115,7 @@ module _ (qs : List Packet) where
         let v = waiting (c + 1) (length qs) w in
         let r = slice-rest (c + 1) qs in
         rw (split a c n l, ← r, times-at c, bytes-at c, size, ← bytes-slice a c, ← bytes-slice (c + 1) (length qs))
-        (merge-last (waiting a c (n .wait)) (getD qs c nil) (closing a c n l) (every-slice Short a c qs sh) (every-at Short c qs nil l sh) v)
+        (merge-last (waiting a c (n .wait)) (getD qs c nil) (closes-at a c n l) (every-slice Short a c qs sh) (every-at Short c qs nil l sh) v)
 
 -- ---- frameless packets alone
 

@@ -3,13 +3,13 @@ use Prim.Native.Nat.{ℕ, suc, _+_, _*_, _/_, _%_}
 use mathlib.Core.List.{List, [], _∷_, _++_, map, flatMap}
 use mathlib.Core.Bool.{Bool, true, false, cond as pick, _&&_}
 use mathlib.Core.Option.{Option, none, some}
-use lib.ListN.{length, getD}
+use lib.ListN.{length}
 use lib.Dec.{eqb, ltb, leb}
 use Rattle.bitio.specs.Parse.{Answer, refused, accepted, answer, andNext}
 use Rattle.bitio.specs.Limits.{limit}
 use Rattle.obu.specs.Obu.{Obu, obus, obuBytes}
 use Rattle.obu.specs.Unit.{has, lastPayload}
-use Rattle.obu.specs.Place.{part}
+use Rattle.obu.specs.Place.{part, partIn}
 use Rattle.header.specs.Sequence.{Sequence}
 use Rattle.header.specs.Support.{supportedSequence}
 use Rattle.blocks.specs.Blocks.{listOf, cuesOf, total}
@@ -133,7 +133,7 @@ outputOf gop ns header bs =
     }
 
 -- lent room: entries, cues and ends by number, the others by bytes
-pub record Room : Type 0 where
+pub record OutputRoom : Type 0 where
   pub list : ℕ
   pub cues : ℕ
   pub picture : ℕ
@@ -142,8 +142,8 @@ pub record Room : Type 0 where
   pub header : ℕ
 
 -- the bytes handed out, all together, are within the limit, and each lent buffer has room
-unfoldable pub fits : Room → Output → Bool
-fits room r =
+unfoldable pub outputFits : OutputRoom → Output → Bool
+outputFits room r =
     leb (length (r .picture) + length (r .shows) + length (r .header)) limit
     && leb (length (r .list)) (room .list)
     && leb (length (r .cues)) (room .cues)
@@ -167,11 +167,11 @@ assembled set (x ∷ xs) =
     made (outputOf (set .gop) (framesOf (x ∷ xs)) (headerObu (renewal set q) o) bs)))))))
 
 -- 35 comes last, if lent room or the limit of output bytes cannot hold the result
-abbrev pub fitted : Room → Output → Outcome Output
-fitted room r = pick (fits room r) (made r) (stopped 35 none)
+abbrev pub fitted : OutputRoom → Output → Outcome Output
+fitted room r = pick (outputFits room r) (made r) (stopped 35 none)
 
 -- from the picture bytes s and the segments' numbers rs: 34 leads, 36 is next
-unfoldable pub assemble : Room → Settings → List ℕ → List ℕ → Outcome Output
+unfoldable pub assemble : OutputRoom → Settings → List ℕ → List ℕ → Outcome Output
 assemble room set s rs =
     pick (ltb limit (length s)) (stopped 34 none) (
     andAlso (overall (segmentsOf s rs)) (λ xs.
@@ -179,14 +179,10 @@ assemble room set s rs =
 
 -- ---- the unit that a list entry names
 
--- unit i of those that lie one behind the other in s, es being where each ends
-abbrev pub unitIn : List ℕ → List ℕ → ℕ → List ℕ
-unitIn s es i = part s (getD (0 ∷ es) i 0) (getD es i 0)
-
 -- the bytes that an entry n of a list stands for; of a number that names no unit, none
 unfoldable pub named : List ℕ → List ℕ → List ℕ → ℕ → List ℕ
 named picture ends shows n =
-    pick (ltb (n % 4) 2) (unitIn picture ends (2 * (n / 4) + n % 4)) (
+    pick (ltb (n % 4) 2) (partIn picture ends (2 * (n / 4) + n % 4)) (
     pick (eqb (n % 4) 2) (part shows (5 * (n / 4)) (5 * (n / 4) + 5)) [])
 
 -- the list's units, in order

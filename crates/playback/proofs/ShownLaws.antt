@@ -14,7 +14,7 @@ use Rattle.bitio.specs.Limits.{limit}
 use Rattle.bitio.specs.Parse.{Answer, refused, accepted, answer, onto, andNext}
 use Rattle.bitio.specs.Lent.{pasted}
 use Rattle.bitio.proofs.LentLaws.{pasted-nil, pasted-set, pasted-length}
-use Rattle.obu.specs.Place.{part}
+use Rattle.obu.specs.Place.{part, partIn}
 use Rattle.container.specs.Units.{unitsFrom, unitsAt, countOf, outAfter}
 use Rattle.container.specs.Lists.{accepts}
 use Rattle.container.proofs.ListLaws.{units-refused}
@@ -24,7 +24,6 @@ use Rattle.player.specs.Values.{shows, keptBehind, stateSays, playedOn, playedB
 use Rattle.player.specs.declared.step.State.{State as CodeState}
 use Rattle.player.specs.declared.step.Played.{Played as CodePlayed}
 use Rattle.playback.specs.Lent.{Fills}
-use Rattle.pictures.specs.Assemble.{unitIn}
 use Rattle.playback.specs.Shown.{positionNumber, shownNumber, codeNumber, shownFrom, shownBy, fromCue, playFrom, CanPlay}
 
 -- the code's number is the answer's
@@ -46,7 +45,7 @@ start-before es zero h = absurd (h refl)
 start-before es (suc i) h = ap (λ n. getD es n 0) (omega arith)
 
 -- unit i, by where it starts and ends
-pub unit-at : (s es : List ℕ) (i : ℕ) {a : ℕ} {v : List ℕ} → a ≡ getD (0 ∷ es) i 0 → v ≡ part s a (getD es i 0) → v ≡ unitIn s es i
+pub unit-at : (s es : List ℕ) (i : ℕ) {a : ℕ} {v : List ℕ} → a ≡ getD (0 ∷ es) i 0 → v ≡ part s a (getD es i 0) → v ≡ partIn s es i
 unit-at s es i q w = w ∙ ap (λ x. part s x (getD es i 0)) q
 
 -- ---- units cut from their bytes
@@ -154,14 +153,14 @@ module _ {s es : List ℕ} {cue : ℕ} {d : List ℕ} {st : State} {i k : ℕ} {
     pub playing-slot : k < length o
     playing-slot = omega (arith, playing-long, z .can .room, z .place)
 
-    module _ (r : CodePlayed) (says : codeNumber (r .answer) ≡ shownNumber (play st (i + 1) (unitIn s es i))) (left : stateSays (r .state) ≡ leaves st (play st (i + 1) (unitIn s es i))) where
+    module _ (r : CodePlayed) (says : codeNumber (r .answer) ≡ shownNumber (play st (i + 1) (partIn s es i))) (left : stateSays (r .state) ≡ leaves st (play st (i + 1) (partIn s es i))) where
       abbrev u : List ℕ
       u = getD all i []
 
-      u-is : u ≡ unitIn s es i
+      u-is : u ≡ partIn s es i
       u-is = cut .parts i h
 
-      same : play st (i + 1) (unitIn s es i) ≡ play st (suc i) u
+      same : play st (i + 1) (partIn s es i) ≡ play st (suc i) u
       same = ap₂ (λ n v. play st n v) (add-one i) (sym u-is)
 
       number-is : codeNumber (r .answer) ≡ shownNumber (play st (suc i) u)

@@ -17,7 +17,7 @@ use Rattle.container.specs.Container.{Container}
 use Rattle.bitio.proofs.ParseLaws.{and-both}
 use Rattle.pictures.specs.Segments.{Segment, segmentsOf}
 use Rattle.pictures.specs.declared.settings.Settings.{Settings}
-use Rattle.pictures.specs.Assemble.{Outcome, stopped, made, andAlso, overall, Output, Room, fits, assembled, assemble, unitsOf}
+use Rattle.pictures.specs.Assemble.{Outcome, stopped, made, andAlso, overall, Output, OutputRoom, outputFits, assembled, assemble, unitsOf}
 use Rattle.assemble.specs.Whole.{counts, countsOf, assembledSays, Lent, outcome, lentAfter, Handed}
 use Rattle.assemble.specs.declared.multi.Counts.{Counts}
 use Rattle.assemble.specs.declared.multi.Assembled.{Assembled}
@@ -36,14 +36,14 @@ none-made e = let z : _≡_ {A = ℕ} 0 1 = cc in omega arith
 
 -- ---- what assembly has handed out has room
 
-record Has (room : Room) (o : Output) : Type 0 where
+record Has (room : OutputRoom) (o : Output) : Type 0 where
   list : length (o .list) ≤ room .list
   picture : length (o .picture) ≤ room .picture
   ends : length (o .ends) ≤ room .ends
   shows : length (o .shows) ≤ room .shows
 
-fits-has : (room : Room) (o : Output) → fits room o ≡ true → Has room o
-unfolding fits
+fits-has : (room : OutputRoom) (o : Output) → outputFits room o ≡ true → Has room o
+unfolding outputFits
 fits-has room o q =
     let a = and-both _ (leb (length (o .header)) (room .header)) q in
     let b = and-both _ (leb (length (o .shows)) (room .shows)) (a .0) in
@@ -58,23 +58,23 @@ fits-has room o q =
       shows = leb-true (length (o .shows)) (room .shows) (b .1);
     }
 
-assemble-has : (room : Room) (set : Settings) (s rs : List ℕ) (o : Output) → assemble room set s rs ≡ made o → Has room o
+assemble-has : (room : OutputRoom) (set : Settings) (s rs : List ℕ) (o : Output) → assemble room set s rs ≡ made o → Has room o
 unfolding assemble andAlso overall
 assemble-has room set s rs o q = lead (ltb limit (length s)) q
   where
-    last : (x : Output) (b : Bool) → fits room x ≡ b → pick b (made x) (stopped 35 none) ≡ made o → Has room o
-    last x true t q = let e : x ≡ o = cc in fits-has room o (ap (fits room) (sym e) ∙ t)
+    last : (x : Output) (b : Bool) → outputFits room x ≡ b → pick b (made x) (stopped 35 none) ≡ made o → Has room o
+    last x true t q = let e : x ≡ o = cc in fits-has room o (ap (outputFits room) (sym e) ∙ t)
     last x false t q = absurd (none-made q)
 
-    then : (y : Outcome Output) → andAlso y (λ r. pick (fits room r) (made r) (stopped 35 none)) ≡ made o → Has room o
+    then : (y : Outcome Output) → andAlso y (λ r. pick (outputFits room r) (made r) (stopped 35 none)) ≡ made o → Has room o
     then (stopped n i) q = absurd (none-made q)
-    then (made x) q = last x (fits room x) refl q
+    then (made x) q = last x (outputFits room x) refl q
 
-    cut : (y : Answer (List Segment)) → andAlso (overall y) (λ xs. andAlso (assembled set xs) (λ r. pick (fits room r) (made r) (stopped 35 none))) ≡ made o → Has room o
+    cut : (y : Answer (List Segment)) → andAlso (overall y) (λ xs. andAlso (assembled set xs) (λ r. pick (outputFits room r) (made r) (stopped 35 none))) ≡ made o → Has room o
     cut (refused n) q = absurd (none-made q)
     cut (accepted xs) q = then (assembled set xs) q
 
-    lead : (b : Bool) → pick b (stopped 34 none) (andAlso (overall (segmentsOf s rs)) (λ xs. andAlso (assembled set xs) (λ r. pick (fits room r) (made r) (stopped 35 none)))) ≡ made o → Has room o
+    lead : (b : Bool) → pick b (stopped 34 none) (andAlso (overall (segmentsOf s rs)) (λ xs. andAlso (assembled set xs) (λ r. pick (outputFits room r) (made r) (stopped 35 none)))) ≡ made o → Has room o
     lead true q = absurd (none-made q)
     lead false q = cut (segmentsOf s rs) q
 

@@ -1,8 +1,8 @@
 -- Laws of the way of a list's units, stage after stage in lent memory.
-use Prim.Native.Nat.{ℕ, suc, _+_, _-_, _≤_}
+use Prim.Native.Nat.{ℕ, _+_, _-_, _≤_}
 use native.Mathlib.Omega.{arith}
 use mathlib.Core.Path.{_≡_, refl, sym, ap, ap₂, _∙_}
-use mathlib.Core.List.{List, [], _∷_}
+use mathlib.Core.List.{List}
 use mathlib.Core.Bool.{Bool, true, false, cond as pick, _&&_}
 use lib.ListN.{length, take, drop}
 use lib.Dec.{leb}
@@ -30,6 +30,7 @@ use Rattle.playback.specs.Way.{WriteLent, CarryLent, bytesRoom, written,
 use Rattle.playback.proofs.GatherLaws.{has-room, stores}
 use Rattle.playback.proofs.ShownLaws.{none-cut}
 use Rattle.container.proofs.LentLaws.{units-there, lent-write}
+use Rattle.container.proofs.ListLaws.{ends-length}
 
 -- ---- what is accepted has room
 
@@ -109,11 +110,6 @@ joined-none x r k q t = go x (ap byteCountSays (sym t) ∙ q)
     go (accepted bs) q = absurd (none-cut q)
 
 -- ---- what stands at the head of lent memory
-
-ends-length : (at : ℕ) (us : List (List ℕ)) → length (endsOf at us) ≡ length us
-unfolding endsOf
-ends-length at [] = refl
-ends-length at (u ∷ us) = ap suc (ends-length (at + length u) us)
 
 pub head-is : (d xs : List ℕ) (n : ℕ) → n ≡ length xs → take (n - 0) (drop 0 (pasted d 0 xs)) ≡ xs
 head-is d xs n q = let e : n - 0 ≡ 0 + length xs = omega arith in ap (λ k. take k (pasted d 0 xs)) e ∙ pasted-take-end d 0 xs (omega arith)

@@ -3,10 +3,10 @@ ghost use mathlib.Core.Path.{_≡_};
 ghost use Prim.Native.Nat.{_+_, _<_};
 ghost use lib.ListN.{length};
 ghost use Rattle.bitio.specs.Parse.{answer};
+ghost use Rattle.obu.specs.Place.{partIn};
 ghost use Rattle.container.specs.Units.{unitsAt, outAfter};
 ghost use Rattle.player.specs.Values.{playedBy};
 ghost use Rattle.playback.specs.Lent.{Fills};
-ghost use Rattle.pictures.specs.Assemble.{unitIn};
 ghost use Rattle.playback.specs.Shown.{codeNumber, shownBy, playFrom, showsSay, CanPlay};
 use bitio::ends::start_of;
 use bitio::limits::LIMIT;
@@ -39,7 +39,7 @@ fn number_of(answer: Answer) -> u64
 // Unit i, played under its position, i + 1.
 fn play_at(state: State, units: &[u8], ends: &[u32], i: usize) -> Played
     requires { ⌜ i < length (now ends) ⌝ }
-    ensures { λ r. ⌜ r ≡ playedBy state (i + 1) (unitIn (now (units .entry)) (now (ends .entry)) i) ⌝ }
+    ensures { λ r. ⌜ r ≡ playedBy state (i + 1) (partIn (now (units .entry)) (now (ends .entry)) i) ⌝ }
 {
     let start = start_of(ends, i);
     let end = ends[i] as usize;

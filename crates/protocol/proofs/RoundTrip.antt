@@ -5,10 +5,11 @@ use mathlib.Core.Bool.{true}
 use Prim.Native.Nat.{ℕ, suc, _+_, _*_, _/_, _%_, _≤_, _<_}
 use native.Mathlib.Omega.{arith}
 use native.Mathlib.Decide.{decLt}
-use lib.ListN.{length, getD}
+use lib.ListN.{length}
 use borrow.Author.Tests.{lt-ltb, le-ltb}
 use Rattle.protocol.specs.Text.{spells, hexDigit, hexValue, allHex, hexText, hexBytes, byteString}
 use Rattle.protocol.proofs.TextLaws.{value-number, value-letter, text-length, string-pairs, pairs-good}
+use Rattle.bitio.specs.Bits.{Bytes}
 
 digit-back : (v : ℕ) → v < 16 → hexValue (hexDigit v) ≡ v
 unfolding hexDigit
@@ -17,9 +18,6 @@ digit-back v h =
       | yes l ↦ rw (lt-ltb v 10 l, value-number (48 + v) (omega arith) (omega arith)) (omega arith)
       | no l ↦ let k : 10 ≤ v = omega arith in rw (le-ltb v 10 k, value-letter (87 + v) (omega arith) (omega arith)) (omega arith)
     ]
-
-abbrev Bytes : List ℕ → Type 0
-Bytes s = (i : ℕ) → getD s i 0 < 256
 
 all-back : (s : List ℕ) → Bytes s → allHex (hexText s) ≡ true
 unfolding allHex hexText

@@ -240,13 +240,18 @@ pub key-end : (s : List ℕ) (k i : ℕ) → length s ≤ i → keyFrom k (drop 
 unfolding keyFrom
 key-end s k i h = rw (drop-of-length-le s h)
 
-pub key-short : (s : List ℕ) → length s ≤ 8 → wordKey s ≡ keyFrom 0 s
+pub key-short : (s : List ℕ) → length s ≤ 8 → (getD s 0 0 ≡ 0 → ⊥) → wordKey s ≡ keyFrom 0 s
 unfolding wordKey
-key-short s h = rw (le-leb (length s) 8 h)
+key-short s h n = rw (le-leb (length s) 8 h, ne-eqb (getD s 0 0) 0 n)
 
 pub key-long : (s : List ℕ) → 8 < length s → wordKey s ≡ 0
 unfolding wordKey
 key-long s h = rw (lt-leb (length s) 8 h)
+
+-- a word that starts with NUL, or does not start at all
+pub key-none : (s : List ℕ) → length s ≤ 8 → getD s 0 0 ≡ 0 → wordKey s ≡ 0
+unfolding wordKey
+key-none s h n = rw (le-leb (length s) 8 h, eq-eqb (getD s 0 0) 0 n)
 
 -- one byte more
 pub key-weight : (i : ℕ) → 2 ^ (8 * (i + 1)) ≡ 2 ^ (8 * i) * 256

@@ -9,4 +9,3 @@ pub mod Lines
 pub mod Typed
 pub mod Printed
 pub mod Answers
-pub mod Memory

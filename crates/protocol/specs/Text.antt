@@ -2,7 +2,7 @@
 use Prim.Native.Nat.{ℕ, _+_, _-_, _*_, _/_, _%_, _^_}
 use mathlib.Core.List.{List, [], _∷_}
 use mathlib.Core.Bool.{Bool, true, false, cond as pick}
-use lib.ListN.{length, drop}
+use lib.ListN.{length, getD, drop}
 use lib.Dec.{leb, ltb, eqb}
 
 -- what a text comes to: nothing, or what it spells
@@ -67,6 +67,6 @@ unfoldable pub keyFrom : ℕ → List ℕ → ℕ
 keyFrom k [] = k
 keyFrom k (c ∷ s) = keyFrom (256 * k + c) s
 
--- a word of at most 8 characters as a number, a byte each; 0: a longer word
+-- a word of 1 to 8 characters, the first no NUL, as a number, a byte each; 0: any other word
 unfoldable pub wordKey : List ℕ → ℕ
-wordKey s = pick (leb (length s) 8) (keyFrom 0 s) 0
+wordKey s = pick (leb (length s) 8) (pick (eqb (getD s 0 0) 0) 0 (keyFrom 0 s)) 0

@@ -10,7 +10,7 @@ abbrev pub toldBy : {A : Type 0} → (A → Line) → Answer A → Line
 toldBy f (refused k) = refusedWith k
 toldBy f (accepted a) = f a
 
--- so many bytes, in one part
+-- so many bytes
 abbrev pub countTold : Answer ℕ → Line
 countTold x = toldBy (λ n. partsOf n 0) x
 

@@ -95,9 +95,10 @@ fn advance(piece: &mut [u8], line: &mut [u8], input: Input) -> Input
 }
 
 // The next line. Nothing says that one ends, so the turns are counted down from a number that no run uses up. Nor does the
-// contract of `libc::read` say what it puts into `piece`. So which characters the line has, how many, and where the input
-// then stands, no contract can fix. This one says what holds whatever came: `piece` has its length, at most one character
-// more is counted than `line` has room for, none of those kept is a line end, and behind them `line` is as it was.
+// contract of `libc::read` say what it puts into `piece`. So this contract leaves open which characters the line has, how
+// many, and where the input then stands; tests hold that. It says what is so whatever came: `piece` has its length, at most
+// one character more is counted than `line` has room for, none of those kept is a line end, and behind them `line` is as it
+// was.
 pub fn read_line(piece: &mut Buffer, line: &mut Buffer, so_far: Input) -> Input
     ensures { λ r. ⌜ Kept (now (line .entry)) (now (line .exit)) (r .len) ⌝ }
     ensures { λ _. ⌜ length (now (piece .exit)) ≡ length (now (piece .entry)) ⌝ }

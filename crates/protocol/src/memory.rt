@@ -1,9 +1,10 @@
 // Byte strings and numbers as fields and answers have them: byte strings one behind the other, each with its end.
 ghost use mathlib.Core.Path.{_≡_};
 ghost use lib.ListN.{getD};
-ghost use Rattle.protocol.specs.Memory.{between, partIn};
+ghost use Rattle.obu.specs.Place.{partIn};
 use bitio::ends::end_of;
 use bitio::ends::start_of;
+use obu::reader::payload;
 
 pub fn number_at(numbers: &[u64], i: usize) -> u64
     ensures { λ r. ⌜ r ≡ getD (now (numbers .entry)) i 0 ⌝ }
@@ -14,24 +15,11 @@ pub fn number_at(numbers: &[u64], i: usize) -> u64
     0
 }
 
-// A part of the bytes, the empty one where it does not lie in them.
-pub fn range(s: &[u8], start: usize, end: usize) -> &[u8]
-    ensures { λ r. ⌜ now r ≡ between (now (s .entry)) start end ⌝ }
-{
-    if start <= end {
-        if end <= s.len() {
-            return &s[start..end];
-        }
-        return &s[0..0];
-    }
-    &s[0..0]
-}
-
 // Byte string i.
 pub fn part<'a, 'b>(s: &'a [u8], ends: &'b [u32], i: usize) -> &'a [u8]
     ensures { λ r. ⌜ now r ≡ partIn (now (s .entry)) (now (ends .entry)) i ⌝ }
 {
     let start = start_of(ends, i);
     let end = end_of(ends, i);
-    range(s, start, end)
+    payload(s, start, end)
 }

@@ -160,11 +160,17 @@ pub fn word_end(line: &[u8], from: usize, stop: u8) -> usize
     i
 }
 
-// A word as a number that tells it from every other word of at most 8 characters.
+// A word of 1 to 8 characters, the first no NUL, as a number that no other such word has; 0 for any other word.
 pub fn word_key(word: &[u8]) -> u64
     ensures { λ r. ⌜ r ≡ wordKey (now (word .entry)) ⌝ }
 {
     if word.len() > 8 {
+        return 0;
+    }
+    if word.len() == 0 {
+        return 0;
+    }
+    if word[0] == 0 {
         return 0;
     }
     let mut key: u64 = 0;

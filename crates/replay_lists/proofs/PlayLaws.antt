@@ -10,7 +10,7 @@ use Rattle.player.specs.declared.slots.Answer.{Answer as Shows}
 use Rattle.player.specs.declared.step.State.{State}
 use Rattle.protocol.specs.declared.answer.Answer.{Answer}
 use Rattle.protocol.specs.Answers.{partsOf, Numbered, numbered, withNumbers}
-use Rattle.protocol.specs.Memory.{partIn}
+use Rattle.obu.specs.Place.{partIn}
 use Rattle.protocol.proofs.AnswerLaws.{numbers-more}
 use Rattle.replay_lists.specs.Plays.{shownFields, playFields, playsOf}
 

@@ -9,14 +9,13 @@ use Rattle.bitio.specs.Lent.{pasted}
 use Rattle.bitio.proofs.LentLaws.{pasted-nil, pasted-more}
 use Rattle.blocks.specs.Numbers.{width, recordOf, segmentCount}
 use Rattle.pictures.specs.declared.settings.Settings.{Settings}
-use Rattle.protocol.specs.Memory.{startIn}
 use Rattle.replay_lists.specs.Lists.{settingsOf, segmentRecord, segmentRecords, slicesOf}
 
 pub settings-is : (fs : List ℕ) {a b c : ℕ} → a ≡ getD fs 0 0 → b ≡ getD fs 1 0 → c ≡ getD fs 2 0 → _≡_ {A = Settings} (record { gop = a; fps = b % 2 ^ 32; den = c % 2 ^ 32 }) (settingsOf fs)
 settings-is fs i j k = rw (i, j, k)
 
 module _ (es fs : List ℕ) where
-  pub record-is : (i : ℕ) {a b c n : ℕ} → a ≡ startIn es (2 * i) → b ≡ getD es (2 * i) 0 → c ≡ getD es (2 * i + 1) 0 → n ≡ getD fs (3 + i) 0 → recordOf a b b c n ≡ segmentRecord es fs i
+  pub record-is : (i : ℕ) {a b c n : ℕ} → a ≡ getD (0 ∷ es) (2 * i) 0 → b ≡ getD es (2 * i) 0 → c ≡ getD es (2 * i + 1) 0 → n ≡ getD fs (3 + i) 0 → recordOf a b b c n ≡ segmentRecord es fs i
   record-is i p q r s = rw (p, q, r, s)
 
   records-next : (n i : ℕ) → i < n → segmentRecords es fs i (n - i) ≡ segmentRecord es fs i ++ segmentRecords es fs (i + 1) (n - (i + 1))

@@ -13,7 +13,7 @@ use Rattle.protocol.specs.declared.answer.Answer.{Answer}
 use Rattle.protocol.specs.declared.lent.Lent.{Lent as Room}
 use Rattle.protocol.specs.Answers.{partsOf, refusedWith}
 use Rattle.protocol.specs.Marked.{byteMark, endMark, isMarked}
-use Rattle.protocol.specs.Memory.{startIn, between}
+use Rattle.obu.specs.Place.{part}
 use Rattle.protocol.specs.Told.{Told, told, tellNumbers, tellParts}
 
 -- ---- what is asked: the fields GOP FPS DEN, then the frames of each segment
@@ -24,7 +24,7 @@ settingsOf fs = record { gop = getD fs 0 0; fps = getD fs 1 0 % 2 ^ 32; den = ge
 -- segment i: its key and its golden are byte strings one behind the other, es their ends
 abbrev pub segmentRecord : List ℕ → List ℕ → ℕ → List ℕ
 segmentRecord es fs i =
-    recordOf (startIn es (2 * i)) (getD es (2 * i) 0) (getD es (2 * i) 0) (getD es (2 * i + 1) 0) (getD fs (3 + i) 0)
+    recordOf (getD (0 ∷ es) (2 * i) 0) (getD es (2 * i) 0) (getD es (2 * i) 0) (getD es (2 * i + 1) 0) (getD fs (3 + i) 0)
 
 -- k segments from i on
 unfoldable pub segmentRecords : List ℕ → List ℕ → ℕ → ℕ → List ℕ
@@ -59,7 +59,7 @@ entryUnits ps es ss n (suc k) = named ps es ss n ∷ entryUnits ps es ss (suc n)
 
 -- every such unit, and the header behind them
 abbrev pub partsMade : Counts → Lent → List (List ℕ)
-partsMade c d = entryUnits (d .pictures) (d .ends) (d .shows) 0 (entriesOf c) ++ (between (d .header) 0 (c .header) ∷ [])
+partsMade c d = entryUnits (d .pictures) (d .ends) (d .shows) 0 (entriesOf c) ++ (part (d .header) 0 (c .header) ∷ [])
 
 -- numbers that tell their kinds: that of the first, and that of the others
 unfoldable pub kindFields : ℕ → ℕ → List ℕ → List ℕ

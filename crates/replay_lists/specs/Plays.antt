@@ -5,7 +5,7 @@ use Rattle.player.specs.Values.{playedBy, startState}
 use Rattle.player.specs.declared.slots.Answer.{Answer as Shows}
 use Rattle.player.specs.declared.slots.Answer.the-variants.{Shown, Nothing, Refused}
 use Rattle.player.specs.declared.step.State.{State}
-use Rattle.protocol.specs.Memory.{partIn}
+use Rattle.obu.specs.Place.{partIn}
 
 -- a position as a number, `-`, or `no` and document 01's number (the kinds 2, 5 and 8)
 abbrev pub shownFields : Shows → List ℕ

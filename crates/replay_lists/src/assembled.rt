@@ -10,6 +10,7 @@ use assemble::multi::Assembled;
 use assemble::multi::Counts;
 use assemble::unit::unit;
 use bitio::numbers::least;
+use obu::reader::payload;
 use protocol::answer::Answer;
 use protocol::answer::done;
 use protocol::answer::refused;
@@ -18,7 +19,6 @@ use protocol::kinds::NAMED;
 use protocol::kinds::NUMBER;
 use protocol::lent::are_ends_marked;
 use protocol::lent::is_marked;
-use protocol::memory::range;
 
 // How much of each lent slice the answer accounts for.
 fn accounted(answer: Assembled) -> Counts
@@ -142,7 +142,7 @@ fn put_made<'a>(
     ensures { λ r. ⌜ told r (now (memory .exit)) (now («out_ends» .exit)) (now (numbers .exit)) ≡ assembledTold (made counts) (slicesOf (now (list .entry)) (now (cues .entry)) (now (pictures .entry)) (now (ends .entry)) (now (shows .entry)) (now (header .entry))) (now (memory .entry)) (now («out_ends» .entry)) (now (numbers .entry)) ⌝ }
 {
     let units = put_units(entries(counts), pictures, ends, shows, memory, out_ends);
-    let parts = units.part(range(header, 0, counts.header), memory, out_ends);
+    let parts = units.part(payload(header, 0, counts.header), memory, out_ends);
     put_numbers(counts, list, cues, parts, numbers)
 }
 

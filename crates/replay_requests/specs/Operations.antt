@@ -18,7 +18,7 @@ use Rattle.packets.specs.Packets.{canonicalAt}
 use Rattle.packets.specs.PacketLists.{lentRoom, mergedAt}
 use Rattle.protocol.specs.Answers.{partsOf, refusedWith, numbered, withNumbers}
 use Rattle.protocol.specs.Told.{toldBy, countTold, numbersBy, Told, told, numbersTold, partsTold}
-use Rattle.protocol.specs.Memory.{partIn}
+use Rattle.obu.specs.Place.{partIn}
 use Rattle.protocol.specs.declared.lent.Lent.{Lent}
 use Rattle.replay_headers.specs.Fields.{sequenceFields}
 use Rattle.replay_headers.specs.Headers.{readingAnswer, lebSays, extensionFrom, obusTold, headerOf, supportOf, emittedOf, emitAnswer, emitAfter, frameFields}

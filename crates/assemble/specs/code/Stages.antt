@@ -19,7 +19,7 @@ use Rattle.blocks.specs.Blocks.{listOf, cuesOf}
 use Rattle.blocks.specs.Numbers.{headKey, headGolden, segmentCount, framesIn}
 use Rattle.pictures.specs.Prepare.{effective, renewal, Prepared}
 use Rattle.pictures.specs.declared.settings.Settings.{Settings}
-use Rattle.pictures.specs.Assemble.{Outcome, stopped, made, andAlso, inSegment, sameHeaders, headerObu, prepareAll, pictureOf, Room}
+use Rattle.pictures.specs.Assemble.{Outcome, stopped, made, andAlso, inSegment, sameHeaders, headerObu, prepareAll, pictureOf, OutputRoom}
 use Rattle.pictures.specs.Sizes.{sizedAll, ranged}
 use Rattle.pictures.specs.Flat.{allSegments, laterSegments, firstSequence, judged, renewing, answerOr, allPrepared, capped}
 use Rattle.assemble.specs.declared.multi.Counts.{Counts}
@@ -123,7 +123,7 @@ needed gop s rs points new b n =
     }
 
 -- the bytes, all together, are within the limit, and each lent slice has room
-unfoldable pub fitsIn : Room → Counts → Bool
+unfoldable pub fitsIn : OutputRoom → Counts → Bool
 fitsIn room c =
     leb (c .picture + c .shows + c .header) limit
     && leb (c .units) (room .list)
@@ -133,5 +133,5 @@ fitsIn room c =
     && leb (c .shows) (room .shows)
     && leb (c .header) (room .header)
 
-abbrev pub roomFor : ℕ → ℕ → ℕ → ℕ → ℕ → ℕ → Room
+abbrev pub roomFor : ℕ → ℕ → ℕ → ℕ → ℕ → ℕ → OutputRoom
 roomFor list cues picture ends shows header = record { list = list; cues = cues; picture = picture; ends = ends; shows = shows; header = header }

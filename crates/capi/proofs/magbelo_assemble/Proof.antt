@@ -1,9 +1,9 @@
 use borrow.Author.Needs.{needs}
 use mathlib.Core.Path.{sym, ap, _∙_}
 use Rattle.pictures.specs.Assemble.{Outcome}
-use Rattle.assemble.specs.Whole.{assembledSays}
+use Rattle.assemble.specs.Whole.{assembledSays, assembledCode}
 use Rattle.assemble.specs.declared.multi.Counts.{Counts}
-use Rattle.capi.specs.Door.{assembledCode, countsAfter, five}
+use Rattle.capi.specs.Door.{countsAfter, five}
 use Rattle.capi.proofs.magbelo_assemble.Statement.{statement}
 use Rattle.capi.proofs.magbelo_assemble.Tie as tie
 

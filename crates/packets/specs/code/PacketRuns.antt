@@ -172,7 +172,7 @@ pub record MergeRoom (s es ts o e t : List ℕ) : Type 0 where
   pub times : length (mergedOf s es ts) ≤ length t
 
 pub record Ready (s es ts : List ℕ) (c : ℕ) (o e t : List ℕ) : Type 0 where
-  pub closing : Closing s es ts c
+  pub measured : Closing s es ts c
   pub room : MergeRoom s es ts o e t
 
 -- and has been written

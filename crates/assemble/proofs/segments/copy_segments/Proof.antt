@@ -53,9 +53,9 @@ use denote.Triple.Walked.{says, Stays, stay-none-slice, stay-slice, walkOf, goes
 use denote.Exit.{yes}
 use Rattle.bitio.specs.Lent.{pasted}
 use Rattle.blocks.specs.Numbers.{width, segmentCount}
-use Rattle.assemble.specs.Records.{recordIn, copyCount, numbersAfter}
+use Rattle.assemble.specs.Records.{recordIn, copyCount, numbersAfter, noRecord}
 use Rattle.assemble.specs.declared.segments.Segment.{Segment}
-use Rattle.assemble.proofs.RecordLaws.{noRecord, Copying, copy-start, copy-end, copy-less, copy-room, copy-turn}
+use Rattle.assemble.proofs.RecordLaws.{Copying, copy-start, copy-end, copy-less, copy-room, copy-turn}
 use Rattle.assemble.proofs.Relend.{LentAgain, lends-again, comes-back}
 use Rattle.assemble.proofs.segments.Segment as T
 use Rattle.assemble.proofs.segments.Segment.Laws as T′

@@ -2,12 +2,12 @@ use borrow.Author.Needs.{needs}
 use mathlib.Core.Path.{ap₂, _∙_}
 use Prim.Native.Nat.{ℕ}
 use denote.Ref.{now}
-use Rattle.protocol.specs.Memory.{between}
+use Rattle.obu.specs.Place.{part}
 use Rattle.protocol.proofs.memory.part.Statement.{statement}
 use Rattle.protocol.proofs.memory.part.Tie as tie
 
 returns : tie.Need-returns
-returns c = c .range .ensures ∙ ap₂ (λ (x y : ℕ). between (now (c .before .before .before .before .before .args .s)) x y) (c .before .before .start-of .ensures) (c .before .end-of .ensures)
+returns c = c .payload .ensures ∙ ap₂ (λ (x y : ℕ). part (now (c .before .before .before .before .before .args .s)) x y) (c .before .before .start-of .ensures) (c .before .end-of .ensures)
 
 pub part-spec : {M : Type 1} → statement M
 part-spec =

@@ -12,7 +12,7 @@ unfolding assembledTold
 returns c =
     let a = c .before .before .before .before .before .before .before .before .before .before .before .before .before .before .before .before .before .before .before .before .before .before .before .before .before .before .before .before .before .args in
     let u = c .before .before .before .before .before .before .before .before .before .before .before .before .before .before .before .before .put-units .ensures ∙ ap (λ k. withParts (parted (partsOf 0 0) (now (a .memory)) (now (a .out-ends))) (entryUnits (now (a .pictures)) (now (a .ends)) (now (a .shows)) 0 k)) (c .before .before .before .before .before .before .before .before .before .before .before .before .before .before .before .before .before .before .before .entries .ensures) in
-    tell-made _ _ _ _ _ (c .before .before .before .before .before .before .before .before .before .before .before .range .ensures) u (c .before .before .before .before .before .before .before .before .part .ensures) (c .before .before .put-numbers .ensures)
+    tell-made _ _ _ _ _ (c .before .before .before .before .before .before .before .before .before .before .before .payload .ensures) u (c .before .before .before .before .before .before .before .before .part .ensures) (c .before .before .put-numbers .ensures)
 
 pub put-made-spec : {M : Type 1} → statement M
 put-made-spec =

@@ -2,12 +2,12 @@ use borrow.Author.Needs.{needs}
 use borrow.Author.Tests.{not-true, not-false}
 use mathlib.Core.Path.{sym, _∙_}
 use denote.Ref.{now}
-use Rattle.packets.proofs.PacketOutcomeLaws.{out-full, out-room, out-there, closing}
+use Rattle.packets.proofs.PacketOutcomeLaws.{out-full, out-room, out-there, some-closing}
 use Rattle.packets.proofs.packets.merge.merge_some.Statement.{statement}
 use Rattle.packets.proofs.packets.merge.merge_some.Tie as tie
 
 measure-requires : tie.Need-measure-requires
-measure-requires c κs = closing (c .before .before .before .before .before .before .pre)
+measure-requires c κs = some-closing (c .before .before .before .before .before .before .pre)
 
 returns : tie.Need-returns
 returns c =
@@ -21,7 +21,7 @@ write-requires c κs =
     let s = k .before .before .before .before .before .before .before .before .before in
     let a = s .args in
     record {
-      closing = closing (s .pre);
+      measured = some-closing (s .pre);
       room = out-room (now (a .packets)) (now (a .ends)) (now (a .times)) (now (a .out)) (now (a .out-ends)) (now (a .out-times)) (s .pre .given) _ _ (k .before .before .measure .ensures) (sym (k .before .has-packet-room .ensures) ∙ not-false _ (k .if1 .left));
     }
 

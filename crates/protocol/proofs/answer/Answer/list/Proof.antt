@@ -1,4 +1,4 @@
--- `protocol::answer::list` meets its contract. The loop's invariant: what is told so far, with what is left of the list, is the whole.
+-- `protocol::answer::Answer::list` meets its contract. The loop's invariant: what is told so far, with what is left of the list, is the whole.
 use borrow.Author.Needs.{needs}
 use mathlib.Core.Path.{_≡_, sym, ap, _∙_}
 use Prim.Native.Nat.{_+_, _≤_, _-_}
