@@ -15,10 +15,9 @@ use Rattle.bitio.proofs.LebLaws.{Sized, sized-parts}
 use Rattle.obu.specs.Obu.{Obu, flag, obuType, passes, made}
 use types.Run.{OneOf}
 use denote.Enum.Declared.{tagOf}
-use Rattle.obu.specs.Place.{Place, lies, refusalOf}
-use Rattle.obu.specs.Place.Place.{wrong as wrongObu}
+use Rattle.obu.specs.Place.{Place, wrong, lies, refusalOf}
 use Rattle.container.specs.AnnexB.{typed, extendedB, innerObu, lengthObu}
-use Rattle.annexb.specs.code.Spans.{span, wrong, spot, spotOf, placeTo, spotRefusal, partSays, innerSays}
+use Rattle.annexb.specs.code.Spans.{span, noSpot, spot, spotOf, placeTo, spotRefusal, partSays, innerSays}
 use Rattle.annexb.specs.declared.annexb.part.PartAt.{PartAt}
 use Rattle.annexb.specs.declared.annexb.part.PartAt.the-variants.{Part, Refused as PartRefused}
 use Rattle.annexb.specs.declared.annexb.part.InnerAt.{InnerAt}
@@ -30,12 +29,12 @@ use Rattle.annexb.proofs.SpanLaws.{span-length, span-drop, span-take, s
 -- ---- the outcomes of a sized part
 
 module _ (s : List ℕ) (at e x y : ℕ) where
-  pub part-none : readLeb (span s at e) ≡ noNumber → wrong x ≡ spotOf e (sized x y (span s at e))
+  pub part-none : readLeb (span s at e) ≡ noNumber → noSpot x ≡ spotOf e (sized x y (span s at e))
   unfolding sized
   part-none b = rw b
 
   module _ (m : e ≤ length s) (n q : ℕ) (b : readLeb (span s at e) ≡ number n (span s q e)) where
-    pub part-over : e - q < n → wrong y ≡ spotOf e (sized x y (span s at e))
+    pub part-over : e - q < n → noSpot y ≡ spotOf e (sized x y (span s at e))
     unfolding sized
     part-over l =
         let k : length (span s q e) < n = rw (span-length s q e m) l in
@@ -70,10 +69,10 @@ module _ (x y : ℕ) (s : List ℕ) (at e : ℕ) where
           let w : Spanned s at e t r a b = rw (ea, eb) at (parts-at s at e l m z) in
           record { head = p ∙ ap₂ item (sym (w .here)) (sym (w .rest)); after = w .after; ends = w .ends; within = w .within }
 
-  pub is-no-part : {k : ℕ} → spotOf e (sized x y (span s at e)) ≡ wrong k → sized x y (span s at e) ≡ stop k
+  pub is-no-part : {k : ℕ} → spotOf e (sized x y (span s at e)) ≡ noSpot k → sized x y (span s at e) ≡ stop k
   is-no-part {k} q = go (sized x y (span s at e)) q
     where
-      go : (h : Head (List ℕ)) → spotOf e h ≡ wrong k → h ≡ stop k
+      go : (h : Head (List ℕ)) → spotOf e h ≡ noSpot k → h ≡ stop k
       go (stop j) q = let z : j ≡ k = cc in rw z
       go (item t r) q = let z : _≡_ {A = ℕ} 0 1 = cc in absurd (omega arith)
 
@@ -90,7 +89,7 @@ filling e x = placeTo e (before [] x)
 module _ (s : List ℕ) (e : ℕ) (m : e ≤ length s) where
   -- all from p on is payload, if the type passes
   pub inner-typed : (h : ℕ) (x : Option ℕ) (p : ℕ) → p ≤ e
-      → pick (passes (obuType h)) (lies (obuType h) x p e) (wrongObu 2) ≡ filling e (typed h x (span s p e))
+      → pick (passes (obuType h)) (lies (obuType h) x p e) (wrong 2) ≡ filling e (typed h x (span s p e))
   inner-typed h x p l =
       let n = span-length s p e m in
       let k : e - 0 - (e - p) ≡ p = omega arith in
@@ -98,12 +97,12 @@ module _ (s : List ℕ) (e : ℕ) (m : e ≤ length s) where
       go (passes (obuType h)) (rw (n, k, z))
     where
       go : (b : Bool) → lies (obuType h) x p e ≡ placeTo e (item (made h x (span s p e)) [])
-          → pick b (lies (obuType h) x p e) (wrongObu 2) ≡ filling e (pick b (accepted (made h x (span s p e))) (refused 2))
+          → pick b (lies (obuType h) x p e) (wrong 2) ≡ filling e (pick b (accepted (made h x (span s p e))) (refused 2))
       go true q = q
       go false q = refl
 
   module _ (a : ℕ) where
-    pub inner-empty : e ≤ a → wrongObu 12 ≡ filling e (innerObu (span s a e))
+    pub inner-empty : e ≤ a → wrong 12 ≡ filling e (innerObu (span s a e))
     unfolding innerObu
     inner-empty l = rw (span-none s a e l)
 
@@ -111,7 +110,7 @@ module _ (s : List ℕ) (e : ℕ) (m : e ≤ length s) where
       abbrev byte : ℕ
       byte = getD s a 0
 
-      pub inner-forbidden : byte / 128 % 2 ≡ 1 → wrongObu 1 ≡ filling e (innerObu (span s a e))
+      pub inner-forbidden : byte / 128 % 2 ≡ 1 → wrong 1 ≡ filling e (innerObu (span s a e))
       unfolding innerObu
       inner-forbidden q = rw (span-cons s a e l m, q)
 
@@ -120,7 +119,7 @@ module _ (s : List ℕ) (e : ℕ) (m : e ≤ length s) where
         unfolding innerObu
         inner-plain q = rw (span-cons s a e l m, ne-eqb (byte / 128 % 2) 1 low, ne-eqb (byte / 4 % 2) 1 q)
 
-        pub inner-short : byte / 4 % 2 ≡ 1 → e ≤ a + 1 → wrongObu 3 ≡ filling e (innerObu (span s a e))
+        pub inner-short : byte / 4 % 2 ≡ 1 → e ≤ a + 1 → wrong 3 ≡ filling e (innerObu (span s a e))
         unfolding innerObu
         inner-short q k = rw (span-cons s a e l m, ne-eqb (byte / 128 % 2) 1 low, q, span-none s (a + 1) e k)
 
@@ -221,10 +220,10 @@ module _ (s : List ℕ) (at e : ℕ) where
             passing = z .passing;
           }
 
-  pub is-no-obu : {k : ℕ} → placeTo e (lengthObu (span s at e)) ≡ wrongObu k → lengthObu (span s at e) ≡ stop k
+  pub is-no-obu : {k : ℕ} → placeTo e (lengthObu (span s at e)) ≡ wrong k → lengthObu (span s at e) ≡ stop k
   is-no-obu {k} q = go (lengthObu (span s at e)) q
     where
-      go : (h : Head Obu) → placeTo e h ≡ wrongObu k → h ≡ stop k
+      go : (h : Head Obu) → placeTo e h ≡ wrong k → h ≡ stop k
       go (stop j) q = let z : j ≡ k = cc in rw z
       go (item t r) q = let z : _≡_ {A = ℕ} 0 1 = cc in absurd (omega arith)
 
@@ -235,7 +234,7 @@ module _ (s : List ℕ) (at e : ℕ) where
 
 -- the outcomes of an OBU behind its length
 module _ (s : List ℕ) (at e : ℕ) where
-  pub length-stop : {k : ℕ} → sized 10 11 (span s at e) ≡ stop k → wrongObu k ≡ placeTo e (lengthObu (span s at e))
+  pub length-stop : {k : ℕ} → sized 10 11 (span s at e) ≡ stop k → wrong k ≡ placeTo e (lengthObu (span s at e))
   unfolding lengthObu
   length-stop q = rw q
 

@@ -4,8 +4,7 @@ use mathlib.Core.List.{List}
 use lib.ListN.{length, take, drop}
 use Rattle.bitio.specs.Parse.{Head, stop, item}
 use Rattle.obu.specs.Obu.{Obu}
-use Rattle.obu.specs.Place.{Place, lies, extensionSays}
-use Rattle.obu.specs.Place.Place.{wrong as wrongObu}
+use Rattle.obu.specs.Place.{Place, wrong, lies, extensionSays}
 use Rattle.annexb.specs.declared.annexb.part.PartAt.{PartAt}
 use Rattle.annexb.specs.declared.annexb.part.PartAt.the-variants.{Part, Refused as PartRefused}
 use Rattle.annexb.specs.declared.annexb.part.InnerAt.{InnerAt}
@@ -17,28 +16,28 @@ span s a e = take (e - a) (drop a s)
 
 -- a refusal, or where a part starts and ends
 pub data Spot : Type 0 where
-  wrong : ℕ → Spot
+  noSpot : ℕ → Spot
   spot : (start end : ℕ) → Spot
 
 -- e is where the bytes end that the head was read from
 abbrev pub spotOf : ℕ → Head (List ℕ) → Spot
-spotOf e (stop k) = wrong k
+spotOf e (stop k) = noSpot k
 spotOf e (item p r) = spot (e - length r - length p) (e - length r)
 
 abbrev pub placeTo : ℕ → Head Obu → Place
-placeTo e (stop k) = wrongObu k
+placeTo e (stop k) = wrong k
 placeTo e (item o r) = lies (o .type) (o .ext) (e - length r - length (o .payload)) (e - length r)
 
 -- a refusal's number, 0 where there is none
 abbrev pub spotRefusal : Spot → ℕ
-spotRefusal (wrong k) = k
+spotRefusal (noSpot k) = k
 spotRefusal (spot a b) = 0
 
 -- 01's number and values for each case of PartAt and InnerAt
 abbrev pub partSays : PartAt → Spot
 partSays (Part a b) = spot a b
-partSays (PartRefused k) = wrong k
+partSays (PartRefused k) = noSpot k
 
 abbrev pub innerSays : InnerAt → Place
 innerSays (Found o) = lies (o .«obu_type») (extensionSays (o .extension)) (o .start) (o .end)
-innerSays (InnerRefused k) = wrongObu k
+innerSays (InnerRefused k) = wrong k
