@@ -24,6 +24,7 @@ BATCH = 50_000
 # Differences that docs/DIFFERENCES.md lists: (operation, why, test of request, Rust's answer and ours).
 KNOWN = [
     ('timed', 'timing a reduced header', lambda line, rust, ours: rust.startswith('ok ') and ours == 'no 17'),
+    ('annexb', 'sizes inside Annex B', lambda line, rust, ours: ignores_sizes(line, rust) and not rust_agrees(rust, ours)),
 ]
 
 REFUSED = re.compile('no ([0-9]+)(?: ([0-9]+))?')
@@ -109,6 +110,11 @@ def rust_agrees(rust, answer):
         return rust == answer
     number, segment = rust_refusal(rust[3:])
     return number == int(refusal[1]) and segment in (None, refusal[2])
+
+
+def ignores_sizes(line, rust):
+    """The Rust's answer is the one without a look at the size bits inside Annex B."""
+    return rust_agrees(rust, model.answer(rust_request(line), model.AS_RUST))
 
 
 def speaks_of_room(line, answer):

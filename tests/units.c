@@ -1,8 +1,9 @@
 // Real streams by ours, for tests/real-streams.
-//   units stream FILE        how many units the stream has
-//   units annexb FILE        how many the Annex B has
-//   units to-annexb FILE OUT the stream's units as Annex B
-//   units from-ivf FILE OUT  the packets of an IVF file, one behind the other
+//   units stream FILE OUT          how many units the stream has; their bytes, one behind the other
+//   units annexb FILE OUT          the same of Annex B
+//   units to-annexb FILE OUT       the stream's units as Annex B
+//   units to-sized-annexb FILE OUT the same, each OBU with its size inside
+//   units from-ivf FILE OUT        the packets of an IVF file, one behind the other
 #include "../bench/ours.h"
 
 #include <stdio.h>
@@ -39,8 +40,46 @@ static size_t packets(size_t len) {
     return n;
 }
 
+static size_t put_leb128(uint8_t *to, size_t v) {
+    size_t n = 0;
+    for (; v >= 128; v /= 128) to[n++] = v % 128 + 128;
+    to[n++] = v;
+    return n;
+}
+
+// What the bytes take with their length before them.
+static size_t framed(uint8_t *to, const uint8_t *bytes, size_t len) {
+    size_t n = put_leb128(to, len);
+    memcpy(to + n, bytes, len);
+    return n + len;
+}
+
+// How many bytes an OBU in written form has.
+static size_t obu_len(const uint8_t *obu) {
+    size_t n = obu[0] & 4 ? 2 : 1, size = 0;
+    for (int shift = 0;; shift += 7) {
+        size |= (size_t)(obu[n] & 127) << shift;
+        if (obu[n++] < 128) return n + size;
+    }
+}
+
+// The units as Annex B, a frame unit each, with the bytes of each OBU as they are: its size bit set, and its size.
+static size_t sized_annexb(size_t count) {
+    static uint8_t obus[ROOM], frame[ROOM];
+    size_t n = 0;
+    for (size_t u = 0; u < count; u++) {
+        size_t m = 0;
+        for (size_t at = u ? ends[u - 1] : 0, len; at < ends[u]; at += len) {
+            len = obu_len(units + at);
+            m += framed(obus + m, units + at, len);
+        }
+        n += framed(out + n, frame, framed(frame, obus, m));
+    }
+    return n;
+}
+
 int main(int count, char **words) {
-    if (count < 3) return failed("stream|annexb|to-annexb|from-ivf FILE [OUT]");
+    if (count != 4) return failed("stream|annexb|to-annexb|to-sized-annexb|from-ivf FILE OUT");
     FILE *f = fopen(words[2], "rb");
     if (!f) return failed("can't read");
     size_t len = fread(data, 1, ROOM, f);
@@ -49,15 +88,16 @@ int main(int count, char **words) {
     const char *job = words[1];
     if (!strcmp(job, "from-ivf")) {
         size_t n = packets(len);
-        return !n || count < 4 ? failed("no IVF") : save(words[3], n);
+        return n ? save(words[3], n) : failed("no IVF");
     }
     size_t n = strcmp(job, "annexb") ? split_obu_stream(data, len, units, ROOM, ends, SLOTS)
                                      : bench_split_annexb(data, len, units, ROOM, ends, SLOTS);
     if (!n) return failed("refused");
-    if (!strcmp(job, "to-annexb")) {
-        size_t m = bench_write_annexb(units, ends[n - 1], ends, n, out, ROOM);
-        return !m || count < 4 ? failed("not written") : save(words[3], m);
+    if (!strncmp(job, "to-", 3)) {
+        size_t m = strcmp(job, "to-annexb") ? sized_annexb(n) : bench_write_annexb(units, ends[n - 1], ends, n, out, ROOM);
+        return m ? save(words[3], m) : failed("not written");
     }
     printf("%zu\n", n);
-    return 0;
+    memcpy(out, units, ends[n - 1]);
+    return save(words[3], ends[n - 1]);
 }

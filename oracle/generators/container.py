@@ -24,6 +24,11 @@ SMALL_ANNEXB = [
     '0302013000', '05020130', '020130', '0101', '8300020130', '038200', '0483000130', '048200013000', '0503810030',
     '0706011001183000', '0a0201100201300201280000', '06020110020130', '0402010000', '05040130012a', '05040130022a',
     '05050130012a', '03020133', '0402013000', '06020130020180',
+    # sizes inside: none that ends, one of two bytes, too small, too large, behind an extension, none behind it, of eight
+    # bytes and of nine, of a type that is refused, in the second OBU, in both, good before bad
+    '03020132', '050403328000', '05040332ff80', '050403320000', '050403320200', '060504360801aa', '0403023608',
+    '0c0b0a328180808080808000aa', '0d0c0b32818080808080808000aa', '0403024a00', '06050130023200',
+    '0706023200023200', '0706023200023201',
 ]
 
 SMALL_UNITS = [
@@ -57,8 +62,9 @@ BAD_CONTAINER = [
 # Header bytes of types 1, 2, 3, 5 and 6 with and without extension and size, one of a type that is refused, and small numbers.
 TELLING = [8 * kind + flags for kind in (1, 2, 3, 5, 6) for flags in (0, 2, 4, 6)] + [0x4a, 0x00, 0x01, 0x80]
 
-# The same for Annex B: small lengths, OBU headers with and without an extension, an open leb128.
-TELLING_ANNEXB = [0x00, 0x01, 0x02, 0x03, 0x04, 0x10, 0x34, 0x80]
+# The same for Annex B: small lengths (2 and 3 are also headers with a size), OBU headers with and without an extension
+# and with a size, an open leb128.
+TELLING_ANNEXB = [0x00, 0x01, 0x02, 0x03, 0x04, 0x10, 0x32, 0x34, 0x80]
 
 # Parts of a stream: delimiters of three looks, frames of both types, others, an unsized and a bad one.
 PARTS = [bytes.fromhex(part) for part in '1200 160800 1201ff 3200 1a01b8 2a00 0a0100 28 80'.split(' ')]
@@ -175,7 +181,7 @@ def random_time(rng):
 
 def small_annexb(rng):
     """Every shape of up to two units of up to two frame units of up to two OBUs, each length also wrong by one."""
-    obus = (b'\x30', b'\x12\x00', b'\x2c\x08\xaa')
+    obus = (b'\x30', b'\x12\x00', b'\x2c\x08\xaa', b'\x36\x08\x01\xaa')
     frame_units = [list(some) for count in range(3) for some in itertools.product(obus, repeat=count)]
     units = [[], *[[one] for one in frame_units], *[[one, rng.choice(frame_units)] for one in frame_units]]
     for unit in units:
@@ -341,11 +347,20 @@ def random_annexb(rng):
     return spoiled(rng, data) if 0.3 <= draw else data
 
 
+def random_inner_obu(rng):
+    """Most without a size; of the others most with the right one."""
+    kind, draw = random_kind(rng), rng.random()
+    if draw < 0.7:
+        return unsized(rng, kind)
+    if draw < 0.9:
+        return sized(rng, kind)
+    if draw < 0.95:
+        return damaged(rng, sized(rng, kind))
+    return obu_head(rng, kind, 2) + rng.randbytes(small_length(rng))
+
+
 def random_frame_unit(rng):
-    obus = []
-    for _ in range(rng.randrange(4)):
-        head = obu_head(rng, random_kind(rng), rng.choice((0, 0, 2)))
-        obus.append(head + rng.randbytes(small_length(rng)))
+    obus = [random_inner_obu(rng) for _ in range(rng.randrange(4))]
     if rng.random() < 0.04:
         obus.append(rng.choice((b'', b'\x34', b'\x80', b'\x4a\x00', b'\x4c', b'\xcc')))
     return obus

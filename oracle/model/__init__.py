@@ -1,13 +1,13 @@
 """What document 01 answers to a request, in plain Python: values and refusal numbers.
 
-Written from 01 and replay.md in another way than the Rust goes about it, and not from our own code,
+Written from 01, 02 and replay.md in another way than the Rust goes about it, and not from our own code,
 so that it is a third opinion; its author had read the Rust. An operation not in OPERATIONS has no
 model.
 """
 
 from .assembly import assemble, assembly_room
 from .bitio import bits, leb, lebput, shortest_leb128, uvlc
-from .container import annexb, canon, packets, stream, wannexb, wstream
+from .container import annexb, annexb_as_rust, canon, has_inner_size, packets, stream, wannexb, wstream
 from .header import emit, frame, seq, support, timed
 from .obu import PASSING_TYPES, obuput, obus
 from .words import NoRequest, Refused, byte, byte_string, hexadecimal, number, number32, optional_byte
@@ -38,6 +38,9 @@ OPERATIONS = {
     'canon': (canon, [byte_string], []),
     'assemble': (assemble, [number, number32, number32], [byte_string, byte_string, number]),
 }
+
+# The same with the Rust's own readings, where ours differs by intent.
+AS_RUST = {**OPERATIONS, 'annexb': (annexb_as_rust, [byte_string], [])}
 
 
 # What an answer needs of lent memory: bytes, ends or list entries, times or cues; from its text and the values asked with.
@@ -70,13 +73,13 @@ NEEDS = {
 }
 
 
-def answer(line):
+def answer(line, operations=OPERATIONS):
     """The answer to a request, or None where there is no model."""
     name, words, lent = parts(line)
     if name in LATER:
         return None
     try:
-        values = perform(name, words, lent)
+        values = perform(operations, name, words, lent)
         return f'ok {values}' if values else 'ok'
     except NoRequest:
         return 'bad line'
@@ -92,10 +95,19 @@ def parts(line):
     return words[0], words[1:], None
 
 
-def perform(name, words, lent):
-    if name not in OPERATIONS:
+def is_annexb_with_sizes(line):
+    """Whether it reads Annex B in which an OBU has its size bit set: there the Rust is no yardstick."""
+    name, words, _ = parts(line)
+    try:
+        return name == 'annexb' and len(words) == 1 and has_inner_size(byte_string(words[0]))
+    except NoRequest:
+        return False
+
+
+def perform(operations, name, words, lent):
+    if name not in operations:
         raise NoRequest
-    function, kinds, repeated = OPERATIONS[name]
+    function, kinds, repeated = operations[name]
     room = None if lent is None else [number(word) for word in lent]
     asked = arguments(words, kinds, repeated)
     values = function(*asked)

@@ -8,6 +8,9 @@ from .words import Refused, counted, hexadecimal
 # Refusals of a length's own form, and of a length past the end of what holds it.
 UNIT_FAULTS, FRAME_UNIT_FAULTS, OBU_FAULTS = (6, 7), (8, 9), (10, 11)
 EMPTY_OBU, EMPTY_INPUT = 12, 13
+OTHER_SIZE = 40
+
+SIZE_BIT = 0x02
 
 
 def is_delimiter(obu):
@@ -62,27 +65,28 @@ def cut(data, faults):
     return data[read:read + size], data[read + size:]
 
 
-def annexb_units(data):
+def annexb_units(data, honoured=True):
+    """`honoured`: whether the size bit of an inner OBU is looked at; in the Rust it is not."""
     if not data:
         raise Refused(EMPTY_INPUT)
     units = []
     while data:
         unit, data = cut(data, UNIT_FAULTS)
-        units.append(written(obus_of_unit(unit)))
+        units.append(written(inner_obu(obu, honoured) for obu in obus_of_unit(unit)))
     return units
 
 
 def obus_of_unit(unit):
-    """Those of an Annex B unit, through its frame units, taken one by one as they are met."""
+    """The bytes of each OBU of an Annex B unit, through its frame units, taken one by one as they are met."""
     while unit:
         frame_unit, unit = cut(unit, FRAME_UNIT_FAULTS)
         while frame_unit:
             obu, frame_unit = cut(frame_unit, OBU_FAULTS)
-            yield inner_obu(obu)
+            yield obu
 
 
-def inner_obu(data):
-    """All behind header and extension is payload: the size bit is not looked at."""
+def inner_obu(data, honoured):
+    """An OBU that fills its bytes; a size must count what is behind it."""
     if not data:
         raise Refused(EMPTY_OBU)
     header = data[0]
@@ -94,7 +98,25 @@ def inner_obu(data):
     kind = header >> 3
     if kind not in PASSING_TYPES:
         raise Refused(BAD_TYPE)
-    return kind, data[1] if start == 2 else None, data[start:]
+    extension = data[1] if start == 2 else None
+    if honoured and header & SIZE_BIT:
+        size, read = leb128(data[start:])
+        start += read
+        if size != len(data) - start:
+            raise Refused(OTHER_SIZE)
+    return kind, extension, data[start:]
+
+
+def has_inner_size(data):
+    """Whether an OBU to which the lengths lead has its size bit set."""
+    try:
+        while data:
+            unit, data = cut(data, UNIT_FAULTS)
+            if any(obu and obu[0] & SIZE_BIT for obu in obus_of_unit(unit)):
+                return True
+    except Refused:
+        pass
+    return False
 
 
 def with_length(data):
@@ -149,8 +171,12 @@ def stream(data):
     return counted([hexadecimal(unit) for unit in stream_units(data)])
 
 
-def annexb(data):
-    return counted([hexadecimal(unit) for unit in annexb_units(data)])
+def annexb(data, honoured=True):
+    return counted([hexadecimal(unit) for unit in annexb_units(data, honoured)])
+
+
+def annexb_as_rust(data):
+    return annexb(data, honoured=False)
 
 
 def wstream(rows):

@@ -13,7 +13,7 @@ use Rattle.bitio.proofs.ParseLaws.{Shrinks}
 use Rattle.obu.specs.Obu.{Obu, obuBytes, unitBytes}
 use Rattle.obu.specs.Write.{obu}
 use Rattle.container.specs.Stream.{flat, streamBytes}
-use Rattle.container.specs.AnnexB.{lengthObu, frameUnit, temporalUnit}
+use Rattle.container.specs.AnnexB.{lengthObu, frameUnitOf, frameUnit, temporalUnitOf, temporalUnit}
 use Rattle.bitio.specs.Limits.{limit}
 use Rattle.container.specs.Units.{endsOf}
 use Rattle.annexb.specs.code.Spans.{span}
@@ -99,20 +99,20 @@ obu-is i = rw (← i .type, ← i .ext, i .payload)
 module _ {s : List ℕ} {at e a b : ℕ} where
   -- a frame unit and a unit, by what is read of their bytes
   pub frame-at : IsPart 8 9 s at e a b → frameUnit (span s at e) ≡ before (span s b e) (many lengthObu (span s a b))
-  unfolding frameUnit
+  unfolding frameUnitOf
   frame-at i = rw (i .head)
 
   pub unit-at : IsPart 6 7 s at e a b → temporalUnit (span s at e) ≡ before (span s b e) (answer flat (many frameUnit (span s a b)))
-  unfolding temporalUnit
+  unfolding temporalUnitOf
   unit-at i = rw (i .head)
 
 module _ (l : List ℕ) {k : ℕ} where
   pub frame-stop : sized 8 9 l ≡ stop k → frameUnit l ≡ stop k
-  unfolding frameUnit
+  unfolding frameUnitOf
   frame-stop q = rw q
 
   pub unit-stop : sized 6 7 l ≡ stop k → temporalUnit l ≡ stop k
-  unfolding temporalUnit
+  unfolding temporalUnitOf
   unit-stop q = rw q
 
 -- OBUs of units, one behind the other

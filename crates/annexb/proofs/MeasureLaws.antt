@@ -15,7 +15,7 @@ use Rattle.obu.specs.Obu.{Obu, obuBytes, unitBytes}
 use Rattle.obu.specs.Write.{obuLength}
 use Rattle.obu.proofs.LengthLaws.{obu-length}
 use Rattle.container.specs.Stream.{flat, streamBytes}
-use Rattle.container.specs.AnnexB.{lengthObu, frameUnit, temporalUnit}
+use Rattle.container.specs.AnnexB.{lengthObu, frameUnitOf, frameUnit, temporalUnitOf, temporalUnit}
 use Rattle.bitio.specs.Limits.{limit}
 use Rattle.annexb.specs.code.Spans.{span}
 use Rattle.container.specs.Units.{sizesOf}
@@ -126,7 +126,7 @@ module _ {s : List ℕ} {at bytes units : ℕ} (u : UnitsDone s at bytes units) 
   units-fault {k} l q = ap (many temporalUnit) (sym (span-all s)) ∙ passed-stop temporalUnit temporal-shrinks s 0 (length s) (u .passed) l (omega arith) k q
 
   pub units-stop : {k : ℕ} → at < length s → sized 6 7 (span s at (length s)) ≡ stop k → many temporalUnit s ≡ refused k
-  unfolding temporalUnit
+  unfolding temporalUnitOf
   units-stop l q = units-fault l (rw q)
 
   pub units-end : length s ≤ at → many temporalUnit s ≡ accepted (u .done)
@@ -144,7 +144,7 @@ module _ {s : List ℕ} {at start end p bytes units : ℕ} (f : FramesDone s at 
 
   -- the unit that is read
   unit-is : {x : Answer (List (List Obu))} → many frameUnit (span s start end) ≡ x → temporalUnit (span s at (length s)) ≡ before (span s end (length s)) (answer flat x)
-  unfolding temporalUnit
+  unfolding temporalUnitOf
   unit-is q = rw (f .part .head, q)
 
   -- a fault in a frame unit is that of all
@@ -153,7 +153,7 @@ module _ {s : List ℕ} {at start end p bytes units : ℕ} (f : FramesDone s at 
       units-fault (f .behind) in-unit (unit-is (passed-stop frameUnit frame-shrinks s start end (f .passed) l (f .part .within) k q))
 
   pub frames-stop : {k : ℕ} → p < end → sized 8 9 (span s p end) ≡ stop k → many temporalUnit s ≡ refused k
-  unfolding frameUnit
+  unfolding frameUnitOf
   frames-stop l q = frames-fault l (rw q)
 
   pub obus-start : {first last : ℕ} → IsPart 8 9 s p end first last → Obus s at start end p first last first bytes units
@@ -190,7 +190,7 @@ module _ {s : List ℕ} {at start end p first last q bytes units : ℕ} (b : Obu
 
   -- the frame unit that is read
   frame-is : {x : Answer (List Obu)} → many lengthObu (span s first last) ≡ x → frameUnit (span s p end) ≡ before (span s last end) x
-  unfolding frameUnit
+  unfolding frameUnitOf
   frame-is e = rw (b .part .head, e)
 
   pub last-in : last ≤ length s

@@ -6,18 +6,20 @@ use mathlib.Core.List.{List, [], _∷_, _++_, append-assoc}
 use mathlib.Core.Option.{Option, none, some}
 use mathlib.Core.Bool.{Bool, true, false, cond as pick}
 use lib.ListN.{length, getD, take, drop, length-append}
-use borrow.Author.Tests.{lt-leb, le-leb, ne-eqb}
+use lib.Dec.{eqb}
+use borrow.Author.Tests.{lt-leb, le-leb, ne-eqb, eq-eqb}
 use Rattle.bitio.specs.Parse.{Answer, refused, accepted, Head, stop, item, before, within}
-use Rattle.bitio.specs.Leb.{number, readLeb, sized}
+use Rattle.bitio.specs.Leb.{Number, number, readLeb, lebAnswer, sized}
 use Rattle.bitio.specs.Leb.Number.{none as noNumber}
+use Rattle.bitio.specs.declared.leb128.Leb.the-variants.{Value}
 use Rattle.bitio.proofs.ParseLaws.{pick-both, pick-cases, Parts}
-use Rattle.bitio.proofs.LebLaws.{Sized, sized-parts}
+use Rattle.bitio.proofs.LebLaws.{Numbered, read-parts, Sized, sized-parts, is-number}
 use Rattle.obu.specs.Obu.{Obu, flag, obuType, passes, made}
 use types.Run.{OneOf}
 use denote.Enum.Declared.{tagOf}
 use Rattle.obu.specs.Place.{Place, wrong, lies, refusalOf}
-use Rattle.container.specs.AnnexB.{typed, extendedB, innerObu, lengthObu}
-use Rattle.annexb.specs.code.Spans.{span, noSpot, spot, spotOf, placeTo, spotRefusal, partSays, innerSays}
+use Rattle.container.specs.AnnexB.{withSize, typed, extendedB, innerObuOf, innerObu, lengthObuOf, lengthObu}
+use Rattle.annexb.specs.code.Spans.{span, noSpot, spot, spotOf, placeTo, placeUpTo, spotRefusal, partSays, innerSays}
 use Rattle.annexb.specs.declared.annexb.part.PartAt.{PartAt}
 use Rattle.annexb.specs.declared.annexb.part.PartAt.the-variants.{Part, Refused as PartRefused}
 use Rattle.annexb.specs.declared.annexb.part.InnerAt.{InnerAt}
@@ -49,6 +51,13 @@ module _ (s : List ℕ) (at e x y : ℕ) where
         let j : e - (e - (q + n)) ≡ q + n = omega arith in
         let i : q + n - n ≡ q = omega arith in
         rw (b, le-leb n (length (span s q e)) k, d, t, j, i)
+
+-- a number in the part from a to e
+pub number-at : (s : List ℕ) (a e v n : ℕ) → a ≤ e → e ≤ length s → lebAnswer (span s a e) (readLeb (span s a e)) ≡ Value v n
+    → (readLeb (span s a e) ≡ number v (span s (a + n) e)) × (a + n ≤ e)
+number-at s a e v n l m q =
+    let i = is-number (span s a e) v n q in
+    (i .read ∙ ap (number v) (span-drop s a e n), omega (arith, i .within, span-length s a e m))
 
 -- what the place of a sized part says
 pub record IsPart (x y : ℕ) (s : List ℕ) (at e a b : ℕ) : Type 0 where
@@ -83,48 +92,62 @@ module _ (x y : ℕ) (s : List ℕ) (at e : ℕ) where
 
 -- ---- the outcomes of an OBU that fills its bytes
 
-abbrev filling : ℕ → Answer Obu → Place
-filling e x = placeTo e (before [] x)
-
 module _ (s : List ℕ) (e : ℕ) (m : e ≤ length s) where
-  -- all from p on is payload, if the type passes
-  pub inner-typed : (h : ℕ) (x : Option ℕ) (p : ℕ) → p ≤ e
-      → pick (passes (obuType h)) (lies (obuType h) x p e) (wrong 2) ≡ filling e (typed h x (span s p e))
-  inner-typed h x p l =
-      let n = span-length s p e m in
-      let k : e - 0 - (e - p) ≡ p = omega arith in
+  -- all from q on is payload
+  payload-from : (h : ℕ) (x : Option ℕ) (q : ℕ) → q ≤ e → lies (obuType h) x q e ≡ placeUpTo e (accepted (made h x (span s q e)))
+  payload-from h x q l =
+      let n = span-length s q e m in
+      let k : e - 0 - (e - q) ≡ q = omega arith in
       let z : e - 0 ≡ e = omega arith in
-      go (passes (obuType h)) (rw (n, k, z))
-    where
-      go : (b : Bool) → lies (obuType h) x p e ≡ placeTo e (item (made h x (span s p e)) [])
-          → pick b (lies (obuType h) x p e) (wrong 2) ≡ filling e (pick b (accepted (made h x (span s p e))) (refused 2))
-      go true q = q
-      go false q = refl
+      rw (n, k, z)
+
+  module _ (h : ℕ) (x : Option ℕ) (p : ℕ) where
+    pub size-bad : readLeb (span s p e) ≡ noNumber → wrong 4 ≡ placeUpTo e (withSize h x (readLeb (span s p e)))
+    size-bad b = rw b
+
+    module _ (n q : ℕ) (b : readLeb (span s p e) ≡ number n (span s q e)) where
+      pub size-other : (n ≡ e - q → ⊥) → wrong 40 ≡ placeUpTo e (withSize h x (readLeb (span s p e)))
+      size-other d = rw (b, span-length s q e m, ne-eqb n (e - q) d)
+
+      pub size-all : q ≤ e → n ≡ e - q → lies (obuType h) x q e ≡ placeUpTo e (withSize h x (readLeb (span s p e)))
+      size-all l d =
+          let k : n ≡ length (span s q e) = d ∙ sym (span-length s q e m) in
+          rw (b, eq-eqb n (length (span s q e)) k) (payload-from h x q l)
+
+    pub typed-none : passes (obuType h) ≡ false → wrong 2 ≡ placeUpTo e (typed true h x (span s p e))
+    typed-none a = rw a
+
+    module _ (a : passes (obuType h) ≡ true) where
+      pub typed-sized : h / 2 % 2 ≡ 1 → placeUpTo e (withSize h x (readLeb (span s p e))) ≡ placeUpTo e (typed true h x (span s p e))
+      typed-sized q = rw (a, q)
+
+      pub typed-rest : p ≤ e → (h / 2 % 2 ≡ 1 → ⊥) → lies (obuType h) x p e ≡ placeUpTo e (typed true h x (span s p e))
+      typed-rest l q = rw (a, ne-eqb (h / 2 % 2) 1 q) (payload-from h x p l)
 
   module _ (a : ℕ) where
-    pub inner-empty : e ≤ a → wrong 12 ≡ filling e (innerObu (span s a e))
-    unfolding innerObu
+    pub inner-empty : e ≤ a → wrong 12 ≡ placeUpTo e (innerObu (span s a e))
+    unfolding innerObuOf
     inner-empty l = rw (span-none s a e l)
 
     module _ (l : a < e) where
       abbrev byte : ℕ
       byte = getD s a 0
 
-      pub inner-forbidden : byte / 128 % 2 ≡ 1 → wrong 1 ≡ filling e (innerObu (span s a e))
-      unfolding innerObu
+      pub inner-forbidden : byte / 128 % 2 ≡ 1 → wrong 1 ≡ placeUpTo e (innerObu (span s a e))
+      unfolding innerObuOf
       inner-forbidden q = rw (span-cons s a e l m, q)
 
       module _ (low : byte / 128 % 2 ≡ 1 → ⊥) where
-        pub inner-plain : (byte / 4 % 2 ≡ 1 → ⊥) → filling e (typed byte none (span s (a + 1) e)) ≡ filling e (innerObu (span s a e))
-        unfolding innerObu
+        pub inner-plain : (byte / 4 % 2 ≡ 1 → ⊥) → placeUpTo e (typed true byte none (span s (a + 1) e)) ≡ placeUpTo e (innerObu (span s a e))
+        unfolding innerObuOf
         inner-plain q = rw (span-cons s a e l m, ne-eqb (byte / 128 % 2) 1 low, ne-eqb (byte / 4 % 2) 1 q)
 
-        pub inner-short : byte / 4 % 2 ≡ 1 → e ≤ a + 1 → wrong 3 ≡ filling e (innerObu (span s a e))
-        unfolding innerObu
+        pub inner-short : byte / 4 % 2 ≡ 1 → e ≤ a + 1 → wrong 3 ≡ placeUpTo e (innerObu (span s a e))
+        unfolding innerObuOf
         inner-short q k = rw (span-cons s a e l m, ne-eqb (byte / 128 % 2) 1 low, q, span-none s (a + 1) e k)
 
-        pub inner-ext : byte / 4 % 2 ≡ 1 → a + 1 < e → filling e (typed byte (some (getD s (a + 1) 0)) (span s (a + 1 + 1) e)) ≡ filling e (innerObu (span s a e))
-        unfolding innerObu
+        pub inner-ext : byte / 4 % 2 ≡ 1 → a + 1 < e → placeUpTo e (typed true byte (some (getD s (a + 1) 0)) (span s (a + 1 + 1) e)) ≡ placeUpTo e (innerObu (span s a e))
+        unfolding innerObuOf
         inner-ext q k = rw (span-cons s a e l m, ne-eqb (byte / 128 % 2) 1 low, q, span-cons s (a + 1) e k m)
 
 -- ---- what is read of such an OBU
@@ -139,15 +162,25 @@ abbrev Inside : List ℕ → Answer Obu → Type 0
 Inside p (refused k) = Unit
 Inside p (accepted o) = IsInner p o
 
-typed-inside : (f : List ℕ) (h : ℕ) (x : Option ℕ) (p : List ℕ) → Inside (f ++ p) (typed h x p)
-typed-inside f h x p = pick-cases (Inside (f ++ p)) (passes (obuType h)) (λ q. record { front = f; split = refl; passing = q }) (λ q. tt)
+-- f is what stands before p
+module _ (f : List ℕ) (h : ℕ) (x : Option ℕ) (p : List ℕ) where
+  sized-inside : (n : Number) → Numbered p n → passes (obuType h) ≡ true → Inside (f ++ p) (withSize h x n)
+  sized-inside noNumber z a = tt
+  sized-inside (number n r) z a =
+      let q : f ++ p ≡ (f ++ z .front) ++ r = ap (λ t. f ++ t) (z .split) ∙ sym (append-assoc f (z .front) r) in
+      pick-both (Inside (f ++ p)) (eqb n (length r)) (record { front = f ++ z .front; split = q; passing = a }) tt
 
-extended-inside : (h : ℕ) (p : List ℕ) → Inside (h ∷ p) (extendedB h p)
+  typed-inside : Inside (f ++ p) (typed true h x p)
+  typed-inside =
+      let P = Inside (f ++ p) in
+      pick-cases P (passes (obuType h)) (λ a. pick-both P (flag 2 h) (sized-inside (readLeb p) (read-parts p) a) (record { front = f; split = refl; passing = a })) (λ a. tt)
+
+extended-inside : (h : ℕ) (p : List ℕ) → Inside (h ∷ p) (extendedB true h p)
 extended-inside h [] = tt
 extended-inside h (x ∷ p) = typed-inside (h ∷ x ∷ []) h (some x) p
 
 inner-inside : (p : List ℕ) → Inside p (innerObu p)
-unfolding innerObu
+unfolding innerObuOf
 inner-inside [] = tt
 inner-inside (h ∷ p) =
     let P = Inside (h ∷ p) in
@@ -163,7 +196,7 @@ Lengthy l (stop k) = Unit
 Lengthy l (item o r) = IsLength l o r
 
 pub length-is : (l : List ℕ) → Lengthy l (lengthObu l)
-unfolding lengthObu
+unfolding lengthObuOf
 length-is l = go (sized 10 11 l) (sized-parts 10 11 l)
   where
     put : (p r : List ℕ) → Parts l p r → (x : Answer Obu) → Inside p x → Lengthy l (before r x)
@@ -235,15 +268,15 @@ module _ (s : List ℕ) (at e : ℕ) where
 -- the outcomes of an OBU behind its length
 module _ (s : List ℕ) (at e : ℕ) where
   pub length-stop : {k : ℕ} → sized 10 11 (span s at e) ≡ stop k → wrong k ≡ placeTo e (lengthObu (span s at e))
-  unfolding lengthObu
+  unfolding lengthObuOf
   length-stop q = rw q
 
   -- of the part from a to b
-  pub length-part : {a b : ℕ} → e ≤ length s → IsPart 10 11 s at e a b → filling b (innerObu (span s a b)) ≡ placeTo e (lengthObu (span s at e))
-  unfolding lengthObu
+  pub length-part : {a b : ℕ} → e ≤ length s → IsPart 10 11 s at e a b → placeUpTo b (innerObu (span s a b)) ≡ placeTo e (lengthObu (span s at e))
+  unfolding lengthObuOf
   length-part {a} {b} m i = rw (i .head) (go (innerObu (span s a b)))
     where
-      go : (x : Answer Obu) → filling b x ≡ placeTo e (before (span s b e) x)
+      go : (x : Answer Obu) → placeUpTo b x ≡ placeTo e (before (span s b e) x)
       go (refused k) = refl
       go (accepted o) =
           let n = span-length s b e m in

@@ -13,7 +13,7 @@ use Rattle.bitio.specs.Parse.{Answer, refused, accepted, answer, many}
 use Rattle.bitio.proofs.ParseLaws.{and-both}
 use Rattle.obu.specs.Obu.{Obu, unitBytes}
 use Rattle.container.specs.Stream.{streamBytes}
-use Rattle.container.specs.AnnexB.{temporalUnit, annexbUnits}
+use Rattle.container.specs.AnnexB.{temporalUnit, annexbUnitsOf, annexbUnits}
 use Rattle.bitio.specs.Limits.{limit}
 use Rattle.container.specs.Limits.{Room, fits, fitUnits}
 use Rattle.container.specs.Container.{annexb, read}
@@ -38,7 +38,7 @@ module _ (room : Room) (s : List ℕ) where
   read-long l = rw (lt-leb (length s) limit l)
 
   pub read-empty : length s ≡ 0 → read annexb room s ≡ refused 13
-  unfolding read annexbUnits
+  unfolding read annexbUnitsOf
   read-empty l = go s l
     where
       go : (t : List ℕ) → length t ≡ 0 → pick (leb (length t) limit) (fitUnits room (annexbUnits t)) (refused 34) ≡ refused 13

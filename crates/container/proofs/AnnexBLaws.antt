@@ -15,7 +15,7 @@ use Rattle.bitio.proofs.LebLaws.{sized-back, sized-shrinks, framed-length}
 use Rattle.obu.specs.Obu.{Obu, passes, header, unitBytes}
 use Rattle.obu.proofs.ObuLaws.{Allowed, passes-small, fields, obus-unit}
 use Rattle.container.specs.Stream.{flat}
-use Rattle.container.specs.AnnexB.{innerObu, lengthObu, frameUnit, temporalUnit, annexbUnits, innerBytes, annexbUnit, annexbBytes}
+use Rattle.container.specs.AnnexB.{innerObuOf, innerObu, lengthObuOf, lengthObu, frameUnitOf, frameUnit, temporalUnitOf, temporalUnit, annexbUnitsOf, annexbUnits, innerBytes, annexbUnit, annexbBytes}
 
 -- ---- a sized part that is read further
 
@@ -37,21 +37,21 @@ within-back a b f p r x l e = rw (sized-back a b p r l, e)
 
 inner : (t : ℕ) (e : Option ℕ) (p : List ℕ) → passes t ≡ true
     → innerObu (header 0 t e ++ p) ≡ accepted (record { type = t; ext = e; payload = p })
-unfolding innerObu
+unfolding innerObuOf
 inner t none p a =
     let h = 8 * t + 0 + 0 in
     let f = fields t 0 0 h (passes-small t a) (omega arith) (omega arith) (omega arith) in
-    rw (f .forbidden, f .ext, f .type, a)
+    rw (f .forbidden, f .ext, f .size, f .type, a)
 inner t (some x) p a =
     let h = 8 * t + 4 + 0 in
     let f = fields t 1 0 h (passes-small t a) (omega arith) (omega arith) (omega arith) in
-    rw (f .forbidden, f .ext, f .type, a)
+    rw (f .forbidden, f .ext, f .size, f .type, a)
 
 pub inner-back : (o : Obu) → Allowed o → innerObu (header 0 (o .type) (o .ext) ++ o .payload) ≡ accepted o
 inner-back o a = inner (o .type) (o .ext) (o .payload) (a .passing)
 
 every : (os : List Obu) → Every Allowed os → length (flatMap innerBytes os) < 2 ^ 56 → Every (Back lengthObu innerBytes) os
-unfolding flatMap lengthObu
+unfolding flatMap lengthObuOf
 every [] nothing l = nothing
 every (o ∷ os) (also a as′) l =
     let p = header 0 (o .type) (o .ext) ++ o .payload in
@@ -59,15 +59,15 @@ every (o ∷ os) (also a as′) l =
     also (λ r. within-back 10 11 innerObu p r o (omega (arith, framed-length p)) (inner-back o a)) (every os as′ (omega arith))
 
 pub length-shrinks : Shrinks lengthObu
-unfolding lengthObu
+unfolding lengthObuOf
 length-shrinks = within-shrinks 10 11 innerObu
 
 pub frame-shrinks : Shrinks frameUnit
-unfolding frameUnit
+unfolding frameUnitOf
 frame-shrinks = within-shrinks 8 9 (many lengthObu)
 
 pub temporal-shrinks : Shrinks temporalUnit
-unfolding temporalUnit
+unfolding temporalUnitOf
 temporal-shrinks = within-shrinks 6 7 (λ p. answer flat (many frameUnit p))
 
 module _ (os : List Obu) (a : Every Allowed os) (l : length (annexbUnit os) < 2 ^ 56) where
@@ -79,7 +79,7 @@ module _ (os : List Obu) (a : Every Allowed os) (l : length (annexbUnit os) < 2 
   short = (omega (arith, framed-length obusB, framed-length (framed obusB)), omega (arith, framed-length (framed obusB)))
 
   frame-back : frameUnit (framed obusB ++ []) ≡ item os []
-  unfolding frameUnit
+  unfolding frameUnitOf
   frame-back = within-back 8 9 (many lengthObu) obusB [] os (short .0) (many-all lengthObu innerBytes length-shrinks (every os a (short .0)))
 
   frames-back : many frameUnit (framed obusB) ≡ accepted (os ∷ [])
@@ -88,7 +88,7 @@ module _ (os : List Obu) (a : Every Allowed os) (l : length (annexbUnit os) < 2 
 
   -- a unit is read back, whatever stands behind it
   pub temporal-back : (r : List ℕ) → temporalUnit (annexbUnit os ++ r) ≡ item os r
-  unfolding temporalUnit annexbUnit flat
+  unfolding temporalUnitOf annexbUnit flat
   temporal-back r = within-back 6 7 (λ p. answer flat (many frameUnit p)) (framed obusB) r os (short .1) (rw (frames-back, append-nil))
 
 units-back : (us : List (List Obu)) → Every (Every Allowed) us → length (flatMap annexbUnit us) < 2 ^ 56 → Every (Back temporalUnit annexbUnit) us
@@ -110,7 +110,7 @@ unfolding flatMap annexbUnit
 some-bytes u us = omega (arith, framed-length (framed (flatMap innerBytes u)), length-append (annexbUnit u) (flatMap annexbUnit us))
 
 pub annexb-some : (s : List ℕ) → 0 < length s → annexbUnits s ≡ answer (map unitBytes) (many temporalUnit s)
-unfolding annexbUnits
+unfolding annexbUnitsOf
 annexb-some [] l = absurd (omega arith)
 annexb-some (b ∷ s) l = refl
 

@@ -1,5 +1,6 @@
 pub mod StreamLaws
 pub mod AnnexBLaws
+pub mod SizeBitLaws
 pub mod RoundTrip
 pub mod LeadLaws
 pub mod Carry

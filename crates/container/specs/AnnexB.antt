@@ -2,40 +2,65 @@
 use Prim.Native.Nat.{ℕ}
 use mathlib.Core.List.{List, [], _∷_, _++_, map, flatMap}
 use mathlib.Core.Option.{Option, none, some}
-use mathlib.Core.Bool.{cond as pick}
+use mathlib.Core.Bool.{Bool, true, _&&_, cond as pick}
+use lib.ListN.{length}
+use lib.Dec.{eqb}
 use Rattle.bitio.specs.Parse.{Answer, refused, accepted, answer, Head, within, many}
-use Rattle.bitio.specs.Leb.{sized, framed}
+use Rattle.bitio.specs.Leb.{Number, number, readLeb, sized, framed}
+use Rattle.bitio.specs.Leb.Number.{none as noNumber}
 use Rattle.obu.specs.Obu.{Obu, flag, obuType, passes, made, header, obus, unitBytes}
 use Rattle.container.specs.Stream.{flat}
 
--- ---- reading
+-- ---- reading; `honoured` says whether the size bit of an inner OBU is looked at: here it is (02 §1), in the Rust it is not
 
-abbrev pub typed : ℕ → Option ℕ → List ℕ → Answer Obu
-typed h e p = pick (passes (obuType h)) (accepted (made h e p)) (refused 2)
+-- an OBU with its size, which must count the bytes behind it. 4: no such number, 40: another count
+abbrev pub withSize : ℕ → Option ℕ → Number → Answer Obu
+withSize h e noNumber = refused 4
+withSize h e (number n p) = pick (eqb n (length p)) (accepted (made h e p)) (refused 40)
 
-abbrev pub extendedB : ℕ → List ℕ → Answer Obu
-extendedB h [] = refused 3
-extendedB h (e ∷ p) = typed h (some e) p
+-- what follows header and extension: the size, if there is one, and the payload
+abbrev pub typed : Bool → ℕ → Option ℕ → List ℕ → Answer Obu
+typed honoured h e p =
+    pick (passes (obuType h)) (pick (honoured && flag 2 h) (withSize h e (readLeb p)) (accepted (made h e p))) (refused 2)
 
--- an OBU that fills its bytes: what follows header and extension is payload, whatever the size bit says; refusals 12, 1, 3, 2
-unfoldable pub innerObu : List ℕ → Answer Obu
-innerObu [] = refused 12
-innerObu (h ∷ s) = pick (flag 128 h) (refused 1) (pick (flag 4 h) (extendedB h s) (typed h none s))
+abbrev pub extendedB : Bool → ℕ → List ℕ → Answer Obu
+extendedB honoured h [] = refused 3
+extendedB honoured h (e ∷ p) = typed honoured h (some e) p
+
+-- an OBU that fills its bytes; refusals 12, 1, 3, 2, and then those of its size
+unfoldable pub innerObuOf : Bool → List ℕ → Answer Obu
+innerObuOf honoured [] = refused 12
+innerObuOf honoured (h ∷ s) = pick (flag 128 h) (refused 1) (pick (flag 4 h) (extendedB honoured h s) (typed honoured h none s))
 
 -- AV1 Annex B: obu_length, frame_unit_size, temporal_unit_size, each followed by so many bytes
-unfoldable pub lengthObu : List ℕ → Head Obu
-lengthObu s = within (sized 10 11 s) innerObu
+unfoldable pub lengthObuOf : Bool → List ℕ → Head Obu
+lengthObuOf honoured s = within (sized 10 11 s) (innerObuOf honoured)
 
-unfoldable pub frameUnit : List ℕ → Head (List Obu)
-frameUnit s = within (sized 8 9 s) (many lengthObu)
+unfoldable pub frameUnitOf : Bool → List ℕ → Head (List Obu)
+frameUnitOf honoured s = within (sized 8 9 s) (many (lengthObuOf honoured))
 
-unfoldable pub temporalUnit : List ℕ → Head (List Obu)
-temporalUnit s = within (sized 6 7 s) (λ p. answer flat (many frameUnit p))
+unfoldable pub temporalUnitOf : Bool → List ℕ → Head (List Obu)
+temporalUnitOf honoured s = within (sized 6 7 s) (λ p. answer flat (many (frameUnitOf honoured) p))
 
 -- 01: the units in written form, or the first refusal; 13 for empty input
-unfoldable pub annexbUnits : List ℕ → Answer (List (List ℕ))
-annexbUnits [] = refused 13
-annexbUnits (b ∷ s) = answer (map unitBytes) (many temporalUnit (b ∷ s))
+unfoldable pub annexbUnitsOf : Bool → List ℕ → Answer (List (List ℕ))
+annexbUnitsOf honoured [] = refused 13
+annexbUnitsOf honoured (b ∷ s) = answer (map unitBytes) (many (temporalUnitOf honoured) (b ∷ s))
+
+abbrev pub innerObu : List ℕ → Answer Obu
+innerObu = innerObuOf true
+
+abbrev pub lengthObu : List ℕ → Head Obu
+lengthObu = lengthObuOf true
+
+abbrev pub frameUnit : List ℕ → Head (List Obu)
+frameUnit = frameUnitOf true
+
+abbrev pub temporalUnit : List ℕ → Head (List Obu)
+temporalUnit = temporalUnitOf true
+
+abbrev pub annexbUnits : List ℕ → Answer (List (List ℕ))
+annexbUnits = annexbUnitsOf true
 
 -- ---- writing
 

@@ -1,5 +1,6 @@
 pub mod Stream
 pub mod AnnexB
+pub mod SizeBit
 pub mod Limits
 pub mod Units
 pub mod Lists

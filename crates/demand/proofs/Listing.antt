@@ -26,7 +26,7 @@ use Rattle.header.specs.Support.{support, supportedSequence}
 use Rattle.header.specs.Timed.{retimed, withTiming}
 use Rattle.frame.specs.Frame.{showExisting, frameStart, orderHint, removalTimes, bufferRemoval, frameInfo, frameBits, frameHeader, parseFrame}
 use Rattle.container.specs.Stream.{cut, group, others, join, behind, joined, units, streamUnits, flat, streamBytes}
-use Rattle.container.specs.AnnexB.{innerObu, lengthObu, frameUnit, temporalUnit, annexbUnits, annexbUnit, annexbBytes}
+use Rattle.container.specs.AnnexB.{innerObuOf, lengthObuOf, frameUnitOf, temporalUnitOf, annexbUnitsOf, annexbUnit, annexbBytes}
 use Rattle.container.specs.Container.{Container, stream, annexb, read, write}
 use Rattle.blocks.specs.Blocks.{Kind, Key, Golden, Show}
 use Rattle.pictures.specs.Segments.{Segment, segmentAt, segmentsFrom, segmentsOf}
@@ -271,7 +271,7 @@ CarriedOwn c = (write c (record { bytes = 96; ends = 7 }) (unitsOf outputTwo) �
     × (read c (record { bytes = 96; ends = 7 }) (acceptedBytes (write c (record { bytes = 96; ends = 7 }) (unitsOf outputTwo))) ≡ accepted (unitsOf outputTwo))
 
 carried-both : (CarriedOwn stream) × (CarriedOwn annexb)
-unfolding many manyF lebRead readLeb sized lebWrite lebBytes framed passes headObuOf obusOf obuBytes unitBytes flatMap isType count has part named unitsOf cut group others join behind joined units streamUnits flat streamBytes innerObu lengthObu frameUnit temporalUnit annexbUnits annexbUnit annexbBytes read write
+unfolding many manyF lebRead readLeb sized lebWrite lebBytes framed passes headObuOf obusOf obuBytes unitBytes flatMap isType count has part named unitsOf cut group others join behind joined units streamUnits flat streamBytes innerObuOf lengthObuOf frameUnitOf temporalUnitOf annexbUnitsOf annexbUnit annexbBytes read write
 carried-both = ((refl, refl), (refl, refl))
 
 carries : (c : Container) → CarriedOwn c → ReadBack (unitsOf outputTwo) (unitsOf outputTwo)

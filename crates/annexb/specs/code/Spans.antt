@@ -1,8 +1,8 @@
 -- Parts of lent bytes by position, as the functions of Annex B find them.
 use Prim.Native.Nat.{ℕ, _-_}
-use mathlib.Core.List.{List}
+use mathlib.Core.List.{List, []}
 use lib.ListN.{length, take, drop}
-use Rattle.bitio.specs.Parse.{Head, stop, item}
+use Rattle.bitio.specs.Parse.{Answer, Head, stop, item, before}
 use Rattle.obu.specs.Obu.{Obu}
 use Rattle.obu.specs.Place.{Place, wrong, lies, extensionSays}
 use Rattle.annexb.specs.declared.annexb.part.PartAt.{PartAt}
@@ -27,6 +27,10 @@ spotOf e (item p r) = spot (e - length r - length p) (e - length r)
 abbrev pub placeTo : ℕ → Head Obu → Place
 placeTo e (stop k) = wrong k
 placeTo e (item o r) = lies (o .type) (o .ext) (e - length r - length (o .payload)) (e - length r)
+
+-- the same of an OBU that fills the bytes up to e
+abbrev pub placeUpTo : ℕ → Answer Obu → Place
+placeUpTo e x = placeTo e (before [] x)
 
 -- a refusal's number, 0 where there is none
 abbrev pub spotRefusal : Spot → ℕ

@@ -1,16 +1,13 @@
 // The sized parts of Annex B by position: a unit, a frame unit, an OBU (AV1 B.2).
 ghost use mathlib.Core.Path.{_≡_};
-ghost use mathlib.Core.List.{[]};
-ghost use mathlib.Core.Bool.{cond as pick};
+ghost use mathlib.Core.Bool.{true};
 ghost use Prim.Native.Nat.{_-_, _^_, _≤_, min};
 ghost use lib.ListN.{length};
-ghost use Rattle.bitio.specs.Parse.{before};
 ghost use Rattle.bitio.specs.Leb.{readLeb, lebAnswer, sized};
-ghost use Rattle.obu.specs.Obu.{passes, obuType};
-ghost use Rattle.obu.specs.Place.{wrong, lies, refusalOf, extensionSays};
+ghost use Rattle.obu.specs.Place.{refusalOf, extensionSays};
 ghost use Rattle.obu.specs.Write.{obuLength};
-ghost use Rattle.container.specs.AnnexB.{innerObu, lengthObu};
-ghost use Rattle.annexb.specs.code.Spans.{span, spotOf, partSays, spotRefusal, placeTo, innerSays};
+ghost use Rattle.container.specs.AnnexB.{withSize, typed, innerObu, lengthObu};
+ghost use Rattle.annexb.specs.code.Spans.{span, spotOf, partSays, spotRefusal, placeTo, placeUpTo, innerSays};
 use bitio::leb128::Leb;
 use obu::reader::Extension;
 use obu::reader::Obu;
@@ -24,7 +21,8 @@ pub enum PartAt {
 
 pub enum InnerAt {
     Found(Obu),
-    // document 01's number: 10 OBU length, 11 overrun, 12 empty OBU, 1 forbidden bit, 3 no extension byte, 2 type
+    // document 01's number: 10 OBU length, 11 overrun, 12 empty OBU, 1 forbidden bit, 3 no extension byte, 2 type; of
+    // the size, 4 no number, 40 another count
     Refused(u32),
 }
 
@@ -66,26 +64,50 @@ pub(crate) fn part_refusal(found: PartAt) -> u32
     }
 }
 
-// The OBU with header byte h, if its type passes.
-fn typed_obu(h: u8, extension: Extension, start: usize, end: usize) -> InnerAt
-    ensures { λ r. ⌜ innerSays r ≡ pick (passes (obuType h)) (lies (obuType h) (extensionSays extension) start end) (wrong 2) ⌝ }
+// The OBU with header byte h, whose size stands at p and must count the bytes behind it up to `end`.
+fn sized_obu(s: &[u8], h: u8, extension: Extension, p: usize, end: usize) -> InnerAt
+    requires { ⌜ (p ≤ end) × (end ≤ length (now s)) ⌝ }
+    ensures { λ r. ⌜ innerSays r ≡ placeUpTo end (withSize h (extensionSays extension) (readLeb (span (now (s .entry)) p end))) ⌝ }
 {
-    let obu_type = h / 8 % 16;
-    if !obu::reader::is_known_type(obu_type) {
-        return InnerAt::Refused(2);
+    let Leb::Value(size, used) = length_of(&s[p..end]) else {
+        return InnerAt::Refused(4);
+    };
+    let start = p + used;
+    if size != (end - start) as u64 {
+        return InnerAt::Refused(40);
     }
     InnerAt::Found(Obu {
-        obu_type,
+        obu_type: h / 8 % 16,
         extension,
         start,
         end,
     })
 }
 
-// The OBU that fills the bytes from `start` to `end`: all after header and extension is payload.
+// The OBU with header byte h and what follows header and extension, from p to `end`, if its type passes.
+fn typed_obu(s: &[u8], h: u8, extension: Extension, p: usize, end: usize) -> InnerAt
+    requires { ⌜ (p ≤ end) × (end ≤ length (now s)) ⌝ }
+    ensures { λ r. ⌜ innerSays r ≡ placeUpTo end (typed true h (extensionSays extension) (span (now (s .entry)) p end)) ⌝ }
+{
+    let obu_type = h / 8 % 16;
+    if !obu::reader::is_known_type(obu_type) {
+        return InnerAt::Refused(2);
+    }
+    if h / 2 % 2 == 1 {
+        return sized_obu(s, h, extension, p, end);
+    }
+    InnerAt::Found(Obu {
+        obu_type,
+        extension,
+        start: p,
+        end,
+    })
+}
+
+// The OBU that fills the bytes from `start` to `end`.
 fn inner_obu(s: &[u8], start: usize, end: usize) -> InnerAt
     requires { ⌜ (start ≤ end) × (end ≤ length (now s)) ⌝ }
-    ensures { λ r. ⌜ innerSays r ≡ placeTo end (before [] (innerObu (span (now (s .entry)) start end))) ⌝ }
+    ensures { λ r. ⌜ innerSays r ≡ placeUpTo end (innerObu (span (now (s .entry)) start end)) ⌝ }
 {
     if start >= end {
         return InnerAt::Refused(12);
@@ -99,9 +121,9 @@ fn inner_obu(s: &[u8], start: usize, end: usize) -> InnerAt
         if p >= end {
             return InnerAt::Refused(3);
         }
-        return typed_obu(h, Extension::Byte(s[p]), p + 1, end);
+        return typed_obu(s, h, Extension::Byte(s[p]), p + 1, end);
     }
-    typed_obu(h, Extension::Absent, p, end)
+    typed_obu(s, h, Extension::Absent, p, end)
 }
 
 // The OBU with its length at `at`, all before `end`.

@@ -1,7 +1,7 @@
 use borrow.Author.Needs.{needs}
 use native.Mathlib.Omega.{arith}
 use mathlib.Core.Path.{_∙_}
-use Rattle.annexb.proofs.PartLaws.{inner-typed, inner-empty, inner-forbidden, inner-plain, inner-short, inner-ext}
+use Rattle.annexb.proofs.PartLaws.{inner-empty, inner-forbidden, inner-plain, inner-short, inner-ext}
 use Rattle.annexb.proofs.annexb.part.inner_obu.Statement.{statement}
 use Rattle.annexb.proofs.annexb.part.inner_obu.Tie as tie
 
@@ -25,14 +25,14 @@ returns-4 c =
     let e = f .before .before in
     let k = e .before .before in
     let m = k .before .before .pre .1 in
-    c .typed-obu .ensures ∙ inner-typed _ _ m _ _ _ (omega arith) ∙ inner-ext _ _ m _ (k .if1 .left) (e .if2 .left) (f .before .if3 .taken) (f .if4 .left)
+    c .typed-obu .ensures ∙ inner-ext _ _ m _ (k .if1 .left) (e .if2 .left) (f .before .if3 .taken) (f .if4 .left)
 
 returns-5 : tie.Need-returns-5
 returns-5 c =
     let e = c .before .before in
     let k = e .before .before in
     let m = k .before .before .pre .1 in
-    c .typed-obu2 .ensures ∙ inner-typed _ _ m _ _ _ (omega arith) ∙ inner-plain _ _ m _ (k .if1 .left) (e .if2 .left) (c .before .if3 .left)
+    c .typed-obu2 .ensures ∙ inner-plain _ _ m _ (k .if1 .left) (e .if2 .left) (c .before .if3 .left)
 
 pub inner-obu-spec : {M : Type 1} → statement M
 inner-obu-spec =

@@ -1,25 +1,14 @@
 use borrow.Author.Needs.{needs}
 use native.Mathlib.Omega.{arith}
-use mathlib.Core.Path.{_≡_, sym, _∙_, ap}
-use mathlib.Core.List.{List}
-use Prim.Native.Nat.{ℕ, _+_, _≤_}
+use mathlib.Core.Path.{_≡_, sym, _∙_}
+use Prim.Native.Nat.{_+_, _≤_}
 use denote.Ref.{now}
-use lib.ListN.{length}
-use Rattle.bitio.specs.Leb.{readLeb, number, lebAnswer}
-use Rattle.bitio.specs.declared.leb128.Leb.the-variants.{Value}
-use Rattle.bitio.proofs.LebLaws.{is-number, is-bad}
+use Rattle.bitio.specs.Leb.{readLeb, number}
+use Rattle.bitio.proofs.LebLaws.{is-bad}
 use Rattle.annexb.specs.code.Spans.{span}
-use Rattle.annexb.proofs.SpanLaws.{span-length, span-drop}
-use Rattle.annexb.proofs.PartLaws.{part-none, part-over, part-got}
+use Rattle.annexb.proofs.PartLaws.{number-at, part-none, part-over, part-got}
 use Rattle.annexb.proofs.annexb.part.part_at.Statement.{statement}
 use Rattle.annexb.proofs.annexb.part.part_at.Tie as tie
-
--- a number in the part from a to e
-number-at : (s : List ℕ) (a e v n : ℕ) → a ≤ e → e ≤ length s → lebAnswer (span s a e) (readLeb (span s a e)) ≡ Value v n
-    → (readLeb (span s a e) ≡ number v (span s (a + n) e)) × (a + n ≤ e)
-number-at s a e v n l m q =
-    let i = is-number (span s a e) v n q in
-    (i .read ∙ ap (number v) (span-drop s a e n), omega (arith, i .within, span-length s a e m))
 
 got : (c : tie.After-size)
     → (let a = c .before .before .before .before .before .args in
