@@ -21,7 +21,7 @@ const BOARDS: usize = 64;
 
 const NUMBERS: usize = WIDTH * BOARDS;
 
-// No refusal of document 01: the numbers are no five a segment, or of more segments than the array has.
+// No refusal of document 01: the numbers are no whole records, or of more segments than the array has.
 const UNFIT: u32 = 0xffff_ffff;
 
 // The segments of all records, and empty ones behind them.
