@@ -14,12 +14,12 @@ use Rattle.bitio.specs.Limits.{limit}
 use Rattle.bitio.specs.Lent.{pasted}
 use Rattle.bitio.proofs.ParseLaws.{pick-cases}
 use Rattle.bitio.proofs.LentLaws.{pasted-nil, pasted-more, pasted-length, pasted-take-end}
-use Rattle.blocks.specs.Numbers.{width, segmentCount, firstRecords}
+use Rattle.blocks.specs.Numbers.{width, recordOf, segmentCount, firstRecords}
+use Rattle.blocks.specs.declared.numbers.Segment.{Segment}
 use Rattle.pictures.specs.Assemble.{Outcome, stopped, Output}
 use Rattle.pictures.specs.declared.settings.Settings.{Settings}
 use Rattle.assemble.specs.Whole.{Lent, outcome}
-use Rattle.assemble.specs.Records.{recordIn, numbersOf, copyCount, numbersAfter, noRoom, copiedOutcome, recordsOutcome, noRecord}
-use Rattle.assemble.specs.declared.segments.Segment.{Segment}
+use Rattle.assemble.specs.Records.{numbersOf, copyCount, numbersAfter, noRoom, copiedOutcome, recordsOutcome, noRecord}
 
 -- ---- how many are copied
 
@@ -40,13 +40,13 @@ copied-room count room = pick-cases (λ n. n ≤ room / width) (leb count (room 
 pub numbers-length : (xs : List Segment) → length (numbersOf xs) ≡ width * length xs
 unfolding numbersOf
 numbers-length [] = refl
-numbers-length (x ∷ xs) = let e = numbers-length xs in length-append (recordIn x) (numbersOf xs) ∙ omega (arith, e)
+numbers-length (x ∷ xs) = let e = numbers-length xs in length-append (recordOf x) (numbersOf xs) ∙ omega (arith, e)
 
 numbers-nil : numbersOf [] ≡ []
 unfolding numbersOf
 numbers-nil = refl
 
-numbers-cons : (x : Segment) (xs : List Segment) → numbersOf (x ∷ xs) ≡ recordIn x ++ numbersOf xs
+numbers-cons : (x : Segment) (xs : List Segment) → numbersOf (x ∷ xs) ≡ recordOf x ++ numbersOf xs
 unfolding numbersOf
 numbers-cons x xs = refl
 
@@ -85,7 +85,7 @@ module _ {xs : List Segment} {d₀ d : List ℕ} {at i : ℕ} (r : Copying xs d�
     pub copy-room : at < segmentCount d
     copy-room = omega (arith, copied-room (length xs) (length d₀), r .place, r .len)
 
-    pub copy-turn : (m : ℕ) (d′ : List ℕ) → m ≡ at + 1 → d′ ≡ pasted d (width * at) (recordIn (getD xs i noRecord)) → Copying xs d₀ d′ m (i + 1)
+    pub copy-turn : (m : ℕ) (d′ : List ℕ) → m ≡ at + 1 → d′ ≡ pasted d (width * at) (recordOf (getD xs i noRecord)) → Copying xs d₀ d′ m (i + 1)
     copy-turn m d′ e f =
         let n = copyCount (length xs) (length d₀) in
         let x = getD xs i noRecord in
@@ -96,10 +96,10 @@ module _ {xs : List Segment} {d₀ d : List ℕ} {at i : ℕ} (r : Copying xs d�
         record {
           within = omega arith;
           place = omega (arith, r .place, e);
-          len = ap length f ∙ pasted-length d (width * at) (recordIn x) (omega (arith, copy-room)) ∙ r .len;
+          len = ap length f ∙ pasted-length d (width * at) (recordOf x) (omega (arith, copy-room)) ∙ r .len;
           rest =
               ap₂ (λ (y : List ℕ) (k : ℕ). pasted y k (numbersOf (drop (i + 1) (take n xs)))) f k
-              ∙ pasted-more d (width * at) (recordIn x) (omega (arith, copy-room)) (numbersOf (drop (i + 1) (take n xs)))
+              ∙ pasted-more d (width * at) (recordOf x) (omega (arith, copy-room)) (numbersOf (drop (i + 1) (take n xs)))
               ∙ ap (pasted d (width * at)) (sym (ap numbersOf behind ∙ numbers-cons x (drop (i + 1) (take n xs))))
               ∙ r .rest;
         }

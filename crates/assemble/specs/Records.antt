@@ -8,19 +8,15 @@ use lib.Dec.{leb, ltb}
 use Rattle.bitio.specs.Limits.{limit}
 use Rattle.bitio.specs.Lent.{pasted}
 use Rattle.blocks.specs.Numbers.{width, recordOf, segmentCount, firstRecords}
+use Rattle.blocks.specs.declared.numbers.Segment.{Segment}
 use Rattle.pictures.specs.Assemble.{Outcome, stopped, Output}
 use Rattle.pictures.specs.declared.settings.Settings.{Settings}
 use Rattle.assemble.specs.Whole.{Lent, outcome}
-use Rattle.assemble.specs.declared.segments.Segment.{Segment}
 
--- a segment's numbers, as assembly reads them
-abbrev pub recordIn : Segment → List ℕ
-recordIn x = recordOf (x .«key_start») (x .«key_end») (x .«golden_start») (x .«golden_end») (x .frames)
-
--- those of all segments, one after the other
+-- the records of all segments, one after the other
 unfoldable pub numbersOf : List Segment → List ℕ
 numbersOf [] = []
-numbersOf (x ∷ xs) = recordIn x ++ numbersOf xs
+numbersOf (x ∷ xs) = recordOf x ++ numbersOf xs
 
 -- what stands for a segment where there is none
 abbrev pub noRecord : Segment

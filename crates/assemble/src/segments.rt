@@ -4,24 +4,16 @@ ghost use mathlib.Core.Path.{_≡_};
 ghost use Prim.Native.Nat.{_+_, _*_, _<_};
 ghost use lib.ListN.{length};
 ghost use Rattle.bitio.specs.Lent.{pasted};
-ghost use Rattle.blocks.specs.Numbers.{width, segmentCount};
+ghost use Rattle.blocks.specs.Numbers.{width, recordOf, segmentCount};
 ghost use Rattle.assemble.specs.Whole.{six, Handed};
-ghost use Rattle.assemble.specs.Records.{recordIn, copyCount, numbersAfter, copiedOutcome, recordsOutcome};
+ghost use Rattle.assemble.specs.Records.{copyCount, numbersAfter, copiedOutcome, recordsOutcome};
 use crate::multi::Assembled;
 use crate::multi::assemble_multi;
 use bitio::limits::LIMIT;
+use blocks::numbers::Segment;
 use blocks::numbers::WIDTH;
 use blocks::numbers::put_record;
 use pictures::settings::Settings;
-
-// Where its key and its golden lie in the picture bytes, and its frames.
-pub struct Segment {
-    pub key_start: u64,
-    pub key_end: u64,
-    pub golden_start: u64,
-    pub golden_end: u64,
-    pub frames: u64,
-}
 
 // How many of count segments are copied: all, or none where there is no room for their numbers.
 fn copy_count(count: usize, room: usize) -> usize
@@ -36,17 +28,9 @@ fn copy_count(count: usize, room: usize) -> usize
 // One segment, as record `at`. Says which is the next.
 fn put_numbers(at: usize, segment: Segment, numbers: &mut [u64]) -> usize
     requires { ⌜ at < segmentCount (now numbers) ⌝ }
-    ensures { λ r. ⌜ (r ≡ at + 1) × (now (numbers .exit) ≡ pasted (now (numbers .entry)) (width * at) (recordIn segment)) ⌝ }
+    ensures { λ r. ⌜ (r ≡ at + 1) × (now (numbers .exit) ≡ pasted (now (numbers .entry)) (width * at) (recordOf segment)) ⌝ }
 {
-    put_record(
-        numbers,
-        at,
-        segment.key_start,
-        segment.key_end,
-        segment.golden_start,
-        segment.golden_end,
-        segment.frames,
-    );
+    put_record(numbers, at, segment);
     at + 1
 }
 

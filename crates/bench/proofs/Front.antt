@@ -24,8 +24,8 @@ use denote.Slice.{sliceVal, ShrSlice, Room}
 use denote.Lend.{lends-shr-slice}
 use denote.Index.{row, whole-out, whole-in}
 use borrow.Table.Elements.{at, cut-app, join-app}
-use Rattle.assemble.specs.declared.segments.Segment.{Segment}
-use Rattle.assemble.proofs.segments.Segment as T
+use Rattle.blocks.specs.declared.numbers.Segment.{Segment}
+use Rattle.blocks.proofs.numbers.Segment as T
 
 module _ (ys : List Segment) (c l : ℕ) (κ : Lft) where
   abbrev front : List Segment

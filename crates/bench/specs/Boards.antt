@@ -4,24 +4,20 @@ use mathlib.Core.Path.{_≡_}
 use mathlib.Core.List.{List, map}
 use mathlib.Core.Bool.{cond as pick}
 use mathlib.Core.Option.{none}
-use lib.ListN.{getD, replicate}
+use lib.ListN.{replicate}
 use lib.Seq.{sets}
 use lib.Dec.{leb}
 use denote.Triple.Both.{Both}
-use Rattle.blocks.specs.Numbers.{records, isWhole, segmentCount}
+use Rattle.blocks.specs.Numbers.{headSegment, records, isWhole, segmentCount}
+use Rattle.blocks.specs.declared.numbers.Segment.{Segment}
 use Rattle.pictures.specs.Assemble.{Outcome, stopped, Output}
 use Rattle.pictures.specs.declared.settings.Settings.{Settings}
 use Rattle.assemble.specs.Whole.{Lent, outcome, lentAfter, countsOf, assembledCode}
 use Rattle.assemble.specs.Records.{noRecord}
-use Rattle.assemble.specs.declared.segments.Segment.{Segment}
 
--- the segment of the record at the head of rs
-abbrev pub boardOf : List ℕ → Segment
-boardOf rs = record { «key_start» = getD rs 0 0; «key_end» = getD rs 1 0; «golden_start» = getD rs 2 0; «golden_end» = getD rs 3 0; frames = getD rs 4 0 }
-
--- those of all records
+-- the segments of all records
 abbrev pub boards : List ℕ → List Segment
-boards rs = map boardOf (records rs)
+boards rs = map headSegment (records rs)
 
 -- the same in an array of 64, behind them empty ones
 abbrev pub boardsIn : List ℕ → List Segment

@@ -1,18 +1,19 @@
 // Assembly by way of the entry on segment structs, for comparisons: flat numbers are put into a local array of structs,
 // whose front is lent. A caller that lends a slice of structs is proved by hand, so that assemble_boards does no more.
 ghost use mathlib.Core.Path.{_≡_};
-ghost use Prim.Native.Nat.{_≤_, _<_};
+ghost use Prim.Native.Nat.{_≤_};
 ghost use lib.ListN.{take};
-ghost use Rattle.blocks.specs.Numbers.{segmentCount, recordAt};
+ghost use Rattle.blocks.specs.Numbers.{segmentCount};
 ghost use Rattle.assemble.specs.Whole.{six, Handed};
 ghost use Rattle.assemble.specs.Records.{numbersAfter, recordsOutcome};
-ghost use Rattle.bench.specs.Boards.{boardOf, boardsIn, boardsOutcome};
+ghost use Rattle.bench.specs.Boards.{boardsIn, boardsOutcome};
 use assemble::multi::Assembled;
-use assemble::segments::Segment;
 use assemble::segments::assemble_segments;
+use blocks::numbers::Segment;
 use blocks::numbers::WIDTH;
 use blocks::numbers::is_whole;
 use blocks::numbers::segment_count;
+use blocks::numbers::segment_of;
 use pictures::settings::Settings;
 
 // As many boards as the array has.
@@ -20,23 +21,8 @@ const BOARDS: usize = 64;
 
 const NUMBERS: usize = WIDTH * BOARDS;
 
-// No refusal of document 01: the numbers are no five a segment, or of more segments than the array has.
+// No refusal of document 01: the numbers are no whole records, or of more segments than the array has.
 const UNFIT: u32 = 0xffff_ffff;
-
-// The segment of record i.
-fn board_of(segments: &[u64], i: usize) -> Segment
-    requires { ⌜ i < segmentCount (now segments) ⌝ }
-    ensures { λ r. ⌜ r ≡ boardOf (recordAt (now (segments .entry)) i) ⌝ }
-{
-    let at = WIDTH * i;
-    Segment {
-        key_start: segments[at],
-        key_end: segments[at + 1],
-        golden_start: segments[at + 2],
-        golden_end: segments[at + 3],
-        frames: segments[at + 4],
-    }
-}
 
 // The segments of all records, and empty ones behind them.
 fn boards_of(segments: &[u64]) -> [Segment; BOARDS]
@@ -54,7 +40,7 @@ fn boards_of(segments: &[u64]) -> [Segment; BOARDS]
     let count = segment_count(segments);
     let mut i: usize = 0;
     while i < count {
-        boards[i] = board_of(segments, i);
+        boards[i] = segment_of(segments, i);
         i += 1;
     }
     boards

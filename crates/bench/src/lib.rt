@@ -111,7 +111,7 @@ pub extern "C" fn bench_canonicalize_tu(unit: &[u8], out: &mut [u8]) -> usize
 }
 
 // Assembly by way of segment structs, at most 64: answered as magbelo_assemble does, or 4294967295 where the numbers are
-// no five a segment, or of more segments.
+// no whole records, or of more segments.
 #[no_mangle]
 pub extern "C" fn bench_assemble_segments(
     picture: &[u8],

@@ -1,15 +1,14 @@
 -- Laws of the segments' records: one after the other, and by index.
 use Prim.Native.Nat.{ℕ, zero, suc, _+_, _*_, _-_, _≤_, _<_}
 use native.Mathlib.Omega.{arith}
-use mathlib.Core.Path.{_≡_, refl, sym, ap, ap₂, _∙_}
-use mathlib.Core.List.{List, [], _∷_}
-use mathlib.Core.Bool.{Bool, _&&_}
-use lib.ListN.{length, getD, set, drop, length-map}
-use lib.Seq.{getD-drop, drop-drop}
-use Rattle.obu.specs.Place.{part}
+use mathlib.Core.Path.{_≡_, refl, sym, ap, _∙_}
+use mathlib.Core.List.{List, [], _∷_, _++_}
+use lib.ListN.{length, getD, set, take, drop, length-map}
+use lib.Seq.{getD-drop, drop-drop, length-take-le, drop-at}
 use Rattle.bitio.specs.Lent.{pasted}
 use Rattle.bitio.proofs.LentLaws.{pasted-sets}
-use Rattle.blocks.specs.Numbers.{width, recordOf, headFrames, inside, headInside, rest, segmentCount, recordAt, recordsFrom, records, recordsBehind, keyAt, goldenAt, framesIn}
+use Rattle.blocks.specs.Numbers.{width, recordOf, headSegment, headFrames, rest, segmentCount, firstRecords, recordAt, recordsFrom, records, recordsBehind, framesIn}
+use Rattle.blocks.specs.declared.numbers.Segment.{Segment}
 
 -- ---- one after the other
 
@@ -37,30 +36,42 @@ records-length (suc k) rs = ap suc (records-length k (rest rs))
 pub frames-length : (rs : List ℕ) → length (framesIn rs) ≡ segmentCount rs
 frames-length rs = length-map (records rs) headFrames ∙ records-length (segmentCount rs) rs
 
--- ---- a record's numbers by their places
+-- ---- a segment and its record
 
-pub number-at : (rs : List ℕ) (i j : ℕ) → getD rs (width * i + j) 0 ≡ getD (recordAt rs i) j 0
+number-at : (rs : List ℕ) (i j : ℕ) → getD rs (width * i + j) 0 ≡ getD (recordAt rs i) j 0
 number-at rs i j = sym (getD-drop (width * i) rs j 0)
 
-first-at : (rs : List ℕ) (i : ℕ) → getD rs (width * i) 0 ≡ getD (recordAt rs i) 0 0
-first-at rs i = let z : width * i ≡ width * i + 0 = omega arith in ap (λ (k : ℕ). getD rs k 0) z ∙ number-at rs i 0
+pub segment-at : (rs : List ℕ) (i : ℕ)
+    → _≡_ {A = Segment} (record { «key_start» = getD rs (width * i) 0; «key_end» = getD rs (width * i + 1) 0; «golden_start» = getD rs (width * i + 2) 0; «golden_end» = getD rs (width * i + 3) 0; frames = getD rs (width * i + 4) 0 })
+    (headSegment (recordAt rs i))
+segment-at rs i =
+    let z : width * i ≡ width * i + 0 = omega arith in
+    let e : getD rs (width * i) 0 ≡ getD (recordAt rs i) 0 0 = ap (λ (k : ℕ). getD rs k 0) z ∙ number-at rs i 0 in
+    λ t. record { «key_start» = e t; «key_end» = number-at rs i 1 t; «golden_start» = number-at rs i 2 t; «golden_end» = number-at rs i 3 t; frames = number-at rs i 4 t }
 
-module _ (s rs : List ℕ) (i : ℕ) where
-  pub key-at : part s (getD rs (width * i) 0) (getD rs (width * i + 1) 0) ≡ keyAt s rs i
-  key-at = ap₂ (part s) (first-at rs i) (number-at rs i 1)
-
-  pub golden-at : part s (getD rs (width * i + 2) 0) (getD rs (width * i + 3) 0) ≡ goldenAt s rs i
-  golden-at = ap₂ (part s) (number-at rs i 2) (number-at rs i 3)
-
-  pub inside-at : {x y : Bool} → x ≡ inside s (getD rs (width * i) 0) (getD rs (width * i + 1) 0) → y ≡ inside s (getD rs (width * i + 2) 0) (getD rs (width * i + 3) 0)
-      → (x && y) ≡ headInside s (recordAt rs i)
-  inside-at e f = ap₂ _&&_ (e ∙ ap₂ (inside s) (first-at rs i) (number-at rs i 1)) (f ∙ ap₂ (inside s) (number-at rs i 2) (number-at rs i 3))
-
-pub record-put : (d : List ℕ) (at a b c e n : ℕ) → at + width ≤ length d
-    → set (set (set (set (set d at a) (at + 1) b) (at + 2) c) (at + 3) e) (at + 4) n ≡ pasted d at (recordOf a b c e n)
-record-put d at a b c e n h =
+pub record-put : (d : List ℕ) (at : ℕ) (x : Segment) → at + width ≤ length d
+    → set (set (set (set (set d at (x .«key_start»)) (at + 1) (x .«key_end»)) (at + 2) (x .«golden_start»)) (at + 3) (x .«golden_end»)) (at + 4) (x .frames) ≡ pasted d at (recordOf x)
+record-put d at x h =
     let i : at + 1 ≡ suc at = omega arith in
     let j : at + 2 ≡ suc (suc at) = omega arith in
     let k : at + 3 ≡ suc (suc (suc at)) = omega arith in
     let l : at + 4 ≡ suc (suc (suc (suc at))) = omega arith in
-    rw (i, j, k, l) (pasted-sets d at (recordOf a b c e n) (omega arith))
+    rw (i, j, k, l) (pasted-sets d at (recordOf x) (omega arith))
+
+-- what was put as record i is read there
+pub segment-back : (d : List ℕ) (i : ℕ) (x : Segment) → i < segmentCount d → headSegment (recordAt (pasted d (width * i) (recordOf x)) i) ≡ x
+unfolding pasted
+segment-back d i x h =
+    let l = length-take-le (width * i) d (omega arith) in
+    ap headSegment (drop-at (take (width * i) d) (recordOf x ++ drop (width * i + width) d) (width * i) l)
+
+-- the other way: the first records are those of the segments read
+pub first-more : (k : ℕ) (rs : List ℕ) → width ≤ length rs → firstRecords (suc k) rs ≡ recordOf (headSegment rs) ++ firstRecords k (rest rs)
+first-more k [] h = absurd (omega arith)
+first-more k (a ∷ []) h = absurd (omega arith)
+first-more k (a ∷ b ∷ []) h = absurd (omega arith)
+first-more k (a ∷ b ∷ c ∷ []) h = absurd (omega arith)
+first-more k (a ∷ b ∷ c ∷ d ∷ []) h = absurd (omega arith)
+first-more k (a ∷ b ∷ c ∷ d ∷ n ∷ rs) h =
+    let z : width * suc k ≡ suc (suc (suc (suc (suc (width * k))))) = omega arith in
+    ap (λ (m : ℕ). take m (a ∷ b ∷ c ∷ d ∷ n ∷ rs)) z

@@ -5,25 +5,29 @@ use mathlib.Core.Bool.{Bool, _&&_}
 use lib.ListN.{length, getD, take, drop}
 use lib.Dec.{leb, eqb}
 use Rattle.obu.specs.Place.{part}
+use Rattle.blocks.specs.declared.numbers.Segment.{Segment}
 
 -- how many numbers a record has
 abbrev pub width : ℕ
 width = 5
 
--- where the key starts and ends in the picture bytes, where the golden does, and the frames
-abbrev pub recordOf : (key-start key-end golden-start golden-end frames : ℕ) → List ℕ
-recordOf a b c d n = a ∷ b ∷ c ∷ d ∷ n ∷ []
+-- a segment's record: where its key starts and ends in the picture bytes, where its golden does, and its frames
+abbrev pub recordOf : Segment → List ℕ
+recordOf x = x .«key_start» ∷ x .«key_end» ∷ x .«golden_start» ∷ x .«golden_end» ∷ x .frames ∷ []
 
 -- ---- the record at the head of rs, s being the picture bytes
 
+abbrev pub headSegment : List ℕ → Segment
+headSegment rs = record { «key_start» = getD rs 0 0; «key_end» = getD rs 1 0; «golden_start» = getD rs 2 0; «golden_end» = getD rs 3 0; frames = getD rs 4 0 }
+
 abbrev pub headKey : List ℕ → List ℕ → List ℕ
-headKey s rs = part s (getD rs 0 0) (getD rs 1 0)
+headKey s rs = part s (headSegment rs .«key_start») (headSegment rs .«key_end»)
 
 abbrev pub headGolden : List ℕ → List ℕ → List ℕ
-headGolden s rs = part s (getD rs 2 0) (getD rs 3 0)
+headGolden s rs = part s (headSegment rs .«golden_start») (headSegment rs .«golden_end»)
 
 abbrev pub headFrames : List ℕ → ℕ
-headFrames rs = getD rs 4 0
+headFrames rs = headSegment rs .frames
 
 -- the bytes from a to e lie within s
 abbrev pub inside : List ℕ → ℕ → ℕ → Bool
@@ -31,7 +35,8 @@ inside s a e = leb a e && leb e (length s)
 
 -- both units lie within s
 abbrev pub headInside : List ℕ → List ℕ → Bool
-headInside s rs = inside s (getD rs 0 0) (getD rs 1 0) && inside s (getD rs 2 0) (getD rs 3 0)
+headInside s rs =
+    inside s (headSegment rs .«key_start») (headSegment rs .«key_end») && inside s (headSegment rs .«golden_start») (headSegment rs .«golden_end»)
 
 -- the numbers behind it
 abbrev pub rest : List ℕ → List ℕ

@@ -82,11 +82,9 @@ module _ {s : List ℕ} {from count i sum : ℕ} (r : Summing s from count i sum
 -- ---- a record a segment
 
 -- the record of a segment, from what was read
-pub segment-put : (s d : List ℕ) {d′ : List ℕ} (w q a : ℕ) {x y z : ℕ} → x ≡ u32At s q → y ≡ u32At s (q + 4) → z ≡ numberAt s (q + 8) 8
-    → d′ ≡ pasted d w (recordOf a (a + x) (a + x) (a + x + y) z) → d′ ≡ pasted d w (segmentNumbers s q a)
-segment-put s d {d′} w q a {x} {y} {z} e f g h =
-    h ∙ ap₂ (λ (m n : ℕ). pasted d w (recordOf a (a + m) (a + m) (a + m + n) z)) e f
-    ∙ ap (λ (n : ℕ). pasted d w (recordOf a (a + u32At s q) (a + u32At s q) (segmentEnd s q a) n)) g
+pub segment-is : (s : List ℕ) (q a : ℕ) {x y z : ℕ} → x ≡ u32At s q → y ≡ u32At s (q + 4) → z ≡ numberAt s (q + 8) 8
+    → recordOf (record { «key_start» = a; «key_end» = a + x; «golden_start» = a + x; «golden_end» = a + x + y; frames = z }) ≡ segmentNumbers s q a
+segment-is s q a e f g = rw (e, f, g)
 
 numbers-none : (s : List ℕ) (q a : ℕ) → fileNumbersFrom s 0 q a ≡ []
 unfolding fileNumbersFrom

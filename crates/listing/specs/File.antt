@@ -71,7 +71,14 @@ segmentEnd s q a = a + keyLength s q + goldenLength s q
 
 -- its record: the golden starts where the key ends
 abbrev pub segmentNumbers : List ℕ → ℕ → ℕ → List ℕ
-segmentNumbers s q a = recordOf a (a + keyLength s q) (a + keyLength s q) (segmentEnd s q a) (fileFrames s q)
+segmentNumbers s q a =
+    recordOf (record {
+      «key_start» = a;
+      «key_end» = a + keyLength s q;
+      «golden_start» = a + keyLength s q;
+      «golden_end» = segmentEnd s q a;
+      frames = fileFrames s q;
+    })
 
 -- 01: units lie in segment order: those of k segments, the first standing at q and its key starting at a
 unfoldable pub fileNumbersFrom : List ℕ → ℕ → ℕ → ℕ → List ℕ

@@ -6,6 +6,7 @@ ghost use Rattle.bitio.specs.Lent.{pasted};
 ghost use Rattle.blocks.specs.Numbers.{width, segmentCount};
 ghost use Rattle.listing.specs.File.{numberAt, unitsLength, segmentNumbers, segmentEnd, fileNumbersFrom, FileSized, Records, layoutIn, readInto, fileNumbersAfter};
 ghost use Rattle.listing.specs.Says.{layoutSays, fileSays};
+use blocks::numbers::Segment;
 use blocks::numbers::WIDTH;
 use blocks::numbers::put_record;
 
@@ -127,7 +128,17 @@ fn put_segment(numbers: &mut [u64], i: usize, file: &[u8], from: usize, start: u
     let key = start + number(file, from, 4);
     let golden = key + number(file, from + 4, 4);
     let frames = number(file, from + 8, 8);
-    put_record(numbers, i, start, key, key, golden, frames);
+    put_record(
+        numbers,
+        i,
+        Segment {
+            key_start: start,
+            key_end: key,
+            golden_start: key,
+            golden_end: golden,
+            frames,
+        },
+    );
     golden
 }
 

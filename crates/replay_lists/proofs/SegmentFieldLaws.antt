@@ -15,7 +15,8 @@ pub settings-is : (fs : List ℕ) {a b c : ℕ} → a ≡ getD fs 0 0 → b ≡ 
 settings-is fs i j k = rw (i, j, k)
 
 module _ (es fs : List ℕ) where
-  pub record-is : (i : ℕ) {a b c n : ℕ} → a ≡ getD (0 ∷ es) (2 * i) 0 → b ≡ getD es (2 * i) 0 → c ≡ getD es (2 * i + 1) 0 → n ≡ getD fs (3 + i) 0 → recordOf a b b c n ≡ segmentRecord es fs i
+  pub record-is : (i : ℕ) {a b c n : ℕ} → a ≡ getD (0 ∷ es) (2 * i) 0 → b ≡ getD es (2 * i) 0 → c ≡ getD es (2 * i + 1) 0 → n ≡ getD fs (3 + i) 0
+      → recordOf (record { «key_start» = a; «key_end» = b; «golden_start» = b; «golden_end» = c; frames = n }) ≡ segmentRecord es fs i
   record-is i p q r s = rw (p, q, r, s)
 
   records-next : (n i : ℕ) → i < n → segmentRecords es fs i (n - i) ≡ segmentRecord es fs i ++ segmentRecords es fs (i + 1) (n - (i + 1))

@@ -24,7 +24,13 @@ settingsOf fs = record { gop = getD fs 0 0; fps = getD fs 1 0 % 2 ^ 32; den = ge
 -- segment i: its key and its golden are byte strings one behind the other, es their ends
 abbrev pub segmentRecord : List ℕ → List ℕ → ℕ → List ℕ
 segmentRecord es fs i =
-    recordOf (getD (0 ∷ es) (2 * i) 0) (getD es (2 * i) 0) (getD es (2 * i) 0) (getD es (2 * i + 1) 0) (getD fs (3 + i) 0)
+    recordOf (record {
+      «key_start» = getD (0 ∷ es) (2 * i) 0;
+      «key_end» = getD es (2 * i) 0;
+      «golden_start» = getD es (2 * i) 0;
+      «golden_end» = getD es (2 * i + 1) 0;
+      frames = getD fs (3 + i) 0;
+    })
 
 -- k segments from i on
 unfoldable pub segmentRecords : List ℕ → List ℕ → ℕ → ℕ → List ℕ

@@ -12,6 +12,7 @@ use assemble::multi::assemble_multi;
 use bitio::ends::end_of;
 use bitio::ends::start_of;
 use bitio::numbers::least;
+use blocks::numbers::Segment;
 use blocks::numbers::WIDTH;
 use blocks::numbers::put_record;
 use blocks::numbers::segment_count;
@@ -52,11 +53,13 @@ fn put_segments(ends: &[u32], numbers: &[u64], segments: &mut [u64])
         put_record(
             segments,
             i,
-            start_of(ends, 2 * i) as u64,
-            middle,
-            middle,
-            end_of(ends, 2 * i + 1) as u64,
-            number_at(numbers, 3 + i),
+            Segment {
+                key_start: start_of(ends, 2 * i) as u64,
+                key_end: middle,
+                golden_start: middle,
+                golden_end: end_of(ends, 2 * i + 1) as u64,
+                frames: number_at(numbers, 3 + i),
+            },
         );
         i += 1;
     }

@@ -38,18 +38,18 @@ use denote.Triple.Entry.{Args, Vals, onEntry}
 use denote.Triple.Spec.{Meets, tripleOf}
 use denote.Triple.Table.{entered, cited}
 use denote.Triple.Walked.{Stays, walkOf, Walks, ends-at, walked, walk-meets}
+use Rattle.blocks.specs.declared.numbers.Segment.{Segment}
 use Rattle.pictures.specs.declared.settings.Settings.{Settings}
 use Rattle.pictures.specs.Assemble.{Outcome, Output}
 use Rattle.assemble.specs.Whole.{Lent, six, Handed}
 use Rattle.assemble.specs.Records.{numbersAfter, copiedOutcome, recordsOutcome}
-use Rattle.assemble.specs.declared.segments.Segment.{Segment}
 use Rattle.assemble.specs.declared.multi.Assembled.{Assembled}
 use Rattle.pictures.proofs.settings.Settings as S
 use Rattle.pictures.proofs.settings.Settings.Laws as S′
 use Rattle.assemble.proofs.RecordLaws.{copied-is}
 use Rattle.assemble.proofs.Relend.{LentAgain, lends-again, comes-back}
 use Rattle.assemble.proofs.Handed.{all-handed, all-fit, all-go}
-use Rattle.assemble.proofs.segments.Segment as T
+use Rattle.blocks.proofs.numbers.Segment as T
 use Rattle.assemble.proofs.multi.Assembled as E
 use Rattle.assemble.proofs.multi.Assembled.Laws as E′
 use Rattle.assemble.proofs.segments.copy_segments as copy
@@ -242,6 +242,13 @@ module _ {M : Type 1} (𝓤 : URA M) (H : Heap 𝓤) (A : Atoms 𝓤) (W : Given
   goes-copied : ent 𝓤 (onEntry 𝓤 H A copied.signature κs₁ qs₁ a₁ at₁) (Copied 𝓤 H A mem run .pre to-copied)
   goes-copied = qed W (raw (onEntry 𝓤 H A copied.signature κs₁ qs₁ a₁ at₁) ∷ []) ∵ frame ! $ done !
 
+  -- the numbers' last list, among what each callee says of the last values
+  abbrev numbers-filled : (ν : ℕ) (δ : GName) → Lasts copy.ended (κ-segments, (ν ∷ [], tt)) (segments, (x′ δ ws, tt)) → List ℕ
+  numbers-filled ν δ zs = zs .1 .0
+
+  abbrev numbers-last : Lasts copied.ended κs₁ a₁ → List ℕ
+  numbers-last zs = zs .1 .1 .0
+
   -- what is promised of the result and the last values, at an outcome
   abbrev Promised : Assembled → Lasts copied.ended κs₁ a₁ → (Lent → Outcome Output) → SProp 𝓤
   Promised r zs o =
@@ -250,7 +257,7 @@ module _ {M : Type 1} (𝓤 : URA M) (H : Heap 𝓤) (A : Atoms 𝓤) (W : Given
         entry = six list cues pictures ends shows header;
         exit = record { list = l; cues = c; pictures = p; ends = e; shows = w; header = h };
       })))
-      (fact 𝓤 (zs .1 .1 .0 ≡ after))
+      (fact 𝓤 (numbers-last zs ≡ after))
 
   abbrev Says : ℕ → List ℕ → Type 0
   Says r zs = (r ≡ length ys) × (zs ≡ after)
@@ -262,7 +269,7 @@ module _ {M : Type 1} (𝓤 : URA M) (H : Heap 𝓤) (A : Atoms 𝓤) (W : Given
       suffices ! _ (ends-at 𝓤 H A f.ended stayed (f.clauses 𝓤 H A mem run) W ((κs, qs, bounds, a, at), tt) w r zs (all-fit κs (f.ended .signature .params) (f.ended .kept) a zs)) $
       -- the numbers were as long when they were lent
       move ! (2 ∷ []) $ fsplit ! $ move ! (1 ∷ []) $ fsplit ! $ move ! (1 ∷ []) $ fsplit ! $ fsplit ! $ move ! (1 ∷ []) $ feqL ! (λ l.
-      feqI ! ℕ (length (zs .1 .1 .0)) (length ws) (l ∙ len) $ move ! (1 ∷ 0 ∷ []) $ fjoin ! $ fjoin ! $ move ! (1 ∷ 0 ∷ []) $ fjoin ! $ move ! (1 ∷ 0 ∷ []) $ fjoin ! $
+      feqI ! ℕ (length (numbers-last zs)) (length ws) (l ∙ len) $ move ! (1 ∷ 0 ∷ []) $ fjoin ! $ fjoin ! $ move ! (1 ∷ 0 ∷ []) $ fjoin ! $ move ! (1 ∷ 0 ∷ []) $ fjoin ! $
       -- [the last values; the result; the tokens; what is promised; the segments' token]
       join ! $ move ! (1 ∷ []) $ split ! $ move ! (4 ∷ 1 ∷ []) $ join ! $ move ! (1 ∷ 0 ∷ []) $ join ! $ join ! $ frame ! $ done !)
 
@@ -291,15 +298,15 @@ module _ {M : Type 1} (𝓤 : URA M) (H : Heap 𝓤) (A : Atoms 𝓤) (W : Given
         calls-at ! fm (Copy 𝓤 H A mem run) known-copy (to-copy ν δ) (and-then ! (load ! (from ! (stop !)) (look ! 56 refl)) (and-then ! (load ! (from ! (stop !)) (look ! 34 refl)) (no-more !))) (λ w.
         use1 W (later (some (λ (r : ℕ). ((‵ (flft κ-segments q-segments) ⊛ ‵ (flft (ν ∷ []) fullShare) ⊛ ‵ ftrue) ⊛ ‵ (usize .own r (w ∷ [])))
         ⊛ raw (ensured 𝓤 H A copy.ended (copy.clauses 𝓤 H A mem run) (κ-segments, (ν ∷ [], tt)) (segments, (x′ δ ws, tt)) tt r)))) (id⊢ 𝓤 _) $ await ! tt $ pick ! (λ r. split ! $ move ! (1 ∷ []) $
-        use1 W (some (λ (zs : Lasts copy.ended (κ-segments, (ν ∷ [], tt)) (segments, (x′ δ ws, tt))). ‵ (lasts copy.ended (κ-segments, (ν ∷ [], tt)) (segments, (x′ δ ws, tt)) zs) ⊛ raw (fact 𝓤 (Says r (zs .1 .0))))) (id⊢ 𝓤 _) $ pick ! (λ zs.
-        split ! $ move ! (1 ∷ []) $ heard ! (Says r (zs .1 .0)) (λ e. fsplit ! $ drops ! $ fsplit ! $ fsplit ! $ move ! (1 ∷ []) $ feqL ! (λ l.
+        use1 W (some (λ (zs : Lasts copy.ended (κ-segments, (ν ∷ [], tt)) (segments, (x′ δ ws, tt))). ‵ (lasts copy.ended (κ-segments, (ν ∷ [], tt)) (segments, (x′ δ ws, tt)) zs) ⊛ raw (fact 𝓤 (Says r (numbers-filled ν δ zs))))) (id⊢ 𝓤 _) $ pick ! (λ zs.
+        split ! $ move ! (1 ∷ []) $ heard ! (Says r (numbers-filled ν δ zs)) (λ e. fsplit ! $ drops ! $ fsplit ! $ fsplit ! $ move ! (1 ∷ []) $ feqL ! (λ l.
         -- [the numbers' last list; true; the tokens and the result; what is lent; …]
         move ! (2 ∷ []) $ split ! $ move ! (1 ∷ []) $ peeks ! usize (Is usize) (showing 𝓤 H A usize) r (w ∷ []) (λ is.
         land ! (from ! (stop !)) (init ! 41 refl (uint-lawful 𝓤 H A W w64 .typed r _ is .0)) $ rewrite ! 41 (λ (u : Val). ‵ (fat fullShare (tyInt w64) l₁₁ 0 u)) (ap only (is .0)) refl $
         rewrite ! 41 (λ (u : ℕ). ‵ (fat fullShare (tyInt w64) l₁₁ 0 (vint w64 u))) (e .0) refl $
         -- the lifetime is ended, and the numbers come back
         move ! (1 ∷ []) $ split ! $ move ! (1 ∷ []) $ split ! $ lft-end ! tt $ move ! (0 ∷ 6 ∷ 4 ∷ []) $
-        use3 W (later (‵ (Own (zs .1 .0)) ⊛ ‵ (flft κ q))) (comes-back u64 κ (ν ∷ []) q (numbers .name) b′ o′ 𝓤 H A W (named 2) (named 1) ws δ (zs .1 .0) (rooms .for-numbers) l) $ await ! tt $ split ! $
+        use3 W (later (‵ (Own (numbers-filled ν δ zs)) ⊛ ‵ (flft κ q))) (comes-back u64 κ (ν ∷ []) q (numbers .name) b′ o′ 𝓤 H A W (named 2) (named 1) ws δ (numbers-filled ν δ zs) (rooms .for-numbers) l) $ await ! tt $ split ! $
         rewrite ! 0 (λ (m : List ℕ). ‵ (Own m)) (e .1) refl $ move ! (2 ∷ 4 ∷ 5 ∷ []) $ drops ! $ drops ! $ drops ! $
         -- [the numbers; their token; the segments'; the others'; the picture bytes'; what the others own; the picture bytes; the locals]
         assigns ! (addr ! (from ! (fld ! refl (hop ! (look-in ! 55 (sub ! 0 refl (whole !))) (stop !))))) (from ! (stop !)) (init ! 33 refl (tt, tt)) $
@@ -343,7 +350,8 @@ module _ {M : Type 1} (𝓤 : URA M) (H : Heap 𝓤) (A : Atoms 𝓤) (W : Given
   segments-walks : Walks 𝓤 H A f.ended stayed (WpFn 𝓤 H (𝓣 .C) (𝓣 .Λ) code.function) (f.clauses 𝓤 H A mem run)
   segments-walks = walked 𝓤 H A f.ended stayed (f.clauses 𝓤 H A mem run) (WpFn 𝓤 H (𝓣 .C) (𝓣 .Λ) code.function)
       (λ κs. (slice-vals, (slice-vals, (slice-vals, (settings-vals, (slice-vals, (slice-vals, (slice-vals, (slice-vals, (slice-vals, (slice-vals, tt)))))))))))
-      (λ κs. (shr-slice-tells (named 0) (κs .0) u8, (shr-slice-tells (named 1) (κs .1 .0) T.the-row, (mut-slice-tells (named 2) (κs .1 .1 .0) u64, (LL.tells S.the-type S′.the-laws, (mut-slice-tells (named 3) (κs .1 .1 .1 .0) u32, (mut-slice-tells (named 4) (κs .1 .1 .1 .1 .0) u32, (mut-slice-tells (named 5) (κs .1 .1 .1 .1 .1 .0) u8, (mut-slice-tells (named 6) (κs .1 .1 .1 .1 .1 .1 .0) u32, (mut-slice-tells (named 7) (κs .1 .1 .1 .1 .1 .1 .1 .0) u8, (mut-slice-tells (named 8) (κs .1 .1 .1 .1 .1 .1 .1 .1 .0) u8, tt)))))))))))
+      (λ κs. let (picture, (segments, (numbers, (list, (cues, (pictures, (ends, (shows, (header, _))))))))) = κs in
+      (shr-slice-tells (named 0) picture u8, (shr-slice-tells (named 1) segments T.the-row, (mut-slice-tells (named 2) numbers u64, (LL.tells S.the-type S′.the-laws, (mut-slice-tells (named 3) list u32, (mut-slice-tells (named 4) cues u32, (mut-slice-tells (named 5) pictures u8, (mut-slice-tells (named 6) ends u32, (mut-slice-tells (named 7) shows u8, (mut-slice-tells (named 8) header u8, tt)))))))))))
       (λ κs qs bounds a g are. let (picture, (segments, (numbers, (settings, (list, (cues, (pictures, (ends, (shows, (header, _)))))))))) = are in via 𝓤 _ (fst∗ 𝓤 _ (emp 𝓤)) (walk 𝓤 H A W mem run κs qs bounds a (𝓣 .C) (𝓣 .Λ) (fmOf 𝓤 H (W .laws) 𝓣) known-copy known-copied
       (record { for-picture = picture .0 .1; for-segments = segments .0 .1; for-numbers = numbers .0 .1; for-settings = settings; for-list = list .0 .1; for-cues = cues .0 .1; for-pictures = pictures .0 .1; for-ends = ends .0 .1; for-shows = shows .0 .1; for-header = header .0 .1 })))
 

@@ -52,13 +52,13 @@ use denote.Triple.Table.{entered, cited}
 use denote.Triple.Walked.{says, Stays, stay-none-slice, stay-slice, walkOf, goes-none-slice, goes-slice, Walks, ends-at, walked, walk-meets}
 use denote.Exit.{yes}
 use Rattle.bitio.specs.Lent.{pasted}
-use Rattle.blocks.specs.Numbers.{width, segmentCount}
-use Rattle.assemble.specs.Records.{recordIn, copyCount, numbersAfter, noRecord}
-use Rattle.assemble.specs.declared.segments.Segment.{Segment}
+use Rattle.blocks.specs.Numbers.{width, recordOf, segmentCount}
+use Rattle.blocks.specs.declared.numbers.Segment.{Segment}
+use Rattle.assemble.specs.Records.{copyCount, numbersAfter, noRecord}
 use Rattle.assemble.proofs.RecordLaws.{Copying, copy-start, copy-end, copy-less, copy-room, copy-turn}
 use Rattle.assemble.proofs.Relend.{LentAgain, lends-again, comes-back}
-use Rattle.assemble.proofs.segments.Segment as T
-use Rattle.assemble.proofs.segments.Segment.Laws as T′
+use Rattle.blocks.proofs.numbers.Segment as T
+use Rattle.blocks.proofs.numbers.Segment.Laws as T′
 use Rattle.assemble.proofs.segments.copy_count as count
 use Rattle.assemble.proofs.segments.copy_count.Symbol as count-def
 use Rattle.assemble.proofs.segments.copy_count.Symbol.{name as #count}
@@ -213,7 +213,7 @@ module _ {M : Type 1} (𝓤 : URA M) (H : Heap 𝓤) (A : Atoms 𝓤) (W : Given
 
     -- what `put_numbers` ensures of its result r and its last list zs
     abbrev Says : State → ℕ → List ℕ → Type 0
-    Says s r zs = (r ≡ s .to + 1) × (zs ≡ pasted (s .zs) (width * s .to) (recordIn (getD ys (s .i) noRecord)))
+    Says s r zs = (r ≡ s .to + 1) × (zs ≡ pasted (s .zs) (width * s .to) (recordOf (getD ys (s .i) noRecord)))
 
     -- the state after one more segment
     abbrev next : (s : State) (r : ℕ) (zs : List ℕ) → s .i < end → r < 2 ^ 64 → Says s r zs → State

@@ -47,11 +47,11 @@ use Rattle.pictures.proofs.settings.Settings as S
 use Rattle.pictures.proofs.settings.Settings.Laws as S′
 use Rattle.assemble.specs.Whole.{six, Handed}
 use Rattle.assemble.specs.Records.{numbersAfter, recordsOutcome}
-use Rattle.assemble.specs.declared.segments.Segment.{Segment}
+use Rattle.blocks.specs.declared.numbers.Segment.{Segment}
 use Rattle.assemble.specs.declared.multi.Assembled.{Assembled}
 use Rattle.assemble.proofs.Handed.{all-handed, all-fit, all-go}
-use Rattle.assemble.proofs.segments.Segment as T
-use Rattle.assemble.proofs.segments.Segment.Laws as T′
+use Rattle.blocks.proofs.numbers.Segment as T
+use Rattle.blocks.proofs.numbers.Segment.Laws as T′
 use Rattle.assemble.proofs.multi.Assembled as E
 use Rattle.assemble.proofs.multi.Assembled.Laws as E′
 use Rattle.assemble.proofs.segments.assemble_segments as callee

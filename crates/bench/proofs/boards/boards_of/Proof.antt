@@ -14,13 +14,13 @@ abbrev μ-loop : tie.MeasureT-loop
 loop-holds : tie.Need-loop-holds Inv-loop μ-loop
 loop-holds c = fill-start _
 
-board-of-requires : tie.Need-board-of-requires Inv-loop μ-loop
-board-of-requires c κs = search needs
+segment-of-requires : tie.Need-segment-of-requires Inv-loop μ-loop
+segment-of-requires c κs = search needs
 
 loop-again : tie.Need-loop-again Inv-loop μ-loop
 loop-again c =
     let l = c .before .before .loop in
-    fill-turn (l .inv) (omega (arith, c .before .loop-test .taken, c .before .before .before .segment-count .ensures)) (c .board-of .result) (c .board-of .ensures)
+    fill-turn (l .inv) (omega (arith, c .before .loop-test .taken, c .before .before .before .segment-count .ensures)) (c .segment-of .result) (c .segment-of .ensures)
 
 returns : tie.Need-returns Inv-loop μ-loop
 returns c = fill-end (c .before .loop .inv) (omega (arith, c .loop-test .left, c .before .before .segment-count .ensures))
@@ -33,7 +33,7 @@ boards-of-spec =
     μ-loop
     (λ c κs. search needs)
     loop-holds
-    board-of-requires
+    segment-of-requires
     (λ c. search needs)
     (λ c. search needs)
     (λ c. search needs)

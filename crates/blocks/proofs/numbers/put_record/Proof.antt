@@ -21,7 +21,7 @@ slice-write-numbers-5 : tie.Need-slice-write-numbers-5
 slice-write-numbers-5 c = simp length-set (omega (arith, c .pre))
 
 returns : tie.Need-returns
-returns c = let a = c .args in record-put (now (a .numbers)) (width * a .i) (a .key-start) (a .key-end) (a .golden-start) (a .golden-end) (a .frames) (omega (arith, c .pre))
+returns c = let a = c .args in record-put (now (a .numbers)) (width * a .i) (a .segment) (omega (arith, c .pre))
 
 pub put-record-spec : {M : Type 1} → statement M
 put-record-spec =

@@ -18,6 +18,33 @@ made-it p = p .before .before .before .before .before .before .before .before .b
 abbrev played : tie.After-behind → tie.After-play-list
 played c = c .before .before .before .before .before .before .before .before .before .before .before .before .before
 
+-- The lengths that a callee keeps stand in the order of its parameters. By name, those of the slices that it writes:
+record AssemblyKept (L C P E S H : Type 0) : Type 0 where
+  list : L
+  cues : C
+  pictures : P
+  ends : E
+  shows : S
+  header : H
+
+abbrev assembly-kept : {X Y Z L C P E S H R : Type 0} → X × (Y × (Z × (L × (C × (P × (E × (S × (H × R)))))))) → AssemblyKept L C P E S H
+assembly-kept k =
+    let (_, (_, (_, (list, (cues, (pictures, (ends, (shows, (header, _))))))))) = k in
+    record { list = list; cues = cues; pictures = pictures; ends = ends; shows = shows; header = header }
+
+record PlayKept (U E O B F S : Type 0) : Type 0 where
+  units : U
+  unit-ends : E
+  out : O
+  back : B
+  back-ends : F
+  shown : S
+
+abbrev play-kept : {I J X Y Z T U E O B F S R : Type 0} → I × (J × (X × (Y × (Z × (T × (U × (E × (O × (B × (F × (S × R))))))))))) → PlayKept U E O B F S
+play-kept k =
+    let (_, (_, (_, (_, (_, (_, (units, (unit-ends, (out, (back, (back-ends, (shown, _)))))))))))) = k in
+    record { units = units; unit-ends = unit-ends; out = out; back = back; back-ends = back-ends; shown = shown }
+
 part-play-list-end : tie.Need-part-play-list-end
 part-play-list-end c =
     let n = c .before .before in
@@ -54,44 +81,41 @@ returns-2 c =
     let g = k .before .before .before .before .before .before .before .before .before .before .before .before .before .before .assemble-multi in
     walk-stop _ _ _ _ _ _ _ (g .result) (g .ensures) _ _ _ (some _) refl (ap assembledSays (k .k2 .given .1))
 
--- The lengths that a callee keeps stand in the order of its parameters.
--- Of assembly's the fourth is the list, then the cues, pictures, ends, shows and header.
 same-length-13 : tie.Need-same-length-13
-same-length-13 c = assembly (made-it (played c)) .assemble-multi .kept .1 .1 .1 .0
+same-length-13 c = assembly-kept (assembly (made-it (played c)) .assemble-multi .kept) .list
 
 same-length-14 : tie.Need-same-length-14
-same-length-14 c = assembly (made-it (played c)) .assemble-multi .kept .1 .1 .1 .1 .0
+same-length-14 c = assembly-kept (assembly (made-it (played c)) .assemble-multi .kept) .cues
 
 same-length-15 : tie.Need-same-length-15
-same-length-15 c = assembly (made-it (played c)) .assemble-multi .kept .1 .1 .1 .1 .1 .0
+same-length-15 c = assembly-kept (assembly (made-it (played c)) .assemble-multi .kept) .pictures
 
 same-length-16 : tie.Need-same-length-16
-same-length-16 c = assembly (made-it (played c)) .assemble-multi .kept .1 .1 .1 .1 .1 .1 .0
+same-length-16 c = assembly-kept (assembly (made-it (played c)) .assemble-multi .kept) .ends
 
 same-length-17 : tie.Need-same-length-17
-same-length-17 c = assembly (made-it (played c)) .assemble-multi .kept .1 .1 .1 .1 .1 .1 .1 .0
+same-length-17 c = assembly-kept (assembly (made-it (played c)) .assemble-multi .kept) .shows
 
 same-length-18 : tie.Need-same-length-18
-same-length-18 c = assembly (made-it (played c)) .assemble-multi .kept .1 .1 .1 .1 .1 .1 .1 .1 .0
+same-length-18 c = assembly-kept (assembly (made-it (played c)) .assemble-multi .kept) .header
 
--- Of playing's the seventh is the units, then their ends, what was written, what was read back, its ends and what is shown.
 same-length-19 : tie.Need-same-length-19
-same-length-19 c = played c .play-list .kept .1 .1 .1 .1 .1 .1 .0
+same-length-19 c = play-kept (played c .play-list .kept) .units
 
 same-length-20 : tie.Need-same-length-20
-same-length-20 c = played c .play-list .kept .1 .1 .1 .1 .1 .1 .1 .0
+same-length-20 c = play-kept (played c .play-list .kept) .unit-ends
 
 same-length-21 : tie.Need-same-length-21
-same-length-21 c = played c .play-list .kept .1 .1 .1 .1 .1 .1 .1 .1 .0
+same-length-21 c = play-kept (played c .play-list .kept) .out
 
 same-length-22 : tie.Need-same-length-22
-same-length-22 c = played c .play-list .kept .1 .1 .1 .1 .1 .1 .1 .1 .1 .0
+same-length-22 c = play-kept (played c .play-list .kept) .back
 
 same-length-23 : tie.Need-same-length-23
-same-length-23 c = played c .play-list .kept .1 .1 .1 .1 .1 .1 .1 .1 .1 .1 .0
+same-length-23 c = play-kept (played c .play-list .kept) .back-ends
 
 same-length-24 : tie.Need-same-length-24
-same-length-24 c = played c .play-list .kept .1 .1 .1 .1 .1 .1 .1 .1 .1 .1 .1 .0
+same-length-24 c = play-kept (played c .play-list .kept) .shown
 
 returns-3 : tie.Need-returns-3
 returns-3 c =
