@@ -4,11 +4,14 @@ use mathlib.Core.Path.{_≡_, sym, ap, _∙_}
 use mathlib.Core.List.{List, _++_}
 use Rattle.bitio.specs.Parse.{Answer, refused, accepted}
 use Rattle.protocol.specs.declared.answer.Answer.{Answer as Line}
-use Rattle.protocol.specs.Answers.{partsOf, refusedWith, Numbered, numbered, withNumbers, parted}
+use Rattle.protocol.specs.Answers.{partsOf, refusedWith, Numbered, numbered, withNumbers, filled, parted}
 use Rattle.protocol.specs.Told.{numbersBy, told}
 use Rattle.protocol.proofs.AnswerLaws.{numbers-more}
 
 -- ---- answers with lent memory are equal where each part is
+
+pub same-filled : {r q : Line} {s t : List ℕ} → r ≡ q → s ≡ t → filled r s ≡ filled q t
+same-filled i j = rw (i, j)
 
 pub same-parted : {r q : Line} {s t e f : List ℕ} → r ≡ q → s ≡ t → e ≡ f → parted r s e ≡ parted q t f
 same-parted i j k = rw (i, j, k)

@@ -42,6 +42,16 @@ unfoldable pub withNumbers : Numbered → List ℕ → Numbered
 withNumbers t [] = t
 withNumbers t (v ∷ vs) = withNumbers (withNumber t v) vs
 
+-- ---- bytes
+
+-- an answer and the bytes lent to it
+pub record Filled : Type 0 where
+  pub answer : Answer
+  pub bytes : List ℕ
+
+abbrev pub filled : Answer → List ℕ → Filled
+filled a s = record { answer = a; bytes = s }
+
 -- ---- parts of the bytes
 
 -- an answer, and the bytes and ends lent to it

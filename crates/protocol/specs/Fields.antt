@@ -6,7 +6,7 @@ use lib.ListN.{length, getD, set}
 use lib.Dec.{leb, ltb, eqb}
 use Rattle.protocol.specs.Text.{Meaning, none, spells, byteString, readNumber, wordAt}
 use Rattle.protocol.specs.Says.{decodedTo, decodedIn}
-use Rattle.protocol.specs.Kinds.{separatorOf, refilledOf, restOf}
+use Rattle.protocol.specs.Kinds.{bytesKind, numberKind, number32Kind, optionalByteKind, noByte, separatorOf, refilledOf, restOf}
 use Rattle.protocol.specs.declared.kinds.Format.{Format}
 use Rattle.protocol.specs.declared.fields.Fields.{Fields}
 
@@ -50,7 +50,7 @@ bytesField t w =
 
 -- the largest number of a kind
 abbrev pub largestOf : ℕ → ℕ
-largestOf kind = pick (eqb kind 2) (2 ^ 64 - 1) (pick (eqb kind 3) (2 ^ 32 - 1) 255)
+largestOf kind = pick (eqb kind numberKind) (2 ^ 64 - 1) (pick (eqb kind number32Kind) (2 ^ 32 - 1) 255)
 
 abbrev pub isDash : List ℕ → Bool
 isDash w = pick (eqb (length w) 1) (eqb (getD w 0 0) 45) false
@@ -59,11 +59,11 @@ abbrev pub upTo : ℕ → Meaning ℕ → Meaning ℕ
 upTo most none = none
 upTo most (spells v) = pick (leb v most) (spells v) none
 
--- what the word w is as a number of a kind: 2 to 5, where of kind 5 `-` is 256
+-- what the word w is as a number of a kind
 unfoldable pub valueOf : ℕ → List ℕ → Meaning ℕ
 valueOf kind w =
-    pick (ltb kind 2 || ltb 5 kind) none (
-    pick (eqb kind 5 && isDash w) (spells 256) (upTo (largestOf kind) (readNumber w)))
+    pick (ltb kind numberKind || ltb optionalByteKind kind) none (
+    pick (eqb kind optionalByteKind && isDash w) (spells noByte) (upTo (largestOf kind) (readNumber w)))
 
 abbrev pub withValue : Reading → ℕ → Reading
 withValue t v =
@@ -92,7 +92,7 @@ behind t n g =
 
 -- the word w as a field of a kind
 abbrev pub fieldFrom : Reading → ℕ → List ℕ → Reading
-fieldFrom t kind w = pick (eqb kind 1) (bytesField t w) (valueField t kind w)
+fieldFrom t kind w = pick (eqb kind bytesKind) (bytesField t w) (valueField t kind w)
 
 -- the character before the field behind one of the first kind of f
 abbrev pub stopOf : Format → ℕ

@@ -4,8 +4,9 @@ use mathlib.Core.List.{List, [], _∷_, _++_}
 use mathlib.Core.Bool.{Bool, _&&_, _||_, cond as pick}
 use lib.ListN.{length, take, drop, getD}
 use lib.Dec.{leb, ltb, eqb}
-use Rattle.protocol.specs.Kinds.{separatorOf, refilledOf, restOf}
+use Rattle.protocol.specs.Kinds.{bytesKind, numberKind, optionalByteKind, noByte, countKind, namedKind, refusedKind, toldKind, any, separatorOf, refilledOf, restOf}
 use Rattle.protocol.specs.Marked.{isClean}
+use Rattle.protocol.specs.Text.{ascii}
 use Rattle.protocol.specs.Told.{Told}
 use Rattle.protocol.specs.Typed.{decimalText, bytesText}
 use Rattle.protocol.specs.declared.answer.Answer.{Answer}
@@ -14,9 +15,9 @@ use Rattle.protocol.specs.declared.printer.Printed.{Printed}
 
 -- ---- one item
 
--- `dirty`: a part that does not lie in the bytes
+-- a part that does not lie in the bytes
 abbrev pub dirtyText : List ℕ
-dirtyText = 100 ∷ 105 ∷ 114 ∷ 116 ∷ 121 ∷ []
+dirtyText = ascii "dirty"
 
 -- where part i ends: the last one with all the answer's bytes
 abbrev pub partEnd : Answer → List ℕ → ℕ → ℕ
@@ -32,17 +33,17 @@ rangeText s a e = pick (leb a e && leb e (length s)) (bytesText (take (e - a) (d
 unfoldable pub partText : Answer → List ℕ → List ℕ → ℕ → List ℕ
 partText a s es i = rangeText s (partStart a es i) (partEnd a es i)
 
--- a number: of kind 5 `-` for 256, of kind 8 `no` before it
+-- a number, `-` for a byte that is not given, or `no` and a number
 unfoldable pub valueText : ℕ → ℕ → List ℕ
 valueText kind v =
-    pick (eqb kind 5 && eqb v 256) (45 ∷ []) (pick (eqb kind 8) (110 ∷ 111 ∷ 32 ∷ decimalText v) (decimalText v))
+    pick (eqb kind optionalByteKind && eqb v noByte) (45 ∷ []) (pick (eqb kind refusedKind) (ascii "no " ++ decimalText v) (decimalText v))
 
--- an item of a kind: the next part (1), the part that the next number names (7), how many parts there are (6), or a number
+-- an item of a kind
 abbrev pub bodyText : Told → ℕ → ℕ → ℕ → List ℕ
 bodyText t kind part v =
-    pick (eqb kind 1) (partText (t .answer) (t .bytes) (t .ends) part) (
-    pick (eqb kind 7) (partText (t .answer) (t .bytes) (t .ends) v) (
-    pick (eqb kind 6) (decimalText (t .answer .ends)) (valueText kind v)))
+    pick (eqb kind bytesKind) (partText (t .answer) (t .bytes) (t .ends) part) (
+    pick (eqb kind namedKind) (partText (t .answer) (t .bytes) (t .ends) v) (
+    pick (eqb kind countKind) (decimalText (t .answer .ends)) (valueText kind v)))
 
 -- the item that comes, behind what stands before it
 unfoldable pub itemText : Told → Printed → List ℕ
@@ -56,24 +57,24 @@ afterOf i = min (i + 1) (2 ^ 64 - 1)
 -- repeated kinds end where there is no more for the first of them
 unfoldable pub isPrinted : Answer → Printed → Bool
 isPrinted a p =
-    pick (eqb (p .format .repeated % 16) 1) (eqb (p .format .kinds) 0 && leb (a .ends) (p .parts))
+    pick (eqb (p .format .repeated % 16) bytesKind) (eqb (p .format .kinds) 0 && leb (a .ends) (p .parts))
     (eqb (p .format .kinds) 0 && (leb (a .numbers) (p .numbers) || eqb (p .format .repeated) 0))
 
 abbrev pub openedBy : List ℕ → Printed → Format → Printed
 openedBy ns p f =
-    pick (eqb (f .kinds % 256) 9)
+    pick (eqb (f .kinds % 256) toldKind)
     (record { kind = getD ns (p .numbers) 0; format = restOf f; parts = p .parts; numbers = afterOf (p .numbers) })
     (record { kind = f .kinds % 256; format = restOf f; parts = p .parts; numbers = p .numbers })
 
--- at the next item: of kind 9 its own kind stands among the numbers, before it
+-- at the next item, whose kind may stand among the numbers, before it
 unfoldable pub openedOf : List ℕ → Printed → Printed
 openedOf ns p = openedBy ns p (refilledOf (p .format))
 
 -- behind an item that took a part or a number
 unfoldable pub pastOf : Printed → Printed
 pastOf p =
-    pick (eqb (p .kind % 16) 1) (record { kind = p .kind; format = p .format; parts = afterOf (p .parts); numbers = p .numbers }) (
-    pick (eqb (p .kind % 16) 6) p (record { kind = p .kind; format = p .format; parts = p .parts; numbers = afterOf (p .numbers) }))
+    pick (eqb (p .kind % 16) bytesKind) (record { kind = p .kind; format = p .format; parts = afterOf (p .parts); numbers = p .numbers }) (
+    pick (eqb (p .kind % 16) countKind) p (record { kind = p .kind; format = p .format; parts = p .parts; numbers = afterOf (p .numbers) }))
 
 -- the items from here on, k at most
 unfoldable pub itemsText : ℕ → Told → Printed → List ℕ
@@ -90,21 +91,20 @@ firstOf f = record { kind = 0; format = f; parts = 0; numbers = 0 }
 
 -- a refusal's line has its number, and what numbers come with it
 abbrev pub formatOf : Answer → Format → Format
-formatOf a f = pick (ltb 0 (a .refusal)) (record { kinds = 0; repeated = 2 }) f
+formatOf a f = pick (ltb 0 (a .refusal)) (any (numberKind ∷ [])) f
 
 -- `ok`, or `no` and the refusal's number
 abbrev pub headText : Answer → List ℕ
-headText a = pick (ltb 0 (a .refusal)) (valueText 8 (a .refusal)) (111 ∷ 107 ∷ [])
+headText a = pick (ltb 0 (a .refusal)) (valueText refusedKind (a .refusal)) (ascii "ok")
 
--- a line's end, behind ` dirty` where memory was changed that the answer does not account for
+-- a line's end; dirty: memory was changed that the answer does not account for
 abbrev pub endText : Bool → List ℕ
-endText clean = pick clean (10 ∷ []) (32 ∷ 100 ∷ 105 ∷ 114 ∷ 116 ∷ 121 ∷ 10 ∷ [])
+endText clean = pick clean (10 ∷ []) (ascii " dirty\n")
 
 unfoldable pub answerText : Told → Format → Bool → List ℕ
 answerText t f own =
     headText (t .answer)
     ++ (itemsText (2 ^ 64 - 1) t (firstOf (formatOf (t .answer) f)) ++ endText (isClean own (t .answer) (t .bytes) (t .ends) (t .numbers)))
 
--- `bad line`
 abbrev pub badLine : List ℕ
-badLine = 98 ∷ 97 ∷ 100 ∷ 32 ∷ 108 ∷ 105 ∷ 110 ∷ 101 ∷ 10 ∷ []
+badLine = ascii "bad line\n"

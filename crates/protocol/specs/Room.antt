@@ -48,6 +48,21 @@ abbrev pub sizeLent : Room → ℕ → ℕ → ℕ → ℕ
 sizeLent r kind given most = pick (eqb kind 0) 0 (pick (r .«is_given») given (pick (eqb kind 1) most 512))
 
 -- a hexadecimal digit each for bytes, ends and numbers, then 1 for memory of its own
+abbrev pub lendsBytes : ℕ
+lendsBytes = 0x1
+
+abbrev pub lendsFewBytes : ℕ
+lendsFewBytes = 0x2
+
+abbrev pub lendsEnds : ℕ
+lendsEnds = 0x10
+
+abbrev pub lendsNumbers : ℕ
+lendsNumbers = 0x100
+
+abbrev pub fillsOwn : ℕ
+fillsOwn = 0x1000
+
 abbrev pub lentBy : Room → ℕ → Lent
 lentBy r kinds =
     record {

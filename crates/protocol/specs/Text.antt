@@ -1,5 +1,7 @@
 -- The text of the line protocol: hexadecimal byte strings, decimal numbers, words. Characters are ASCII codes.
 use Prim.Native.Nat.{ℕ, _+_, _-_, _*_, _/_, _%_, _^_}
+use Prim.Native.Char.{code}
+use Prim.Native.String.{String, [] as ending, _∷_ as _before_}
 use mathlib.Core.List.{List, [], _∷_}
 use mathlib.Core.Bool.{Bool, true, false, cond as pick}
 use lib.ListN.{length, getD, drop}
@@ -9,6 +11,11 @@ use lib.Dec.{leb, ltb, eqb}
 pub data Meaning (A : Type 0) : Type 0 where
   none : Meaning A
   spells : A → Meaning A
+
+-- a text as the protocol has it
+abbrev pub ascii : String → List ℕ
+ascii ending = []
+ascii (c before s) = code c ∷ ascii s
 
 -- 0 to 9, then a to f
 unfoldable pub hexDigit : ℕ → ℕ

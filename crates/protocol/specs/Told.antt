@@ -3,7 +3,7 @@ use Prim.Native.Nat.{ℕ}
 use mathlib.Core.List.{List}
 use Rattle.bitio.specs.Parse.{Answer, refused, accepted}
 use Rattle.protocol.specs.declared.answer.Answer.{Answer as Line}
-use Rattle.protocol.specs.Answers.{partsOf, refusedWith, Numbered, numbered, withNumbers, Parted, parted, withParts}
+use Rattle.protocol.specs.Answers.{partsOf, refusedWith, Numbered, numbered, withNumbers, Filled, Parted, parted, withParts}
 
 -- a refusal by document 01's number, or what f makes of the rest
 abbrev pub toldBy : {A : Type 0} → (A → Line) → Answer A → Line
@@ -30,9 +30,12 @@ pub record Told : Type 0 where
 abbrev pub told : Line → List ℕ → List ℕ → List ℕ → Told
 told a s es ns = record { answer = a; bytes = s; ends = es; numbers = ns }
 
--- numbers beside bytes and ends, and these beside numbers
+-- numbers beside bytes and ends, bytes beside ends and numbers, bytes and ends beside numbers
 abbrev pub numbersTold : List ℕ → List ℕ → Numbered → Told
 numbersTold s es n = told (n .answer) s es (n .numbers)
+
+abbrev pub bytesTold : List ℕ → List ℕ → Filled → Told
+bytesTold es ns f = told (f .answer) (f .bytes) es ns
 
 abbrev pub partsTold : List ℕ → Parted → Told
 partsTold ns p = told (p .answer) (p .bytes) (p .ends) ns

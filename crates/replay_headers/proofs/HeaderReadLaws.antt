@@ -16,9 +16,9 @@ use Rattle.header.specs.declared.seq_header.SequenceAnswer.the-variants.{Header
 use Rattle.header.specs.declared.seq_header.SequenceRead.{SequenceRead}
 use Rattle.header.proofs.LimitedLaws.{limited-read}
 use Rattle.frame.proofs.FrameFromLaws.{read-whole}
-use Rattle.emit.specs.Emit.{emitPlaced, emitLent}
-use Rattle.protocol.specs.Told.{countTold}
-use Rattle.replay_headers.specs.Headers.{headerOf, supportOf, timedIf, renewed, emittedOf, emitAnswer, emitAfter}
+use Rattle.protocol.specs.Answers.{refusedWith, Filled, filled}
+use Rattle.protocol.specs.declared.answer.Answer.{Answer as Line}
+use Rattle.replay_headers.specs.Headers.{headerOf, supportOf, timedIf, renewed, emittedOf, emittedTold}
 
 -- ---- what the code answers for the payload s
 
@@ -105,13 +105,11 @@ unfolding andNext
 is-untimed b num den (Header h) i = rw i
 is-untimed b num den (Refused k) i = refl
 
--- ---- what is put into lent memory
+-- ---- emitted into the memory m, or not
 
-module _ (d : List ℕ) (x : Answer Sequence) where
-  pub emit-some : (q : Sequence) → x ≡ accepted q → (countTold (emitPlaced d 0 q) ≡ countTold (emitAnswer d x)) × (emitLent d 0 q ≡ emitAfter x d)
-  unfolding andNext
-  emit-some q e = (rw e, rw e)
+module _ (m : List ℕ) (x : Answer Sequence) where
+  pub emits : (q : Sequence) {t : Filled} → x ≡ accepted q → t ≡ emittedTold (accepted q) m → t ≡ emittedTold x m
+  emits q e h = h ∙ ap (λ y. emittedTold y m) (sym e)
 
-  pub emit-none : (k : ℕ) → x ≡ refused k → (countTold (refused k) ≡ countTold (emitAnswer d x)) × (d ≡ emitAfter x d)
-  unfolding andNext
-  emit-none k e = (rw e, rw e)
+  pub emits-none : (k : ℕ) {r : Line} → x ≡ refused k → r ≡ refusedWith k → filled r m ≡ emittedTold x m
+  emits-none k e h = ap (λ r. filled r m) h ∙ ap (λ y. emittedTold y m) (sym e)

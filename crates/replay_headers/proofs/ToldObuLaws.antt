@@ -11,7 +11,7 @@ use Rattle.obu.specs.declared.unit.Kind.the-variants.{Any}
 use Rattle.protocol.specs.declared.answer.Answer.{Answer as Line}
 use Rattle.protocol.specs.Answers.{partsOf, Numbered, numbered, withNumbers, parted, withParts}
 use Rattle.protocol.specs.Told.{Told, told, numbersTold, partsTold, tellNumbers, tellParts}
-use Rattle.replay_headers.specs.Headers.{tellObu, tellObus, obusTold}
+use Rattle.replay_headers.specs.Headers.{tellObu, tellObus, listTold}
 
 -- numbers, then a part
 pub tell-one : (a : Line) (m e n : List ℕ) (t : ℕ) {v w : ℕ} {xs ys : List ℕ} {b r : Line} {m' e' n' : List ℕ} → v ≡ w → xs ≡ ys
@@ -46,10 +46,10 @@ counted-none (accepted os) k e = let z : _≡_ {A = ℕ} 0 1 = cc in absurd (ome
 -- how many, then each
 module _ (m e n : List ℕ) where
   pub tell-obus : (x : Answer (List Obu)) (os : List Obu) (k : ℕ) {d a : Line} {n' : List ℕ} {u : Told} → x ≡ accepted os → k ≡ length os → d ≡ partsOf 0 0
-      → numbered a n' ≡ withNumbers (numbered d n) (k ∷ []) → u ≡ tellObus (told a m e n') os → u ≡ obusTold x m e n
+      → numbered a n' ≡ withNumbers (numbered d n) (k ∷ []) → u ≡ tellObus (told a m e n') os → u ≡ listTold x m e n
   tell-obus x os k {d} i j l f g =
       g
       ∙ ap (λ (y : Numbered). tellObus (numbersTold m e y) os) f
       ∙ ap (λ y. tellObus (numbersTold m e (withNumbers (numbered y n) (k ∷ []))) os) l
       ∙ ap (λ y. tellObus (numbersTold m e (withNumbers (numbered (partsOf 0 0) n) (y ∷ []))) os) j
-      ∙ ap (λ y. obusTold y m e n) (sym i)
+      ∙ ap (λ y. listTold y m e n) (sym i)

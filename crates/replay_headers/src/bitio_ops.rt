@@ -1,12 +1,7 @@
 // The operations of the crate bitio.
 ghost use mathlib.Core.Path.{_≡_};
-ghost use Rattle.bitio.specs.Bits.{readBits};
-ghost use Rattle.bitio.specs.Uvlc.{readUvlc};
-ghost use Rattle.bitio.specs.Leb.{readLeb, lebAnswer, lebBytes};
-ghost use Rattle.bitio.specs.Lent.{placed, lent};
-ghost use Rattle.protocol.specs.Answers.{numbered};
-ghost use Rattle.protocol.specs.Told.{countTold, numbersBy};
-ghost use Rattle.replay_headers.specs.Headers.{readingAnswer, lebSays};
+ghost use Rattle.protocol.specs.Answers.{numbered, filled};
+ghost use Rattle.replay_headers.specs.Headers.{bitsTold, uvlcTold, lebTold, lebputTold};
 use bitio::leb128::Leb;
 use bitio::leb128::Put;
 use bitio::leb128::leb128;
@@ -21,7 +16,7 @@ use protocol::answer::refused;
 
 // bits DATA POS N
 pub fn bits(s: &[u8], pos: u64, n: u64, numbers: &mut [u64]) -> Answer
-    ensures { λ r. ⌜ numbered r (now (numbers .exit)) ≡ numbersBy (λ l. l) (readingAnswer (readBits (now (s .entry)) pos n)) (now (numbers .entry)) ⌝ }
+    ensures { λ r. ⌜ numbered r (now (numbers .exit)) ≡ bitsTold (now (s .entry)) pos n (now (numbers .entry)) ⌝ }
 {
     let reader = BitReader { pos: pos as usize };
     match reader.f(s, n as usize) {
@@ -32,7 +27,7 @@ pub fn bits(s: &[u8], pos: u64, n: u64, numbers: &mut [u64]) -> Answer
 
 // uvlc DATA POS
 pub fn uvlc(s: &[u8], pos: u64, numbers: &mut [u64]) -> Answer
-    ensures { λ r. ⌜ numbered r (now (numbers .exit)) ≡ numbersBy (λ l. l) (readingAnswer (readUvlc (now (s .entry)) pos)) (now (numbers .entry)) ⌝ }
+    ensures { λ r. ⌜ numbered r (now (numbers .exit)) ≡ uvlcTold (now (s .entry)) pos (now (numbers .entry)) ⌝ }
 {
     let reader = BitReader { pos: pos as usize };
     match reader.uvlc(s) {
@@ -44,7 +39,7 @@ pub fn uvlc(s: &[u8], pos: u64, numbers: &mut [u64]) -> Answer
 
 // leb DATA
 pub fn leb(s: &[u8], numbers: &mut [u64]) -> Answer
-    ensures { λ r. ⌜ numbered r (now (numbers .exit)) ≡ numbersBy (λ l. l) (lebSays (lebAnswer (now (s .entry)) (readLeb (now (s .entry))))) (now (numbers .entry)) ⌝ }
+    ensures { λ r. ⌜ numbered r (now (numbers .exit)) ≡ lebTold (now (s .entry)) (now (numbers .entry)) ⌝ }
 {
     match leb128(s) {
         Leb::Value(v, n) => done().pair(v, n as u64, numbers),
@@ -54,8 +49,7 @@ pub fn leb(s: &[u8], numbers: &mut [u64]) -> Answer
 
 // lebput V
 pub fn lebput(v: u64, memory: &mut [u8]) -> Answer
-    ensures { λ r. ⌜ r ≡ countTold (placed (now (memory .entry)) 0 (lebBytes v)) ⌝ }
-    ensures { λ _. ⌜ now (memory .exit) ≡ lent (now (memory .entry)) 0 (lebBytes v) ⌝ }
+    ensures { λ r. ⌜ filled r (now (memory .exit)) ≡ lebputTold v (now (memory .entry)) ⌝ }
 {
     match leb128_encode(memory, 0, v) {
         Put::Next(n) => parts(n, 0),

@@ -1,17 +1,12 @@
 // The operations of the crate header.
 ghost use mathlib.Core.Path.{_≡_};
-ghost use Prim.Native.Nat.{_%_, _^_};
-ghost use Rattle.bitio.specs.Parse.{andNext};
-ghost use Rattle.bitio.specs.Limits.{limited};
+ghost use Rattle.bitio.specs.Parse.{accepted, andNext};
 ghost use Rattle.header.specs.Sequence.{sequenceOf, sequenceSays};
 ghost use Rattle.header.specs.Support.{support as supportIn};
-ghost use Rattle.emit.specs.Emit.{emitPlaced, emitLent};
-ghost use Rattle.frame.specs.Frame.{parseFrameFrom};
 ghost use Rattle.frame.specs.declared.frame_header.FrameHeaderInfo.the-variants.{Frame};
-ghost use Rattle.protocol.specs.Answers.{partsOf, numbered, withNumbers};
-ghost use Rattle.protocol.specs.Told.{toldBy, countTold, numbersBy};
-ghost use Rattle.replay_headers.specs.Fields.{sequenceFields};
-ghost use Rattle.replay_headers.specs.Headers.{headerOf, supportOf, timedIf, emittedOf, emitAnswer, emitAfter, frameFields};
+ghost use Rattle.protocol.specs.Answers.{partsOf, numbered, filled, withNumbers};
+ghost use Rattle.protocol.specs.Told.{toldBy};
+ghost use Rattle.replay_headers.specs.Headers.{seqTold, supportTold, timedIf, emittedTold, emitTold, frameFields, frameTold};
 use crate::sequence_fields::put_sequence;
 use emit::seq_header::emit::emit_sequence_header;
 use frame::frame_header::FrameAnswer;
@@ -33,7 +28,7 @@ use protocol::answer::refused;
 
 // seq PAYLOAD
 pub fn seq(s: &[u8], numbers: &mut [u64]) -> Answer
-    ensures { λ r. ⌜ numbered r (now (numbers .exit)) ≡ numbersBy sequenceFields (headerOf (now (s .entry))) (now (numbers .entry)) ⌝ }
+    ensures { λ r. ⌜ numbered r (now (numbers .exit)) ≡ seqTold (now (s .entry)) (now (numbers .entry)) ⌝ }
 {
     let read = parse_sequence_header(s);
     let answer = read.answer;
@@ -55,7 +50,7 @@ fn support_of(h: SequenceHeader) -> Answer
 
 // support PAYLOAD
 pub fn support(s: &[u8]) -> Answer
-    ensures { λ r. ⌜ r ≡ toldBy (λ _. partsOf 0 0) (supportOf (now (s .entry))) ⌝ }
+    ensures { λ r. ⌜ r ≡ supportTold (now (s .entry)) ⌝ }
 {
     let read = parse_sequence_header(s);
     let answer = read.answer;
@@ -66,8 +61,7 @@ pub fn support(s: &[u8]) -> Answer
 }
 
 fn emit_into(h: SequenceHeader, points: [OperatingPoint; 32], memory: &mut [u8]) -> Answer
-    ensures { λ r. ⌜ r ≡ countTold (emitPlaced (now (memory .entry)) 0 (sequenceOf h points)) ⌝ }
-    ensures { λ _. ⌜ now (memory .exit) ≡ emitLent (now (memory .entry)) 0 (sequenceOf h points) ⌝ }
+    ensures { λ r. ⌜ filled r (now (memory .exit)) ≡ emittedTold (accepted (sequenceOf h points)) (now (memory .entry)) ⌝ }
 {
     match emit_sequence_header(h, points, memory, 0) {
         Emitted::Next(n) => parts(n, 0),
@@ -90,8 +84,7 @@ fn retimed(answer: SequenceAnswer, is_timed: bool, num: u32, den: u32) -> Sequen
 
 // emit PAYLOAD, timed PAYLOAD NUM DEN
 pub fn emit(s: &[u8], is_timed: bool, num: u64, den: u64, memory: &mut [u8]) -> Answer
-    ensures { λ r. ⌜ r ≡ countTold (emitAnswer (now (memory .entry)) (emittedOf «is_timed» (num % 2 ^ 32) (den % 2 ^ 32) (now (s .entry)))) ⌝ }
-    ensures { λ _. ⌜ now (memory .exit) ≡ emitAfter (emittedOf «is_timed» (num % 2 ^ 32) (den % 2 ^ 32) (now (s .entry))) (now (memory .entry)) ⌝ }
+    ensures { λ r. ⌜ filled r (now (memory .exit)) ≡ emitTold (now (s .entry)) «is_timed» num den (now (memory .entry)) ⌝ }
 {
     let read = parse_sequence_header(s);
     let points = read.operating_points;
@@ -129,7 +122,7 @@ fn header_info(x: FrameHeaderInfo, numbers: &mut [u64]) -> Answer
 
 // frame SEQPAYLOAD FRAMEPAYLOAD
 pub fn frame(sequence: &[u8], payload: &[u8], numbers: &mut [u64]) -> Answer
-    ensures { λ r. ⌜ numbered r (now (numbers .exit)) ≡ numbersBy frameFields (limited (now (payload .entry)) (limited (now (sequence .entry)) (parseFrameFrom (now (sequence .entry)) (now (payload .entry))))) (now (numbers .entry)) ⌝ }
+    ensures { λ r. ⌜ numbered r (now (numbers .exit)) ≡ frameTold (now (sequence .entry)) (now (payload .entry)) (now (numbers .entry)) ⌝ }
 {
     match parse_frame_header_info(payload, sequence) {
         FrameAnswer::Header(x) => header_info(x, numbers),

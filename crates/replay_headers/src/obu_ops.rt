@@ -1,11 +1,10 @@
 // The operations of the crate obu.
 ghost use mathlib.Core.Path.{_≡_};
-ghost use Prim.Native.Nat.{_%_};
-ghost use Rattle.obu.specs.Obu.{obus as obusIn};
 ghost use Rattle.obu.specs.Place.{extensionSays, part};
-ghost use Rattle.obu.specs.Write.{obu, obuPlaced, obuLent};
-ghost use Rattle.protocol.specs.Told.{countTold, told};
-ghost use Rattle.replay_headers.specs.Headers.{extensionNumber, extensionFrom, tellObu, AllTold, obusTold};
+ghost use Rattle.obu.specs.Write.{obu};
+ghost use Rattle.protocol.specs.Answers.{filled};
+ghost use Rattle.protocol.specs.Told.{told};
+ghost use Rattle.replay_headers.specs.Headers.{extensionNumber, extensionFrom, tellObu, AllTold, obusTold, obuputTold};
 use obu::reader::Extension;
 use obu::reader::Obu;
 use obu::reader::ObuAt;
@@ -71,7 +70,7 @@ fn put_obus(
 
 // obus UNIT
 pub fn obus(s: &[u8], memory: &mut [u8], ends: &mut [u32], numbers: &mut [u64]) -> Answer
-    ensures { λ r. ⌜ told r (now (memory .exit)) (now (ends .exit)) (now (numbers .exit)) ≡ obusTold (obusIn (now (s .entry))) (now (memory .entry)) (now (ends .entry)) (now (numbers .entry)) ⌝ }
+    ensures { λ r. ⌜ told r (now (memory .exit)) (now (ends .exit)) (now (numbers .exit)) ≡ obusTold (now (s .entry)) (now (memory .entry)) (now (ends .entry)) (now (numbers .entry)) ⌝ }
 {
     match count_obus(s, Kind::Any) {
         Counted::Count(n) => {
@@ -93,8 +92,7 @@ fn extension_of(value: u64) -> Extension
 
 // obuput TYPE EXT PAYLOAD
 pub fn obuput(kind: u64, extension: u64, payload: &[u8], memory: &mut [u8]) -> Answer
-    ensures { λ r. ⌜ r ≡ countTold (obuPlaced (now (memory .entry)) 0 (kind % 256) (extensionFrom extension) (now (payload .entry))) ⌝ }
-    ensures { λ _. ⌜ now (memory .exit) ≡ obuLent (now (memory .entry)) 0 (kind % 256) (extensionFrom extension) (now (payload .entry)) ⌝ }
+    ensures { λ r. ⌜ filled r (now (memory .exit)) ≡ obuputTold kind extension (now (payload .entry)) (now (memory .entry)) ⌝ }
 {
     let e = extension_of(extension);
     match put_obu(memory, 0, (kind % 256) as u8, e, payload) {

@@ -12,7 +12,7 @@ use Rattle.protocol.specs.declared.answer.Answer.{Answer}
 use Rattle.protocol.specs.Answers.{partsOf, Numbered, numbered, withNumbers}
 use Rattle.obu.specs.Place.{partIn}
 use Rattle.protocol.proofs.AnswerLaws.{numbers-more}
-use Rattle.replay_lists.specs.Plays.{shownFields, playFields, playsOf}
+use Rattle.replay_lists.specs.Plays.{shownFields, playFields, playTold}
 
 pub shown-told : (t : Numbered) {x : Shows} (y : Shows) {u : Numbered} → u ≡ withNumbers t (shownFields y) → x ≡ y → u ≡ withNumbers t (shownFields x)
 shown-told t y e i = e ∙ ap (λ z. withNumbers t (shownFields z)) (sym i)
@@ -41,6 +41,6 @@ module _ (s es : List ℕ) where
   play-end t st i ps h = rw (drop-of-length-le ps {i = i} h)
 
   pub play-told : (ps ns : List ℕ) {t : Numbered} {d : Answer} {st : State} → t ≡ withNumbers (numbered d ns) (playFields s es st 0 ps) → d ≡ partsOf 0 0 → st ≡ startState
-      → t ≡ withNumbers (numbered (partsOf 0 0) ns) (playsOf s es ps)
+      → t ≡ playTold s es ps ns
   play-told ps ns {st = st} e i j =
       e ∙ ap (λ x. withNumbers (numbered x ns) (playFields s es st 0 ps)) i ∙ ap (λ x. withNumbers (numbered (partsOf 0 0) ns) (playFields s es x 0 ps)) j

@@ -12,6 +12,7 @@ use Rattle.assemble.specs.declared.multi.Counts.{Counts}
 use Rattle.protocol.specs.declared.answer.Answer.{Answer}
 use Rattle.protocol.specs.declared.lent.Lent.{Lent as Room}
 use Rattle.protocol.specs.Answers.{partsOf, refusedWith}
+use Rattle.protocol.specs.Kinds.{numberKind, namedKind, afterComma}
 use Rattle.protocol.specs.Marked.{byteMark, endMark, isMarked}
 use Rattle.obu.specs.Place.{part}
 use Rattle.protocol.specs.Told.{Told, told, tellNumbers, tellParts}
@@ -75,7 +76,7 @@ kindFields first others (v ∷ vs) = first ∷ v ∷ kindFields others others vs
 -- how many units, the slot, the header's part; each cue, a comma before all but the first; the part that each entry names
 abbrev pub numbersMade : Counts → (list cues : List ℕ) → List ℕ
 numbersMade c list cues =
-    (c .units ∷ c .«golden_slot» ∷ entriesOf c ∷ []) ++ (kindFields 2 0x22 (take (c .cues) cues) ++ kindFields 7 7 (take (c .units) list))
+    (c .units ∷ c .«golden_slot» ∷ entriesOf c ∷ []) ++ (kindFields numberKind (afterComma numberKind) (take (c .cues) cues) ++ kindFields namedKind namedKind (take (c .units) list))
 
 -- in the memory s, es, ns lent to the answer; a refusal leaves its bytes and ends
 unfoldable pub assembledTold : Outcome Counts → Lent → List ℕ → List ℕ → List ℕ → Told
@@ -109,6 +110,7 @@ handedTold x d s es ns =
 unfoldable pub outcomeTold : Outcome Output → Lent → List ℕ → List ℕ → List ℕ → Told
 outcomeTold x d s es ns = handedTold (countsOf x) (lentAfter x d) s es ns
 
+-- assemble GOP FPS DEN KEY GOLDEN FRAMES ..
 unfoldable pub assembleTold : Room → List ℕ → List ℕ → List ℕ → List ℕ → List ℕ → List ℕ → Told
 assembleTold room s es fs out-s out-es out-ns =
     outcomeTold (outcome s (segmentRecords es fs 0 (segmentsAsked es)) (settingsOf fs) (slicesLent room)) (slicesLent room) out-s out-es out-ns

@@ -6,12 +6,14 @@ use Rattle.player.specs.declared.slots.Answer.{Answer as Shows}
 use Rattle.player.specs.declared.slots.Answer.the-variants.{Shown, Nothing, Refused}
 use Rattle.player.specs.declared.step.State.{State}
 use Rattle.obu.specs.Place.{partIn}
+use Rattle.protocol.specs.Answers.{partsOf, Numbered, numbered, withNumbers}
+use Rattle.protocol.specs.Kinds.{numberKind, optionalByteKind, noByte, refusedKind}
 
--- a position as a number, `-`, or `no` and document 01's number (the kinds 2, 5 and 8)
+-- a position as a number, `-`, or `no` and document 01's number
 abbrev pub shownFields : Shows → List ℕ
-shownFields (Shown q) = 2 ∷ q ∷ []
-shownFields Nothing = 5 ∷ 256 ∷ []
-shownFields (Refused k) = 8 ∷ k ∷ []
+shownFields (Shown q) = numberKind ∷ q ∷ []
+shownFields Nothing = optionalByteKind ∷ noByte ∷ []
+shownFields (Refused k) = refusedKind ∷ k ∷ []
 
 -- byte string i of s, es being the ends, is played under the first position, and so on
 unfoldable pub playFields : List ℕ → List ℕ → State → ℕ → List ℕ → List ℕ
@@ -19,6 +21,6 @@ playFields s es st i [] = []
 playFields s es st i (p ∷ ps) =
     shownFields (playedBy st p (partIn s es i) .answer) ++ playFields s es (playedBy st p (partIn s es i) .state) (suc i) ps
 
--- from empty slots on
-abbrev pub playsOf : List ℕ → List ℕ → List ℕ → List ℕ
-playsOf s es ps = playFields s es startState 0 ps
+-- play POS:UNIT .., from empty slots on
+abbrev pub playTold : (s es ps ns : List ℕ) → Numbered
+playTold s es ps ns = withNumbers (numbered (partsOf 0 0) ns) (playFields s es startState 0 ps)

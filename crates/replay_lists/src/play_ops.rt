@@ -1,8 +1,8 @@
 // The operation of the crate player.
 ghost use mathlib.Core.Path.{_≡_};
 ghost use Rattle.player.specs.Values.{playedBy};
-ghost use Rattle.protocol.specs.Answers.{partsOf, numbered, withNumbers};
-ghost use Rattle.replay_lists.specs.Plays.{shownFields, playFields, playsOf};
+ghost use Rattle.protocol.specs.Answers.{numbered, withNumbers};
+ghost use Rattle.replay_lists.specs.Plays.{shownFields, playFields, playTold};
 use player::play::played;
 use player::slots::Answer as Shown;
 use player::start::start_state;
@@ -58,7 +58,7 @@ fn play_all(s: &[u8], ends: &[u32], positions: &[u64], numbers: &mut [u64], star
 
 // play POS:UNIT ..
 pub fn play(s: &[u8], ends: &[u32], positions: &[u64], numbers: &mut [u64]) -> Answer
-    ensures { λ r. ⌜ numbered r (now (numbers .exit)) ≡ withNumbers (numbered (partsOf 0 0) (now (numbers .entry))) (playsOf (now (s .entry)) (now (ends .entry)) (now (positions .entry))) ⌝ }
+    ensures { λ r. ⌜ numbered r (now (numbers .exit)) ≡ playTold (now (s .entry)) (now (ends .entry)) (now (positions .entry)) (now (numbers .entry)) ⌝ }
 {
     let state = start_state();
     let answer = done();

@@ -1,2 +1,3 @@
+mod TableLaws
 mod OperateLaws
 mod RequestLaws

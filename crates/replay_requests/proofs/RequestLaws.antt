@@ -16,7 +16,8 @@ use Rattle.protocol.specs.declared.lent.Room.{Room}
 use Rattle.protocol.specs.declared.lent.Lent.{Lent}
 use Rattle.protocol.proofs.TextLaws.{word-between}
 use Rattle.replay_requests.specs.declared.Row.{Row}
-use Rattle.replay_requests.specs.Requests.{rowOf, asked, answered, Requested, requested, requestWith, nameFrom, nameIn, rowIn, readingIn, requestIn, requestOf}
+use Rattle.replay_requests.specs.Rows.{rowOf, asked, answered}
+use Rattle.replay_requests.specs.Requests.{Requested, requested, requestWith, nameFrom, nameIn, rowIn, readingIn, requestIn, requestOf}
 
 module _ (s d es ns : List ℕ) where
   pub request-is : (room : Room) (from end key : ℕ) (row : Row) (lent : Lent) (f : Fields) (all there : Bool) {d' es' ns' : List ℕ} → room ≡ roomPrefix s

@@ -1,3 +1,4 @@
-pub mod Names
+pub mod Table
+pub mod Rows
 pub mod Requests
 pub mod Operations

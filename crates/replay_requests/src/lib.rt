@@ -1,7 +1,8 @@
 // The requests: a row for each, and the operation that answers it.
 ghost use mathlib.Core.Path.{_≡_};
 ghost use Rattle.protocol.specs.Told.{told};
-ghost use Rattle.replay_requests.specs.Requests.{rowOf, requested, requestIn, requestOf};
+ghost use Rattle.replay_requests.specs.Rows.{rowOf};
+ghost use Rattle.replay_requests.specs.Requests.{requested, requestIn, requestOf};
 ghost use Rattle.replay_requests.specs.Operations.{operated};
 use bitio::numbers::least;
 use protocol::answer::Answer;

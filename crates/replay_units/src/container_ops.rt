@@ -1,13 +1,9 @@
 // The operations of the crates container, annexb and packets.
 ghost use mathlib.Core.Path.{_≡_};
-ghost use lib.ListN.{length};
-ghost use Rattle.container.specs.Container.{stream as inStream, annexb as inAnnexb, read, writeAt};
-ghost use Rattle.container.specs.Units.{splitSays, byteCountSays, countOf, outAfter};
-ghost use Rattle.packets.specs.Packets.{canonicalAt};
-ghost use Rattle.packets.specs.PacketLists.{lentRoom, mergedAt};
-ghost use Rattle.protocol.specs.Answers.{parted};
+ghost use Rattle.container.specs.Units.{splitSays, byteCountSays};
+ghost use Rattle.protocol.specs.Answers.{filled, parted};
 ghost use Rattle.protocol.specs.Told.{countTold, told};
-ghost use Rattle.replay_units.specs.Containers.{roomIn, sizesTold, unitsTold, packetsTold};
+ghost use Rattle.replay_units.specs.Containers.{sizesTold, streamTold, annexbTold, wstreamTold, wannexbTold, canonTold, packetsTold};
 use annexb::annexb::split_annexb;
 use annexb::annexb::write_annexb;
 use container::stream::split_obu_stream;
@@ -41,38 +37,35 @@ fn of_count(answer: ByteCount) -> Answer
 
 // stream DATA
 pub fn stream(s: &[u8], memory: &mut [u8], ends: &mut [u32]) -> Answer
-    ensures { λ r. ⌜ parted r (now (memory .exit)) (now (ends .exit)) ≡ unitsTold (read inStream (roomIn (now (memory .entry)) (now (ends .entry))) (now (s .entry))) (now (memory .entry)) (now (ends .entry)) ⌝ }
+    ensures { λ r. ⌜ parted r (now (memory .exit)) (now (ends .exit)) ≡ streamTold (now (s .entry)) (now (memory .entry)) (now (ends .entry)) ⌝ }
 {
     of_split(split_obu_stream(s, memory, ends))
 }
 
 // annexb DATA
 pub fn annexb(s: &[u8], memory: &mut [u8], ends: &mut [u32]) -> Answer
-    ensures { λ r. ⌜ parted r (now (memory .exit)) (now (ends .exit)) ≡ unitsTold (read inAnnexb (roomIn (now (memory .entry)) (now (ends .entry))) (now (s .entry))) (now (memory .entry)) (now (ends .entry)) ⌝ }
+    ensures { λ r. ⌜ parted r (now (memory .exit)) (now (ends .exit)) ≡ annexbTold (now (s .entry)) (now (memory .entry)) (now (ends .entry)) ⌝ }
 {
     of_split(split_annexb(s, memory, ends))
 }
 
 // wstream UNIT ..
 pub fn wstream(s: &[u8], unit_ends: &[u32], memory: &mut [u8]) -> Answer
-    ensures { λ r. ⌜ r ≡ countTold (countOf (writeAt inStream (record { bytes = length (now (memory .entry)); ends = 0 }) (now (s .entry)) (now («unit_ends» .entry)))) ⌝ }
-    ensures { λ _. ⌜ now (memory .exit) ≡ outAfter (writeAt inStream (record { bytes = length (now (memory .entry)); ends = 0 }) (now (s .entry)) (now («unit_ends» .entry))) (now (memory .entry)) ⌝ }
+    ensures { λ r. ⌜ filled r (now (memory .exit)) ≡ wstreamTold (now (s .entry)) (now («unit_ends» .entry)) (now (memory .entry)) ⌝ }
 {
     of_count(write_obu_stream(s, unit_ends, memory))
 }
 
 // wannexb UNIT ..
 pub fn wannexb(s: &[u8], unit_ends: &[u32], memory: &mut [u8]) -> Answer
-    ensures { λ r. ⌜ r ≡ countTold (countOf (writeAt inAnnexb (record { bytes = length (now (memory .entry)); ends = 0 }) (now (s .entry)) (now («unit_ends» .entry)))) ⌝ }
-    ensures { λ _. ⌜ now (memory .exit) ≡ outAfter (writeAt inAnnexb (record { bytes = length (now (memory .entry)); ends = 0 }) (now (s .entry)) (now («unit_ends» .entry))) (now (memory .entry)) ⌝ }
+    ensures { λ r. ⌜ filled r (now (memory .exit)) ≡ wannexbTold (now (s .entry)) (now («unit_ends» .entry)) (now (memory .entry)) ⌝ }
 {
     of_count(write_annexb(s, unit_ends, memory))
 }
 
 // canon UNIT
 pub fn canon(unit: &[u8], memory: &mut [u8]) -> Answer
-    ensures { λ r. ⌜ r ≡ countTold (countOf (canonicalAt (record { bytes = length (now (memory .entry)); ends = 0 }) (now (unit .entry)))) ⌝ }
-    ensures { λ _. ⌜ now (memory .exit) ≡ outAfter (canonicalAt (record { bytes = length (now (memory .entry)); ends = 0 }) (now (unit .entry))) (now (memory .entry)) ⌝ }
+    ensures { λ r. ⌜ filled r (now (memory .exit)) ≡ canonTold (now (unit .entry)) (now (memory .entry)) ⌝ }
 {
     of_count(canonicalize_tu(unit, memory))
 }
@@ -86,7 +79,7 @@ pub fn packets(
     ends: &mut [u32],
     numbers: &mut [u64],
 ) -> Answer
-    ensures { λ r. ⌜ told r (now (memory .exit)) (now (ends .exit)) (now (numbers .exit)) ≡ packetsTold (mergedAt (lentRoom (now (memory .entry)) (now (ends .entry)) (now (numbers .entry))) (now (s .entry)) (now («packet_ends» .entry)) (now (times .entry))) (now (memory .entry)) (now (ends .entry)) (now (numbers .entry)) ⌝ }
+    ensures { λ r. ⌜ told r (now (memory .exit)) (now (ends .exit)) (now (numbers .exit)) ≡ packetsTold (now (s .entry)) (now («packet_ends» .entry)) (now (times .entry)) (now (memory .entry)) (now (ends .entry)) (now (numbers .entry)) ⌝ }
 {
     match merge_frameless_packets(s, packet_ends, times, memory, ends, numbers) {
         Merged::Packets(n, u) => {

@@ -1,85 +1,87 @@
-use borrow.Author.Tests.{ne-eqb}
 use mathlib.Core.Path.{sym, ap}
 use mathlib.Core.Logic.{⊎-elim, inl, inr}
-use Rattle.replay_requests.specs.Names.{bitsName, uvlcName, lebName, lebputName, obusName, obuputName, seqName, supportName, emitName, timedName, frameName, streamName, annexbName, wstreamName, wannexbName, canonName, packetsName, assembleName, playName}
-use Rattle.replay_requests.specs.Requests.{rowOf}
+use Rattle.protocol.specs.Text.{wordKey, keyFrom}
+use Rattle.replay_requests.specs.Table.{found}
+use Rattle.replay_requests.specs.Rows.{rows, rowOf}
+use Rattle.replay_requests.proofs.TableLaws.{found-none}
 use Rattle.replay_requests.proofs.row_of.Statement.{statement}
 use Rattle.replay_requests.proofs.row_of.Tie as tie
 
 returns : tie.Need-returns
-unfolding rowOf
+unfolding rowOf rows found wordKey keyFrom
 returns c = ap rowOf (sym (c .match .keys1))
 
 returns-2 : tie.Need-returns-2
-unfolding rowOf
+unfolding rowOf rows found wordKey keyFrom
 returns-2 c = ap rowOf (sym (c .match .keys2))
 
 returns-3 : tie.Need-returns-3
-unfolding rowOf
+unfolding rowOf rows found wordKey keyFrom
 returns-3 c = ap rowOf (sym (c .match .keys3))
 
 returns-4 : tie.Need-returns-4
-unfolding rowOf
+unfolding rowOf rows found wordKey keyFrom
 returns-4 c = ap rowOf (sym (c .match .keys4))
 
 returns-5 : tie.Need-returns-5
-unfolding rowOf
+unfolding rowOf rows found wordKey keyFrom
 returns-5 c = ap rowOf (sym (c .match .keys5))
 
 returns-6 : tie.Need-returns-6
-unfolding rowOf
+unfolding rowOf rows found wordKey keyFrom
 returns-6 c = ap rowOf (sym (c .match .keys6))
 
 returns-7 : tie.Need-returns-7
-unfolding rowOf
+unfolding rowOf rows found wordKey keyFrom
 returns-7 c = ap rowOf (sym (c .match .keys7))
 
 returns-8 : tie.Need-returns-8
-unfolding rowOf
+unfolding rowOf rows found wordKey keyFrom
 returns-8 c = ap rowOf (sym (c .match .keys8))
 
 returns-9 : tie.Need-returns-9
-unfolding rowOf
+unfolding rowOf rows found wordKey keyFrom
 returns-9 c = ap rowOf (sym (c .match .keys9))
 
 returns-10 : tie.Need-returns-10
-unfolding rowOf
+unfolding rowOf rows found wordKey keyFrom
 returns-10 c = ap rowOf (sym (c .match .keys10))
 
 returns-11 : tie.Need-returns-11
-unfolding rowOf
+unfolding rowOf rows found wordKey keyFrom
 returns-11 c = ap rowOf (sym (c .match .keys11))
 
 returns-12 : tie.Need-returns-12
-unfolding rowOf
+unfolding rowOf rows found wordKey keyFrom
 returns-12 c = ⊎-elim (λ h. ap rowOf (sym h)) (λ h. ap rowOf (sym h)) (c .match .keys12)
 
 returns-13 : tie.Need-returns-13
-unfolding rowOf
+unfolding rowOf rows found wordKey keyFrom
 returns-13 c = ⊎-elim (λ h. ap rowOf (sym h)) (λ h. ap rowOf (sym h)) (c .match .keys13)
 
 returns-14 : tie.Need-returns-14
-unfolding rowOf
+unfolding rowOf rows found wordKey keyFrom
 returns-14 c = ap rowOf (sym (c .match .keys14))
 
 returns-15 : tie.Need-returns-15
-unfolding rowOf
+unfolding rowOf rows found wordKey keyFrom
 returns-15 c = ap rowOf (sym (c .match .keys15))
 
 returns-16 : tie.Need-returns-16
-unfolding rowOf
+unfolding rowOf rows found wordKey keyFrom
 returns-16 c = ap rowOf (sym (c .match .keys16))
 
 returns-17 : tie.Need-returns-17
-unfolding rowOf
+unfolding rowOf rows found wordKey keyFrom
 returns-17 c = ap rowOf (sym (c .match .keys17))
 
 returns-18 : tie.Need-returns-18
-unfolding rowOf
+unfolding rowOf rows wordKey keyFrom
 returns-18 c =
     let r = c .match .rest in
-    rw (ne-eqb _ bitsName (r .0 .0 .0 .0 .0 .0 .0 .0 .0 .0 .0 .0 .0 .0 .0 .0 .1), ne-eqb _ uvlcName (r .0 .0 .0 .0 .0 .0 .0 .0 .0 .0 .0 .0 .0 .0 .0 .1), ne-eqb _ lebName (r .0 .0 .0 .0 .0 .0 .0 .0 .0 .0 .0 .0 .0 .0 .1), ne-eqb _ lebputName (r .0 .0 .0 .0 .0 .0 .0 .0 .0 .0 .0 .0 .0 .1), ne-eqb _ obusName (r .0 .0 .0 .0 .0 .0 .0 .0 .0 .0 .0 .0 .1), ne-eqb _ obuputName (r .0 .0 .0 .0 .0 .0 .0 .0 .0 .0 .0 .1), ne-eqb _ seqName (r .0 .0 .0 .0 .0 .0 .0 .0 .0 .0 .1), ne-eqb _ supportName (r .0 .0 .0 .0 .0 .0 .0 .0 .0 .1), ne-eqb _ emitName (r .0 .0 .0 .0 .0 .0 .0 .0 .1), ne-eqb _ timedName (r .0 .0 .0 .0 .0 .0 .0 .1))
-    (rw (ne-eqb _ frameName (r .0 .0 .0 .0 .0 .0 .1), ne-eqb _ streamName (λ h. r .0 .0 .0 .0 .0 .1 (inr h)), ne-eqb _ annexbName (λ h. r .0 .0 .0 .0 .0 .1 (inl h)), ne-eqb _ wstreamName (λ h. r .0 .0 .0 .0 .1 (inr h)), ne-eqb _ wannexbName (λ h. r .0 .0 .0 .0 .1 (inl h)), ne-eqb _ canonName (r .0 .0 .0 .1), ne-eqb _ packetsName (r .0 .0 .1), ne-eqb _ assembleName (r .0 .1), ne-eqb _ playName (r .1)))
+    let split = r .0 .0 .0 .0 .0 .1 in
+    let write = r .0 .0 .0 .0 .1 in
+    found-none _ _ rows _ ((((((((r .0 .0 .0 .0 .0 .0, λ h. split (inr h)), λ h. split (inl h)), λ h. write (inr h)), λ h. write (inl h)), r .0 .0 .0 .1), r .0 .0 .1), r .0 .1), r .1)
 
 pub row-of-spec : {M : Type 1} → statement M
 row-of-spec =

@@ -1,24 +1,21 @@
 use borrow.Author.Needs.{needs}
 use mathlib.Core.Path.{sym, ap, _∙_}
 use Rattle.header.specs.Sequence.{sequenceSays}
-use Rattle.replay_headers.proofs.HeaderReadLaws.{emitted-read, emitted-refused, emit-some, emit-none}
+use Rattle.replay_headers.proofs.HeaderReadLaws.{emitted-read, emitted-refused, emits, emits-none}
 use Rattle.replay_headers.proofs.header_ops.emit.Statement.{statement}
 use Rattle.replay_headers.proofs.header_ops.emit.Tie as tie
 
 returns : tie.Need-returns
 returns c =
-    let w = c .before .before .emit-into .ensures in
     let p = c .before .before .before .before .before .before .before .before .before .parse-sequence-header in
     let e = emitted-read _ (p .result) (p .ensures) _ _ _ _ (sym (c .before .before .before .before .before .before .before .retimed .ensures) ∙ ap sequenceSays (c .before .before .before .before .before .h .given .1)) in
-    let (i, j) = emit-some _ _ _ e in
-    (w .0 ∙ i, w .1 ∙ j)
+    emits _ _ _ e (c .before .before .emit-into .ensures)
 
 returns-2 : tie.Need-returns-2
 returns-2 c =
     let p = c .before .before .before .before .before .before .parse-sequence-header in
     let e = emitted-refused _ (p .result) (p .ensures) _ _ _ _ (sym (c .before .before .before .before .retimed .ensures) ∙ ap sequenceSays (c .before .before .k .given .1)) in
-    let (i, j) = emit-none _ _ _ e in
-    (c .refused .ensures ∙ i, j)
+    emits-none _ _ _ e (c .refused .ensures)
 
 pub emit-spec : {M : Type 1} → statement M
 emit-spec =

@@ -1,13 +1,14 @@
 use borrow.Author.Needs.{needs}
 use mathlib.Core.Path.{ap, _∙_}
 use Rattle.protocol.specs.Told.{countTold}
+use Rattle.protocol.proofs.ToldLaws.{same-filled}
 use Rattle.replay_units.proofs.container_ops.wstream.Statement.{statement}
 use Rattle.replay_units.proofs.container_ops.wstream.Tie as tie
 
 returns : tie.Need-returns
 returns c =
     let w = c .before .before .before .write-obu-stream .ensures in
-    (c .of-count .ensures ∙ ap countTold (w .0), w .1)
+    same-filled (c .of-count .ensures ∙ ap countTold (w .0)) (w .1)
 
 pub wstream-spec : {M : Type 1} → statement M
 wstream-spec =
