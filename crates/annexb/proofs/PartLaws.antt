@@ -8,14 +8,13 @@ use mathlib.Core.Bool.{Bool, true, false, cond as pick}
 use lib.ListN.{length, getD, take, drop, length-append}
 use borrow.Author.Tests.{lt-leb, le-leb, ne-eqb}
 use Rattle.bitio.specs.Parse.{Answer, refused, accepted, Head, stop, item, before, within}
-use Rattle.bitio.specs.Leb.{number, readLeb, sized}
-use Rattle.bitio.specs.Leb.Number.{none as noNumber}
+use Rattle.bitio.specs.Leb.{noLeb, lebThen, readLeb, sized}
 use Rattle.bitio.proofs.ParseLaws.{pick-both, pick-cases, Parts}
 use Rattle.bitio.proofs.LebLaws.{Sized, sized-parts}
-use Rattle.obu.specs.Obu.{Obu, flag, obuType, passes, made}
+use Rattle.obu.specs.Obu.{Obu, flag, obuType, passes, obuWith}
 use types.Run.{OneOf}
 use denote.Enum.Declared.{tagOf}
-use Rattle.obu.specs.Place.{Place, lies, refusalOf}
+use Rattle.obu.specs.Place.{Place, lies, placeRefusal}
 use Rattle.obu.specs.Place.Place.{wrong as wrongObu}
 use Rattle.container.specs.AnnexB.{typed, extendedB, innerObu, lengthObu}
 use Rattle.annexb.specs.code.Spans.{span, wrong, spot, spotOf, placeTo, spotRefusal, partSays, innerSays}
@@ -30,11 +29,11 @@ use Rattle.annexb.proofs.SpanLaws.{span-length, span-drop, span-take, s
 -- ---- the outcomes of a sized part
 
 module _ (s : List ℕ) (at e x y : ℕ) where
-  pub part-none : readLeb (span s at e) ≡ noNumber → wrong x ≡ spotOf e (sized x y (span s at e))
+  pub part-none : readLeb (span s at e) ≡ noLeb → wrong x ≡ spotOf e (sized x y (span s at e))
   unfolding sized
   part-none b = rw b
 
-  module _ (m : e ≤ length s) (n q : ℕ) (b : readLeb (span s at e) ≡ number n (span s q e)) where
+  module _ (m : e ≤ length s) (n q : ℕ) (b : readLeb (span s at e) ≡ lebThen n (span s q e)) where
     pub part-over : e - q < n → wrong y ≡ spotOf e (sized x y (span s at e))
     unfolding sized
     part-over l =
@@ -97,8 +96,8 @@ module _ (s : List ℕ) (e : ℕ) (m : e ≤ length s) where
       let z : e - 0 ≡ e = omega arith in
       go (passes (obuType h)) (rw (n, k, z))
     where
-      go : (b : Bool) → lies (obuType h) x p e ≡ placeTo e (item (made h x (span s p e)) [])
-          → pick b (lies (obuType h) x p e) (wrongObu 2) ≡ filling e (pick b (accepted (made h x (span s p e))) (refused 2))
+      go : (b : Bool) → lies (obuType h) x p e ≡ placeTo e (item (obuWith h x (span s p e)) [])
+          → pick b (lies (obuType h) x p e) (wrongObu 2) ≡ filling e (pick b (accepted (obuWith h x (span s p e))) (refused 2))
       go true q = q
       go false q = refl
 
@@ -229,7 +228,7 @@ module _ (s : List ℕ) (at e : ℕ) where
       go (item t r) q = let z : _≡_ {A = ℕ} 0 1 = cc in absurd (omega arith)
 
   -- an answer that is no OBU is a refusal
-  pub not-obu : (r : InnerAt) → OneOf (1 ∷ []) (tagOf inner-type r) → innerSays r ≡ placeTo e (lengthObu (span s at e)) → lengthObu (span s at e) ≡ stop (refusalOf (innerSays r))
+  pub not-obu : (r : InnerAt) → OneOf (1 ∷ []) (tagOf inner-type r) → innerSays r ≡ placeTo e (lengthObu (span s at e)) → lengthObu (span s at e) ≡ stop (placeRefusal (innerSays r))
   not-obu (Found o) k q = absurd (omega arith)
   not-obu (InnerRefused n) k q = is-no-obu (sym q)
 

@@ -5,13 +5,13 @@ use mathlib.Core.Option.{Option, none, some}
 use mathlib.Core.Bool.{cond as pick}
 use Rattle.bitio.specs.Parse.{Answer, refused, accepted, answer, Head, within, many}
 use Rattle.bitio.specs.Leb.{sized, framed}
-use Rattle.obu.specs.Obu.{Obu, flag, obuType, passes, made, header, obus, unitBytes}
+use Rattle.obu.specs.Obu.{Obu, flag, obuType, passes, obuWith, header, obus, unitBytes}
 use Rattle.container.specs.Stream.{flat}
 
 -- ---- reading
 
 abbrev pub typed : ℕ → Option ℕ → List ℕ → Answer Obu
-typed h e p = pick (passes (obuType h)) (accepted (made h e p)) (refused 2)
+typed h e p = pick (passes (obuType h)) (accepted (obuWith h e p)) (refused 2)
 
 abbrev pub extendedB : ℕ → List ℕ → Answer Obu
 extendedB h [] = refused 3

@@ -8,10 +8,11 @@ use mathlib.Core.Option.{Option, none, some}
 use lib.ListN.{length, getD, take, drop, length-take, length-drop}
 use lib.Dec.{eqb, ltb, leb}
 use borrow.Author.Tests.{eqb-true, eqb-false, ltb-false, leb-true}
-use Rattle.bitio.specs.Parse.{Answer, refused, accepted, andNext, onto}
+use Rattle.bitio.specs.Parse.{Answer, refused, accepted, andNext}
 use Rattle.bitio.specs.Limits.{limit}
 use Rattle.bitio.specs.Every.{Every}
-use Rattle.bitio.specs.Every.Every.{none as nothing, also}
+use Rattle.bitio.specs.Every.Every.{nothing, also}
+use Rattle.bitio.proofs.ParseLaws.{onto-is}
 use Rattle.obu.specs.Obu.{Obu, obus}
 use Rattle.obu.specs.Unit.{isFrame, has, lastPayload, firstPayload, ofUnit}
 use Rattle.obu.specs.Place.{part}
@@ -314,17 +315,13 @@ segment-short s rs x e = go (headInside s rs) e
     go true e = let z : segmentIn s rs ≡ x = cc in rw (← z) (part-short s _ _, part-short s _ _)
     go false e = let z : _≡_ {A = ℕ} 0 1 = cc in absurd (omega arith)
 
-onto-is : {A : Type 0} (a : A) (t : Answer (List A)) (l : List A) → onto a t ≡ accepted l → (m : List A) × (t ≡ accepted m) × (a ∷ m ≡ l)
-onto-is a (refused n) l e = let z : _≡_ {A = ℕ} 0 1 = cc in absurd (omega arith)
-onto-is a (accepted m) l e = (m, refl, cc)
-
 from-short : (s : List ℕ) (k : ℕ) (rs : List ℕ) (xs : List Segment) → segmentsFrom s k rs ≡ accepted xs → Every (SegmentWithin (length s)) xs
 unfolding segmentsFrom
 from-short s zero rs xs e = let z : [] ≡ xs = cc in rw (← z) nothing
 from-short s (suc k) rs xs e =
     link _ _ xs e (λ x e₁ e.
     let (m, a, b) = onto-is x (segmentsFrom s k (rest rs)) xs e in
-    rw (← b) (also {a = x} (segment-short s rs x e₁) (from-short s k (rest rs) m a)))
+    rw b (also {a = x} (segment-short s rs x e₁) (from-short s k (rest rs) m a)))
 
 segments-short : (s rs : List ℕ) (xs : List Segment) → segmentsOf s rs ≡ accepted xs → Every (SegmentWithin (length s)) xs
 unfolding segmentsOf

@@ -5,7 +5,7 @@ use mathlib.Core.List.{List}
 use Prim.Native.Nat.{ℕ, _+_, _≤_}
 use denote.Ref.{now}
 use lib.ListN.{length}
-use Rattle.bitio.specs.Leb.{readLeb, number, lebAnswer}
+use Rattle.bitio.specs.Leb.{readLeb, lebThen, lebAnswer}
 use Rattle.bitio.specs.declared.leb128.Leb.the-variants.{Value}
 use Rattle.bitio.proofs.LebLaws.{is-number, is-bad}
 use Rattle.annexb.specs.code.Spans.{span}
@@ -16,14 +16,14 @@ use Rattle.annexb.proofs.annexb.part.part_at.Tie as tie
 
 -- a number in the part from a to e
 number-at : (s : List ℕ) (a e v n : ℕ) → a ≤ e → e ≤ length s → lebAnswer (span s a e) (readLeb (span s a e)) ≡ Value v n
-    → (readLeb (span s a e) ≡ number v (span s (a + n) e)) × (a + n ≤ e)
+    → (readLeb (span s a e) ≡ lebThen v (span s (a + n) e)) × (a + n ≤ e)
 number-at s a e v n l m q =
     let i = is-number (span s a e) v n q in
-    (i .read ∙ ap (number v) (span-drop s a e n), omega (arith, i .within, span-length s a e m))
+    (i .read ∙ ap (lebThen v) (span-drop s a e n), omega (arith, i .within, span-length s a e m))
 
 got : (c : tie.After-size)
     → (let a = c .before .before .before .before .before .args in
-    (readLeb (span (now (a .s)) (a .at) (a .end)) ≡ number (c .size .given .0 .0) (span (now (a .s)) (a .at + c .size .given .0 .1 .0) (a .end))) × (a .at + c .size .given .0 .1 .0 ≤ a .end))
+    (readLeb (span (now (a .s)) (a .at) (a .end)) ≡ lebThen (c .size .given .0 .0) (span (now (a .s)) (a .at + c .size .given .0 .1 .0) (a .end))) × (a .at + c .size .given .0 .1 .0 ≤ a .end))
 unfolding span
 got c =
     let b = c .before .before .before .before .before in
