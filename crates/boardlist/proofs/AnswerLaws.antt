@@ -17,7 +17,7 @@ use Rattle.assemble.proofs.MultiLaws.{RoomForAll}
 use Rattle.assemble.specs.Whole.{counts, countsOf, Lent, outcome, lentAfter, Handed}
 use Rattle.assemble.specs.declared.multi.Counts.{Counts}
 use Rattle.assemble.specs.declared.multi.Assembled.the-variants.{Made}
-use Rattle.listing.specs.File.{FileReading, bad, full, read, fileNumbers, readInto, fileNumbersAfter}
+use Rattle.listing.specs.File.{FileReading, bad, full, readLayout, fileNumbers, readInto, fileNumbersAfter}
 use Rattle.listing.specs.Text.{refusedText, refusedInText, badFile}
 use Rattle.listing.specs.declared.file.Layout.{Layout}
 use Rattle.listing.proofs.FileLaws.{read-is}
@@ -102,7 +102,7 @@ module _ (s numbers : List ℕ) (d : Lent) where
   unfolding slicesAfter
   full-left e = ap (λ (r : FileReading). slicesAfterOf r s d) e
 
-  module _ (l : Layout) (numbers′ : List ℕ) (e : read l ≡ readInto numbers s) (w : numbers′ ≡ fileNumbersAfter numbers s) where
+  module _ (l : Layout) (numbers′ : List ℕ) (e : readLayout l ≡ readInto numbers s) (w : numbers′ ≡ fileNumbersAfter numbers s) where
     numbers-are : between 0 (width * l .segments) numbers′ ≡ fileNumbers s
     numbers-are =
         let a = read-is numbers s l e in
