@@ -24,7 +24,7 @@ use Rattle.pictures.specs.Prepare.{isSequence, effective, renewal, Prepared, sh
 use Rattle.pictures.specs.declared.settings.Settings.{Settings}
 use Rattle.pictures.specs.Assemble.{pictureOf, endsFrom, showsOf, named}
 use Rattle.frame.specs.UnitFrame.{unitFrame}
-use Rattle.player.specs.Player.{empty, filled, refresh, State, start, play, leaves}
+use Rattle.player.specs.Player.{empty, filled, refresh, State, start, play, stateAfter}
 use Rattle.player.specs.declared.slots.Slot.{Slot}
 use Rattle.demand.specs.Kinds.{unitKind, saysKey, isKeyUnit, unitAt, segmentOf}
 use Rattle.demand.specs.Premises.{sequencePayload, Premise}
@@ -426,7 +426,7 @@ module _ (set : Settings) (xs : List Segment) (m : Boards set xs) (short : Units
   -- ---- every course
 
   -- what a turn leaves is what the course goes on with
-  onward : (c p : ℕ) (st : State) → Turn c p st → Inv c (suc p) (leaves st (play st p (U p)))
+  onward : (c p : ℕ) (st : State) → Turn c p st → Inv c (suc p) (stateAfter st p (U p))
   onward c p st t = rw (t .right .answer) (t .next)
 
   begins : (c : ℕ) → Inv c c start

@@ -19,7 +19,7 @@ use Rattle.container.specs.Units.{unitsFrom, unitsAt, countOf, outAfter}
 use Rattle.container.specs.Lists.{accepts}
 use Rattle.container.proofs.ListLaws.{units-refused}
 use Rattle.annexb.proofs.CutLaws.{accepted-is}
-use Rattle.player.specs.Player.{State, start, Played, play, leaves}
+use Rattle.player.specs.Player.{State, start, Played, play, leaves, stateAfter}
 use Rattle.player.specs.Values.{shows, keptBehind, stateSays, playedOn, playedBy}
 use Rattle.player.specs.declared.step.State.{State as CodeState}
 use Rattle.player.specs.declared.step.Played.{Played as CodePlayed}
@@ -153,7 +153,7 @@ module _ {s es : List ℕ} {cue : ℕ} {d : List ℕ} {st : State} {i k : ℕ} {
     pub playing-slot : k < length o
     playing-slot = omega (arith, playing-long, z .can .room, z .place)
 
-    module _ (r : CodePlayed) (says : codeNumber (r .answer) ≡ shownNumber (play st (i + 1) (partIn s es i))) (left : stateSays (r .state) ≡ leaves st (play st (i + 1) (partIn s es i))) where
+    module _ (r : CodePlayed) (says : codeNumber (r .answer) ≡ shownNumber (play st (i + 1) (partIn s es i))) (left : stateSays (r .state) ≡ stateAfter st (i + 1) (partIn s es i)) where
       abbrev u : List ℕ
       u = getD all i []
 
@@ -166,7 +166,7 @@ module _ {s es : List ℕ} {cue : ℕ} {d : List ℕ} {st : State} {i k : ℕ} {
       number-is : codeNumber (r .answer) ≡ shownNumber (play st (suc i) u)
       number-is = says ∙ ap shownNumber same
 
-      state-is : stateSays (r .state) ≡ leaves st (play st (suc i) u)
+      state-is : stateSays (r .state) ≡ stateAfter st (suc i) u
       state-is = left ∙ ap (leaves st) same
 
       turn : shownFrom st (suc i) (drop i all) ≡ codeNumber (r .answer) ∷ shownFrom (stateSays (r .state)) (suc (i + 1)) (drop (i + 1) all)

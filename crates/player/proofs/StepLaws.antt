@@ -17,7 +17,7 @@ use Rattle.frame.specs.Frame.{parseFrame}
 use Rattle.frame.specs.UnitFrame.{framePayload, unitFrame}
 use Rattle.frame.specs.declared.frame_header.FrameHeaderInfo.{FrameHeaderInfo}
 use Rattle.header.specs.declared.seq_header.SequenceHeader.{SequenceHeader}
-use Rattle.player.specs.Player.{Shown, keep, known, act, State, start, Played, play, leaves}
+use Rattle.player.specs.Player.{Shown, keep, known, act, State, start, Played, play, leaves, stateAfter}
 use Rattle.player.specs.Values.{shows, actedOn, keptSays, keptBehind, stateSays, startState, playedOn, playedBy, leftIn, leftBy, playKept}
 use Rattle.player.specs.declared.slots.Slot.{Slot}
 use Rattle.player.specs.declared.keep.Last.the-variants.{Nothing as NoHeader, Header}
@@ -117,7 +117,7 @@ module _ (st : CodeState) (p : ℕ) (u : List ℕ) where
         ∙ ap (playedOn st (behind .kept)) (play-kept (stateSays st) p u h _ (behind-read (st .kept) u (sym (ap (λ y. y .answer) b) ∙ e)))
 
   -- what the state afterwards says
-  pub leaves-so : stateSays (playedBy st p u .state) ≡ leaves (stateSays st) (play (stateSays st) p u)
+  pub leaves-so : stateSays (playedBy st p u .state) ≡ stateAfter (stateSays st) p u
   unfolding playedBy
   leaves-so = go (play (stateSays st) p u) refl
     where
