@@ -9,15 +9,14 @@ use lib.ListN.{length, getD, take, drop, length-append}
 use lib.Dec.{eqb}
 use borrow.Author.Tests.{lt-leb, le-leb, ne-eqb, eq-eqb}
 use Rattle.bitio.specs.Parse.{Answer, refused, accepted, Head, stop, item, before, within}
-use Rattle.bitio.specs.Leb.{Number, number, readLeb, lebAnswer, sized}
-use Rattle.bitio.specs.Leb.Number.{none as noNumber}
+use Rattle.bitio.specs.Leb.{Number, noLeb, lebThen, readLeb, lebAnswer, sized}
 use Rattle.bitio.specs.declared.leb128.Leb.the-variants.{Value}
 use Rattle.bitio.proofs.ParseLaws.{pick-both, pick-cases, Parts}
 use Rattle.bitio.proofs.LebLaws.{Numbered, read-parts, Sized, sized-parts, is-number}
-use Rattle.obu.specs.Obu.{Obu, flag, obuType, passes, made}
+use Rattle.obu.specs.Obu.{Obu, flag, obuType, passes, obuWith}
 use types.Run.{OneOf}
 use denote.Enum.Declared.{tagOf}
-use Rattle.obu.specs.Place.{Place, wrong, lies, refusalOf}
+use Rattle.obu.specs.Place.{Place, wrong, lies, placeRefusal}
 use Rattle.container.specs.AnnexB.{withSize, typed, extendedB, innerObuOf, innerObu, lengthObuOf, lengthObu}
 use Rattle.annexb.specs.code.Spans.{span, noSpot, spot, spotOf, placeTo, placeUpTo, spotRefusal, partSays, innerSays}
 use Rattle.annexb.specs.declared.annexb.part.PartAt.{PartAt}
@@ -31,11 +30,11 @@ use Rattle.annexb.proofs.SpanLaws.{span-length, span-drop, span-take, s
 -- ---- the outcomes of a sized part
 
 module _ (s : List ℕ) (at e x y : ℕ) where
-  pub part-none : readLeb (span s at e) ≡ noNumber → noSpot x ≡ spotOf e (sized x y (span s at e))
+  pub part-none : readLeb (span s at e) ≡ noLeb → noSpot x ≡ spotOf e (sized x y (span s at e))
   unfolding sized
   part-none b = rw b
 
-  module _ (m : e ≤ length s) (n q : ℕ) (b : readLeb (span s at e) ≡ number n (span s q e)) where
+  module _ (m : e ≤ length s) (n q : ℕ) (b : readLeb (span s at e) ≡ lebThen n (span s q e)) where
     pub part-over : e - q < n → noSpot y ≡ spotOf e (sized x y (span s at e))
     unfolding sized
     part-over l =
@@ -54,10 +53,10 @@ module _ (s : List ℕ) (at e x y : ℕ) where
 
 -- a number in the part from a to e
 pub number-at : (s : List ℕ) (a e v n : ℕ) → a ≤ e → e ≤ length s → lebAnswer (span s a e) (readLeb (span s a e)) ≡ Value v n
-    → (readLeb (span s a e) ≡ number v (span s (a + n) e)) × (a + n ≤ e)
+    → (readLeb (span s a e) ≡ lebThen v (span s (a + n) e)) × (a + n ≤ e)
 number-at s a e v n l m q =
     let i = is-number (span s a e) v n q in
-    (i .read ∙ ap (number v) (span-drop s a e n), omega (arith, i .within, span-length s a e m))
+    (i .read ∙ ap (lebThen v) (span-drop s a e n), omega (arith, i .within, span-length s a e m))
 
 -- what the place of a sized part says
 pub record IsPart (x y : ℕ) (s : List ℕ) (at e a b : ℕ) : Type 0 where
@@ -94,7 +93,7 @@ module _ (x y : ℕ) (s : List ℕ) (at e : ℕ) where
 
 module _ (s : List ℕ) (e : ℕ) (m : e ≤ length s) where
   -- all from q on is payload
-  payload-from : (h : ℕ) (x : Option ℕ) (q : ℕ) → q ≤ e → lies (obuType h) x q e ≡ placeUpTo e (accepted (made h x (span s q e)))
+  payload-from : (h : ℕ) (x : Option ℕ) (q : ℕ) → q ≤ e → lies (obuType h) x q e ≡ placeUpTo e (accepted (obuWith h x (span s q e)))
   payload-from h x q l =
       let n = span-length s q e m in
       let k : e - 0 - (e - q) ≡ q = omega arith in
@@ -102,10 +101,10 @@ module _ (s : List ℕ) (e : ℕ) (m : e ≤ length s) where
       rw (n, k, z)
 
   module _ (h : ℕ) (x : Option ℕ) (p : ℕ) where
-    pub size-bad : readLeb (span s p e) ≡ noNumber → wrong 4 ≡ placeUpTo e (withSize h x (readLeb (span s p e)))
+    pub size-bad : readLeb (span s p e) ≡ noLeb → wrong 4 ≡ placeUpTo e (withSize h x (readLeb (span s p e)))
     size-bad b = rw b
 
-    module _ (n q : ℕ) (b : readLeb (span s p e) ≡ number n (span s q e)) where
+    module _ (n q : ℕ) (b : readLeb (span s p e) ≡ lebThen n (span s q e)) where
       pub size-other : (n ≡ e - q → ⊥) → wrong 40 ≡ placeUpTo e (withSize h x (readLeb (span s p e)))
       size-other d = rw (b, span-length s q e m, ne-eqb n (e - q) d)
 
@@ -165,8 +164,8 @@ Inside p (accepted o) = IsInner p o
 -- f is what stands before p
 module _ (f : List ℕ) (h : ℕ) (x : Option ℕ) (p : List ℕ) where
   sized-inside : (n : Number) → Numbered p n → passes (obuType h) ≡ true → Inside (f ++ p) (withSize h x n)
-  sized-inside noNumber z a = tt
-  sized-inside (number n r) z a =
+  sized-inside noLeb z a = tt
+  sized-inside (lebThen n r) z a =
       let q : f ++ p ≡ (f ++ z .front) ++ r = ap (λ t. f ++ t) (z .split) ∙ sym (append-assoc f (z .front) r) in
       pick-both (Inside (f ++ p)) (eqb n (length r)) (record { front = f ++ z .front; split = q; passing = a }) tt
 
@@ -261,7 +260,7 @@ module _ (s : List ℕ) (at e : ℕ) where
       go (item t r) q = let z : _≡_ {A = ℕ} 0 1 = cc in absurd (omega arith)
 
   -- an answer that is no OBU is a refusal
-  pub not-obu : (r : InnerAt) → OneOf (1 ∷ []) (tagOf inner-type r) → innerSays r ≡ placeTo e (lengthObu (span s at e)) → lengthObu (span s at e) ≡ stop (refusalOf (innerSays r))
+  pub not-obu : (r : InnerAt) → OneOf (1 ∷ []) (tagOf inner-type r) → innerSays r ≡ placeTo e (lengthObu (span s at e)) → lengthObu (span s at e) ≡ stop (placeRefusal (innerSays r))
   not-obu (Found o) k q = absurd (omega arith)
   not-obu (InnerRefused n) k q = is-no-obu (sym q)
 

@@ -3,7 +3,7 @@ use Prim.Native.Nat.{ℕ, _+_, _-_, _*_, _≤_}
 use native.Mathlib.Omega.{arith}
 use mathlib.Core.Path.{_≡_, refl, sym, ap, _∙_}
 use mathlib.Core.List.{List}
-use mathlib.Core.Option.{Option, none, some}
+use mathlib.Core.Option.{none, some}
 use lib.ListN.{length, take}
 use Rattle.bitio.specs.Parse.{accepted}
 use Rattle.bitio.specs.Lent.{pasted, placed, lent}
@@ -13,11 +13,12 @@ use denote.Triple.Both.{Both}
 use Rattle.bitio.specs.Leb.{putSays}
 use Rattle.bitio.specs.declared.leb128.Put.{Put}
 use Rattle.blocks.specs.Numbers.{width}
+use Rattle.assemble.proofs.AnswerLaws.{stopped-is}
 use Rattle.assemble.proofs.MultiLaws.{RoomForAll}
 use Rattle.assemble.specs.Whole.{counts, countsOf, Lent, outcome, lentAfter, Handed}
 use Rattle.assemble.specs.declared.multi.Counts.{Counts}
 use Rattle.assemble.specs.declared.multi.Assembled.the-variants.{Made}
-use Rattle.listing.specs.File.{FileReading, bad, full, read, fileNumbers, readInto, fileNumbersAfter}
+use Rattle.listing.specs.File.{FileReading, bad, full, readLayout, fileNumbers, readInto, fileNumbersAfter}
 use Rattle.listing.specs.Text.{refusedText, refusedInText, badFile}
 use Rattle.listing.specs.declared.file.Layout.{Layout}
 use Rattle.listing.proofs.FileLaws.{read-is}
@@ -65,14 +66,6 @@ made-is x c d d′ held w = go (x d) held (w .answer) (w .lent)
           rw (front-is (d .list) (o .list) _ refl (h .list), front-is (d .pictures) (o .picture) _ refl (h .picture), front-is (d .ends) (o .ends) _ refl (h .ends), front-is (d .shows) (o .shows) _ refl (h .shows)),
         )
 
-stopped-is : (x : Outcome Output) (k : ℕ) (i : Option ℕ) → stopped k i ≡ countsOf x → x ≡ stopped k i
-unfolding andAlso
-stopped-is (stopped n j) k i e =
-    let a : k ≡ n = cc in
-    let b : i ≡ j = cc in
-    rw (a, b) refl
-stopped-is (made o) k i e = let z : _≡_ {A = ℕ} 0 1 = cc in absurd (omega arith)
-
 pub refused-is : (x : Outcome Output) (k : ℕ) → stopped k none ≡ countsOf x → refusedText k ≡ textOf x
 refused-is x k e = ap textOf (sym (stopped-is x k none e))
 
@@ -102,7 +95,7 @@ module _ (s numbers : List ℕ) (d : Lent) where
   unfolding slicesAfter
   full-left e = ap (λ (r : FileReading). slicesAfterOf r s d) e
 
-  module _ (l : Layout) (numbers′ : List ℕ) (e : read l ≡ readInto numbers s) (w : numbers′ ≡ fileNumbersAfter numbers s) where
+  module _ (l : Layout) (numbers′ : List ℕ) (e : readLayout l ≡ readInto numbers s) (w : numbers′ ≡ fileNumbersAfter numbers s) where
     numbers-are : between 0 (width * l .segments) numbers′ ≡ fileNumbers s
     numbers-are =
         let a = read-is numbers s l e in

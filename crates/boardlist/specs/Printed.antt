@@ -12,7 +12,7 @@ use Rattle.pictures.specs.Assemble.{Outcome, stopped, made, Output}
 use Rattle.pictures.specs.declared.settings.Settings.{Settings}
 use Rattle.assemble.specs.Whole.{Lent, outcome, lentAfter}
 use Rattle.assemble.specs.declared.multi.Counts.{Counts}
-use Rattle.listing.specs.File.{FileReading, bad, full, read, fileNumbers, readInto, fileNumbersAfter}
+use Rattle.listing.specs.File.{FileReading, bad, full, readLayout, fileNumbers, readInto, fileNumbersAfter}
 use Rattle.listing.specs.Text.{listing, refusedText, refusedInText, badFile}
 use Rattle.listing.specs.declared.file.Layout.{Layout}
 
@@ -32,7 +32,7 @@ settingsOf l = record { gop = l .«gop_size»; fps = l .fps; den = l .«fps_den�
 abbrev pub printedOf : FileReading → List ℕ → Lent → List ℕ
 printedOf bad s d = badFile
 printedOf full s d = refusedText 35
-printedOf (read l) s d = textOf (outcome (between (l .start) (l .end) s) (fileNumbers s) (settingsOf l) d)
+printedOf (readLayout l) s d = textOf (outcome (between (l .start) (l .end) s) (fileNumbers s) (settingsOf l) d)
 
 -- the text for the bytes s, with these lent slices
 unfoldable pub printed : (s numbers : List ℕ) → Lent → List ℕ
@@ -42,7 +42,7 @@ printed s numbers d = printedOf (readInto numbers s) s d
 abbrev pub slicesAfterOf : FileReading → List ℕ → Lent → Lent
 slicesAfterOf bad s d = d
 slicesAfterOf full s d = d
-slicesAfterOf (read l) s d = lentAfter (outcome (between (l .start) (l .end) s) (fileNumbers s) (settingsOf l) d) d
+slicesAfterOf (readLayout l) s d = lentAfter (outcome (between (l .start) (l .end) s) (fileNumbers s) (settingsOf l) d) d
 
 unfoldable pub slicesAfter : (s numbers : List ℕ) → Lent → Lent
 slicesAfter s numbers d = slicesAfterOf (readInto numbers s) s d

@@ -8,7 +8,7 @@ use mir.Val.{boolByte}
 use Rattle.pictures.specs.Assemble.{Output}
 use Rattle.assemble.specs.Examples.{pictureKG, rangesKG, outputKG, outputTwo}
 use Rattle.player.specs.Player.{start}
-use Rattle.listing.specs.File.{isFile, FileReading, read as readLayout, full, bad, readInto, fileNumbersAfter}
+use Rattle.listing.specs.File.{isFile, FileReading, readLayout, full, bad, readInto, fileNumbersAfter}
 use Rattle.listing.specs.Decimal.{decimal}
 use Rattle.listing.specs.Text.{listing, refusedText, refusedInText}
 use Rattle.cases.specs.Rows.{Row}

@@ -11,11 +11,11 @@ use Rattle.protocol.specs.Told.{Told, told}
 use Rattle.protocol.specs.Fields.{Reading, fieldsOf}
 use Rattle.protocol.specs.Printed.{answerText}
 use Rattle.protocol.specs.declared.kinds.Format.{Format}
-use Rattle.protocol.specs.declared.lent.Room.{Room}
+use Rattle.protocol.specs.declared.lent.Room.{Room as LineRoom}
 use Rattle.cases.specs.Rows.{Row}
 
 -- whether a room is given, bytes, ends, times, and where the request starts
-abbrev roomNumbers : Room → List ℕ
+abbrev roomNumbers : LineRoom → List ℕ
 roomNumbers r = boolByte (r .«is_given») ∷ r .bytes ∷ r .ends ∷ r .times ∷ r .next ∷ []
 
 -- where reading stopped, how many bytes, byte strings and numbers were read; then the memory they went to

@@ -6,7 +6,7 @@ use mathlib.Core.Option.{Option, none, some}
 use lib.ListN.{replicate}
 use Rattle.bitio.specs.Parse.{Answer, refused, accepted, answer}
 use mir.Val.{boolByte}
-use Rattle.player.specs.Player.{State, start, play, leaves}
+use Rattle.player.specs.Player.{State, start, play, stateAfter}
 use Rattle.player.specs.declared.slots.Slot.{Slot}
 use Rattle.cases.specs.Rows.{Row}
 use Rattle.assemble.specs.Examples.{payloadK}
@@ -23,9 +23,6 @@ slotNumbers s = pick (s .«is_filled») (s .position ∷ boolByte (s .showable) 
 -- a unit played under a position: what is shown, and the slots afterwards
 abbrev playedAs : State → ℕ → List ℕ → Answer (List (List ℕ))
 playedAs st p u = answer (λ r. shownList (r .shown) ∷ map slotNumbers (r .state .slots)) (play st p u)
-
-abbrev after : State → ℕ → List ℕ → State
-after st p u = leaves st (play st p u)
 
 -- K's sequence header; a shown key; a shown frame that refreshes slot 3
 abbrev headerOBU : List ℕ
@@ -50,10 +47,10 @@ shownAgain b = 0x1A ∷ 0x01 ∷ b ∷ []
 
 -- after a key under 1, and then a golden under 2
 abbrev keyed : State
-keyed = after start 1 (headerOBU ++ keyOBU)
+keyed = stateAfter start 1 (headerOBU ++ keyOBU)
 
 abbrev boarded : State
-boarded = after keyed 2 goldenOBU
+boarded = stateAfter keyed 2 goldenOBU
 
 abbrev ofKey : List ℕ
 ofKey = 1 ∷ 0 ∷ 1 ∷ []
@@ -73,10 +70,10 @@ playerRows =
     ∷ (playedAs boarded 3 (shownAgain 0xB8), accepted ((2 ∷ []) ∷ ofBoth))
     -- a hidden key is not shown, and fills slot 1; shown again it fills all eight, its marks kept
     ∷ (playedAs start 5 (headerOBU ++ hiddenKey), accepted ([] ∷ [] ∷ (5 ∷ 1 ∷ 1 ∷ []) ∷ replicate 6 []))
-    ∷ (playedAs (after start 5 (headerOBU ++ hiddenKey)) 6 (shownAgain 0x98), accepted ((5 ∷ []) ∷ replicate 8 (5 ∷ 1 ∷ 1 ∷ [])))
+    ∷ (playedAs (stateAfter start 5 (headerOBU ++ hiddenKey)) 6 (shownAgain 0x98), accepted ((5 ∷ []) ∷ replicate 8 (5 ∷ 1 ∷ 1 ∷ [])))
     -- a refused unit changes nothing
     ∷ (playedAs boarded 9 (shownAgain 0x80 ++ shownAgain 0x80), refused 39)
-    ∷ (playedAs (after boarded 9 (shownAgain 0x80 ++ shownAgain 0x80)) 3 (shownAgain 0xB8), accepted ((2 ∷ []) ∷ ofBoth))
+    ∷ (playedAs (stateAfter boarded 9 (shownAgain 0x80 ++ shownAgain 0x80)) 3 (shownAgain 0xB8), accepted ((2 ∷ []) ∷ ofBoth))
     -- the forbidden bit; a sequence header cut short, and a reduced one; no header; no frame; two frames; a frame cut short
     ∷ (playedAs start 1 (headerOBU ++ (0x80 ∷ [])), refused 1)
     ∷ (playedAs start 1 ((0x0A ∷ 0x01 ∷ 0x00 ∷ []) ++ keyOBU), refused 14)
@@ -87,5 +84,5 @@ playerRows =
     ∷ (playedAs start 1 (headerOBU ++ (0x32 ∷ 0x00 ∷ [])), refused 14)
     -- an empty slot; one that is not showable
     ∷ (playedAs start 1 (headerOBU ++ shownAgain 0xB8), refused 37)
-    ∷ (playedAs (after start 5 (headerOBU ++ hidden)) 6 (shownAgain 0x98), refused 38)
+    ∷ (playedAs (stateAfter start 5 (headerOBU ++ hidden)) 6 (shownAgain 0x98), refused 38)
     ∷ []

@@ -9,7 +9,7 @@ use lib.ListN.{length, length-append}
 use Rattle.bitio.specs.Parse.{Answer, refused, accepted, answer, Head, stop, item, before, within, many}
 use Rattle.bitio.specs.Every.{Every}
 use Rattle.bitio.proofs.ParseLaws.{Leaves, Shrinks, many-item, many-nil, many-all, Back}
-use Rattle.bitio.specs.Every.Every.{none as nothing, also}
+use Rattle.bitio.specs.Every.Every.{nothing, also}
 use Rattle.bitio.specs.Leb.{sized, framed}
 use Rattle.bitio.proofs.LebLaws.{sized-back, sized-shrinks, framed-length}
 use Rattle.obu.specs.Obu.{Obu, passes, header, unitBytes}

@@ -11,7 +11,7 @@ use borrow.Author.Tests.{leb-true}
 use Rattle.bitio.specs.Parse.{Answer, refused, accepted}
 use Rattle.bitio.specs.Every.{Every}
 use Rattle.bitio.proofs.ParseLaws.{pick-cases, pick-both, and-both}
-use Rattle.bitio.specs.Every.Every.{none as nothing, also}
+use Rattle.bitio.specs.Every.Every.{nothing, also}
 use Rattle.container.specs.Stream.{streamBytes}
 use Rattle.bitio.specs.Limits.{limit}
 use Rattle.container.specs.Limits.{Room, fits}

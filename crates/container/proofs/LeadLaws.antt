@@ -4,11 +4,11 @@ use mathlib.Core.List.{List, [], _∷_, _++_, append-assoc}
 use mathlib.Core.Bool.{Bool, true, false, cond as pick}
 use Rattle.bitio.specs.Every.{Every}
 use Rattle.bitio.proofs.ParseLaws.{pick-both}
-use Rattle.bitio.specs.Every.Every.{none as nothing, also}
+use Rattle.bitio.specs.Every.Every.{nothing, also}
 use Rattle.obu.specs.Obu.{Obu}
 use Rattle.obu.specs.Unit.{isDelimiter}
 use Rattle.container.specs.Stream.{lead, others, either, join}
-use Rattle.container.proofs.StreamLaws.{every-append}
+use Rattle.bitio.proofs.EveryLaws.{every-append}
 
 pub others-append : (a b : List Obu) → others (a ++ b) ≡ others a ++ others b
 unfolding others

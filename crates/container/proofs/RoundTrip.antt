@@ -7,7 +7,7 @@ use mathlib.Core.Bool.{Bool, true, false}
 use lib.ListN.{length, length-append, length-map}
 use Rattle.bitio.specs.Parse.{accepted}
 use Rattle.bitio.specs.Every.{Every}
-use Rattle.bitio.specs.Every.Every.{none as nothing, also}
+use Rattle.bitio.specs.Every.Every.{nothing, also}
 use Rattle.obu.specs.Obu.{Obu, unitBytes, Written}
 use Rattle.obu.proofs.ObuLaws.{Allowed, obus-allowed}
 use Rattle.obu.specs.Unit.{isDelimiter, isFrame, count}

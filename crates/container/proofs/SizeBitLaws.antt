@@ -4,8 +4,7 @@ use mathlib.Core.Path.{_≡_, refl, ap}
 use mathlib.Core.List.{List, [], _∷_, map}
 use mathlib.Core.Bool.{true, false}
 use Rattle.bitio.specs.Parse.{Answer, refused, accepted, answer, Head, stop, item, before, within, onto, more, many, manyF}
-use Rattle.bitio.specs.Every.{Every}
-use Rattle.bitio.specs.Every.Every.{none as nothing, also}
+use Rattle.bitio.specs.Every.{Every, nothing, also}
 use Rattle.bitio.specs.Leb.{sized}
 use Rattle.obu.specs.Obu.{unitBytes}
 use Rattle.container.specs.Stream.{flat}

@@ -8,7 +8,8 @@ use lib.ListN.{length}
 use borrow.Author.Tests.{eqb-true, le-leb, lt-leb, leb-true, leb-false}
 use Rattle.bitio.specs.Parse.{accepted}
 use Rattle.bitio.specs.Every.{Every}
-use Rattle.bitio.specs.Every.Every.{none as nothing, also}
+use Rattle.bitio.specs.Every.Every.{nothing, also}
+use Rattle.bitio.proofs.EveryLaws.{every-append}
 use Rattle.obu.specs.Obu.{Obu, unitBytes}
 use Rattle.obu.proofs.ObuLaws.{Allowed, obus-unit}
 use Rattle.obu.proofs.UnitLaws.{has-count}
@@ -308,10 +309,6 @@ pub bytes-flat : (us : List (List Obu)) → streamBytes (map unitBytes us) ≡ u
 unfolding streamBytes flat unitBytes flatMap
 bytes-flat [] = refl
 bytes-flat (u ∷ us) = rw (bytes-append u (flat us), ← bytes-flat us)
-
-pub every-append : {P : Obu → Type 0} {l m : List Obu} → Every P l → Every P m → Every P (l ++ m)
-every-append nothing q = q
-every-append (also p ps) q = also p (every-append ps q)
 
 pub every-flat : {P : Obu → Type 0} {us : List (List Obu)} → Every (Every P) us → Every P (flat us)
 unfolding flat

@@ -9,7 +9,7 @@ use lib.ListN.{length, length-append}
 use Rattle.bitio.specs.Limits.{limit}
 use Rattle.bitio.specs.Parse.{accepted, answer}
 use Rattle.obu.specs.Obu.{Obu, obus, unitBytes}
-use Rattle.obu.specs.Place.{obuPlace, nothing}
+use Rattle.obu.specs.Place.{obuPlace, noMore}
 use Rattle.obu.specs.Unit.{isFrame, isType, count}
 use Rattle.obu.specs.Write.{obuLength}
 use Rattle.obu.specs.declared.unit.Kind.the-variants.{Frame}
@@ -43,7 +43,7 @@ one-length front o =
     omega arith
 
 module _ {s : List ℕ} {at n b : ℕ} (v : Surveying s at n b) where
-  pub survey-end : obuPlace s at ≡ nothing → accepted (record { frames = n; bytes = b }) ≡ answer tallyOf (obus s)
+  pub survey-end : obuPlace s at ≡ noMore → accepted (record { frames = n; bytes = b }) ≡ answer tallyOf (obus s)
   survey-end q = rw (walk-end (v .walked) q, v .frames, v .bytes)
 
   module _ {t : ℕ} {e : Option ℕ} {p q : ℕ} (l : at < length s) (g : IsPlaced s at t e p q) where

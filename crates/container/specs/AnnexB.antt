@@ -6,22 +6,21 @@ use mathlib.Core.Bool.{Bool, true, _&&_, cond as pick}
 use lib.ListN.{length}
 use lib.Dec.{eqb}
 use Rattle.bitio.specs.Parse.{Answer, refused, accepted, answer, Head, within, many}
-use Rattle.bitio.specs.Leb.{Number, number, readLeb, sized, framed}
-use Rattle.bitio.specs.Leb.Number.{none as noNumber}
-use Rattle.obu.specs.Obu.{Obu, flag, obuType, passes, made, header, obus, unitBytes}
+use Rattle.bitio.specs.Leb.{Number, noLeb, lebThen, readLeb, sized, framed}
+use Rattle.obu.specs.Obu.{Obu, flag, obuType, passes, obuWith, header, obus, unitBytes}
 use Rattle.container.specs.Stream.{flat}
 
 -- ---- reading; `honoured` says whether the size bit of an inner OBU is looked at: here it is (02 §1), in the Rust it is not
 
 -- an OBU with its size, which must count the bytes behind it. 4: no such number, 40: another count
 abbrev pub withSize : ℕ → Option ℕ → Number → Answer Obu
-withSize h e noNumber = refused 4
-withSize h e (number n p) = pick (eqb n (length p)) (accepted (made h e p)) (refused 40)
+withSize h e noLeb = refused 4
+withSize h e (lebThen n p) = pick (eqb n (length p)) (accepted (obuWith h e p)) (refused 40)
 
 -- what follows header and extension: the size, if there is one, and the payload
 abbrev pub typed : Bool → ℕ → Option ℕ → List ℕ → Answer Obu
 typed honoured h e p =
-    pick (passes (obuType h)) (pick (honoured && flag 2 h) (withSize h e (readLeb p)) (accepted (made h e p))) (refused 2)
+    pick (passes (obuType h)) (pick (honoured && flag 2 h) (withSize h e (readLeb p)) (accepted (obuWith h e p))) (refused 2)
 
 abbrev pub extendedB : Bool → ℕ → List ℕ → Answer Obu
 extendedB honoured h [] = refused 3

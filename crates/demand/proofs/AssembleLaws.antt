@@ -8,15 +8,17 @@ use mathlib.Core.Option.{Option, none, some}
 use lib.ListN.{length, getD, take, drop, length-take, length-drop}
 use lib.Dec.{eqb, ltb, leb}
 use borrow.Author.Tests.{eqb-true, eqb-false, ltb-false, leb-true}
-use Rattle.bitio.specs.Parse.{Answer, refused, accepted, andNext, onto}
+use Rattle.bitio.specs.Parse.{Answer, refused, accepted, andNext}
 use Rattle.bitio.specs.Limits.{limit}
 use Rattle.bitio.specs.Every.{Every}
-use Rattle.bitio.specs.Every.Every.{none as nothing, also}
+use Rattle.bitio.specs.Every.Every.{nothing, also}
+use Rattle.bitio.proofs.ParseLaws.{onto-is}
+use Rattle.assemble.proofs.RenewLaws.{header-read}
 use Rattle.obu.specs.Obu.{Obu, obus}
 use Rattle.obu.specs.Unit.{isFrame, has, lastPayload, firstPayload, ofUnit}
 use Rattle.obu.specs.Place.{part}
 use Rattle.header.specs.Sequence.{Sequence, parseSequence}
-use Rattle.header.specs.Support.{support, supportedSequence}
+use Rattle.header.specs.Support.{support}
 use Rattle.header.specs.Timed.{isTimed}
 use Rattle.emit.specs.Emit.{sequenceBytes}
 use Rattle.frame.specs.Frame.{keyFrame, parseFrame}
@@ -257,10 +259,6 @@ outgoing-header set fields s q r f = go (isTimed (q .header))
     go true = (tt, r, f)
     go false = (timed-short set fields s q r f, timed-back set fields s q r f, timed-fine set fields s q r f)
 
-read-is : (s : List ℕ) (q : Sequence) → supportedSequence s ≡ accepted q → (parseSequence s ≡ accepted q) × (support (q .header) ≡ accepted tt)
-unfolding supportedSequence
-read-is s q e = link _ _ q e (λ q′ a e. link _ _ q e (λ u b e. let z : q′ ≡ q = cc in (rw (← z) a, rw (← z) b)))
-
 from-segments : (set : Settings) (xs : List Segment) (r : Output) → InFields set → Every Rewritable xs → Formed xs → assembled set xs ≡ made r → (m : Made set xs) × (out m ≡ r)
 unfolding assembled
 from-segments set [] r fields sh p e = let z : _≡_ {A = ℕ} 0 1 = cc in absurd (omega arith)
@@ -271,7 +269,7 @@ from-segments set (x ∷ xs) r fields sh p e =
     let h = of-segment 0 _ os e₂ in
     let i : s ≡ o .payload = ap (ofUnit [] (firstPayload isSequence)) h ∙ f .payload in
     let hs : HasHeader x = λ os′ k. (let z : os ≡ os′ = cc in rw (← z) (f .there)) in
-    let (a, b) = read-is (o .payload) q (of-segment 0 _ q e₄) in
+    let (a, b) = header-read (o .payload) q (of-segment 0 _ q e₄) in
     let a′ : parseSequence s ≡ accepted q = rw i a in
     let (n, c, d) = outgoing-header set fields s q a′ b in
     let z = sizes-ok (set .gop) (framesOf (x ∷ xs)) u e₁ in (
@@ -314,17 +312,13 @@ segment-short s rs x e = go (headInside s rs) e
     go true e = let z : segmentIn s rs ≡ x = cc in rw (← z) (part-short s _ _, part-short s _ _)
     go false e = let z : _≡_ {A = ℕ} 0 1 = cc in absurd (omega arith)
 
-onto-is : {A : Type 0} (a : A) (t : Answer (List A)) (l : List A) → onto a t ≡ accepted l → (m : List A) × (t ≡ accepted m) × (a ∷ m ≡ l)
-onto-is a (refused n) l e = let z : _≡_ {A = ℕ} 0 1 = cc in absurd (omega arith)
-onto-is a (accepted m) l e = (m, refl, cc)
-
 from-short : (s : List ℕ) (k : ℕ) (rs : List ℕ) (xs : List Segment) → segmentsFrom s k rs ≡ accepted xs → Every (SegmentWithin (length s)) xs
 unfolding segmentsFrom
 from-short s zero rs xs e = let z : [] ≡ xs = cc in rw (← z) nothing
 from-short s (suc k) rs xs e =
     link _ _ xs e (λ x e₁ e.
     let (m, a, b) = onto-is x (segmentsFrom s k (rest rs)) xs e in
-    rw (← b) (also {a = x} (segment-short s rs x e₁) (from-short s k (rest rs) m a)))
+    rw b (also {a = x} (segment-short s rs x e₁) (from-short s k (rest rs) m a)))
 
 segments-short : (s rs : List ℕ) (xs : List Segment) → segmentsOf s rs ≡ accepted xs → Every (SegmentWithin (length s)) xs
 unfolding segmentsOf

@@ -11,7 +11,7 @@ use lib.Seq.{getD-append-add}
 use lib.Dec.{leb, ltb}
 use borrow.Author.Tests.{ltb-true, ltb-false}
 use Rattle.bitio.specs.Every.{Every}
-use Rattle.bitio.specs.Every.Every.{none as nothing, also}
+use Rattle.bitio.specs.Every.Every.{nothing, also}
 use Rattle.blocks.proofs.BlockLaws.{length-blocks}
 use Rattle.blocks.specs.Blocks.{Kind, Key, Golden, Show, block, blocks, kinds, Entry, layout, total}
 use Rattle.demand.specs.Kinds.{segmentBehind}

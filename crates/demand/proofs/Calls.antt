@@ -11,7 +11,7 @@ use Rattle.header.specs.Sequence.{Sequence}
 use Rattle.blocks.specs.Blocks.{Entry}
 use Rattle.pictures.specs.Segments.{Segment}
 use Rattle.pictures.specs.declared.settings.Settings.{Settings}
-use Rattle.player.specs.Player.{State, start, Played, play, leaves}
+use Rattle.player.specs.Player.{State, start, Played, play, stateAfter}
 use Rattle.player.specs.Values.{shows, keptBehind, stateSays, startState, playedOn, playedBy}
 use Rattle.player.specs.declared.slots.Answer.the-variants.{Shown, Refused}
 use Rattle.player.specs.declared.step.State.{State as CodeState}
@@ -50,8 +50,8 @@ refused-so st p u n e = go (play (stateSays st) p u) e
     go (accepted r) e = no r (r .shown) e
 
 -- what a call leaves, from a state s that st says
-left-so : (s : State) (st : CodeState) → s ≡ stateSays st → (p : ℕ) (u : List ℕ) → leaves s (play s p u) ≡ stateSays (playedBy st p u .state)
-left-so s st i p u = ap (λ (t : State). leaves t (play t p u)) i ∙ sym (leaves-so st p u)
+left-so : (s : State) (st : CodeState) → s ≡ stateSays st → (p : ℕ) (u : List ℕ) → stateAfter s p u ≡ stateSays (playedBy st p u .state)
+left-so s st i p u = ap (λ (t : State). stateAfter t p u) i ∙ sym (leaves-so st p u)
 
 pub course-of : (s : State) {st : CodeState} {p : ℕ} {us : List (List ℕ)} → s ≡ stateSays st → Calls st p us → Course s p us
 course-of s i over = done
@@ -95,13 +95,13 @@ called {set} {xs} d us w cue m calls =
 -- the course with nothing before and between
 pub quiet : (st : State) (p : ℕ) (us : List (List ℕ)) → Course st p us
 quiet st p [] = done
-quiet st p (u ∷ us) = plays (quiet (leaves st (play st p u)) (suc p) us)
+quiet st p (u ∷ us) = plays (quiet (stateAfter st p u) (suc p) us)
 
 -- the state in which unit k is played, from 0, in that course
 unfoldable pub stateAt : State → ℕ → List (List ℕ) → ℕ → State
 stateAt st p us zero = st
 stateAt st p [] (suc k) = st
-stateAt st p (u ∷ us) (suc k) = stateAt (leaves st (play st p u)) (suc p) us k
+stateAt st p (u ∷ us) (suc k) = stateAt (stateAfter st p u) (suc p) us k
 
 throughout-at : (P : ℕ → State → Type 0) (st : State) (p : ℕ) (us : List (List ℕ)) → Throughout P (quiet st p us) → (k : ℕ) → k < length us → P (p + k) (stateAt st p us k)
 unfolding quiet Throughout stateAt
@@ -109,7 +109,7 @@ throughout-at P st p [] t k h = absurd (omega arith)
 throughout-at P st p (u ∷ us) t zero h = let n : p + 0 ≡ p = omega arith in rw n (t .0)
 throughout-at P st p (u ∷ us) t (suc k) h =
     let n : p + suc k ≡ suc p + k = omega arith in
-    rw n (throughout-at P (leaves st (play st p u)) (suc p) us (t .1) k (omega arith))
+    rw n (throughout-at P (stateAfter st p u) (suc p) us (t .1) k (omega arith))
 
 number-at : (st : State) (p : ℕ) (us : List (List ℕ)) (k : ℕ) → k < length us → getD (shownFrom st p us) k 0 ≡ shownNumber (play (stateAt st p us k) (p + k) (getD us k []))
 unfolding shownFrom stateAt
@@ -117,7 +117,7 @@ number-at st p [] k h = absurd (omega arith)
 number-at st p (u ∷ us) zero h = let n : p + 0 ≡ p = omega arith in rw n
 number-at st p (u ∷ us) (suc k) h =
     let n : p + suc k ≡ suc p + k = omega arith in
-    rw n (number-at (leaves st (play st p u)) (suc p) us k (omega arith))
+    rw n (number-at (stateAfter st p u) (suc p) us k (omega arith))
 
 right-number : {set : Settings} {q : Sequence} {xs : List Segment} {us : List (List ℕ)} {c p : ℕ} {st : State} {n : ℕ} (w : PlaysRight set q xs us c p st)
     → n ≡ shownNumber (play st p (unitAt us p)) → n ≡ w .shown

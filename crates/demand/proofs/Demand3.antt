@@ -8,7 +8,7 @@ use lib.Seq.{length-take-le}
 use Rattle.bitio.specs.Parse.{accepted}
 use Rattle.bitio.specs.Limits.{limit}
 use Rattle.bitio.specs.Every.{Every}
-use Rattle.bitio.specs.Every.Every.{none as nothing, also}
+use Rattle.bitio.specs.Every.Every.{nothing, also}
 use Rattle.container.specs.Limits.{Room}
 use Rattle.container.specs.Container.{Container, read, write}
 use Rattle.container.proofs.RoundTrip.{Whole}
@@ -24,7 +24,7 @@ use Rattle.demand.specs.Courses.{Course, Throughout}
 use Rattle.demand.specs.Demand.{Given, handed, front, PlaysRight, ReadBack, Demand, Demand3}
 use Rattle.demand.proofs.Following.{Following, following-take}
 use Rattle.demand.proofs.BlockLaws.{following-layout}
-use Rattle.demand.proofs.ListLaws.{map-take}
+use Rattle.bitio.proofs.ParseLaws.{map-take}
 use Rattle.demand.proofs.HandedLaws.{unitBy, givenOut, UnitsWithin, picture-short}
 use Rattle.container.proofs.LentLaws.{lent-write}
 use Rattle.demand.proofs.UnitLaws.{whole}

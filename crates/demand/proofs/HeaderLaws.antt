@@ -10,28 +10,15 @@ use Rattle.header.specs.Sequence.{Sequence, parseSequence}
 use Rattle.header.specs.Support.{support}
 use Rattle.emit.specs.Emit.{sequenceBytes}
 use Rattle.emittable.specs.Emittable.{emittable}
-use Rattle.frame.specs.Frame.{keyFrame, parseFrame, showByte}
-use Rattle.frame.specs.declared.frame_header.FrameInfo.{FrameInfo}
-use Rattle.frame.specs.declared.frame_header.FrameHeaderInfo.the-variants.{Existing, Frame}
+use Rattle.frame.specs.Frame.{parseFrame, showByte}
+use Rattle.frame.specs.declared.frame_header.FrameHeaderInfo.the-variants.{Existing}
 use Rattle.header.proofs.TimedLaws.{supports, timed-of, timed-supported}
 use Rattle.emit.proofs.EmitLaws.{parse-emittable, payload-length}
 use Rattle.emit.proofs.TimedEmitLaws.{timed-emittable, timed-back as timed-read}
-use Rattle.frame.proofs.FrameLaws.{flags-lt, shown-showable as showable}
 use Rattle.frame.proofs.FrameShowLaws.{supported-show}
 use Rattle.pictures.specs.Prepare.{timedSequence}
 use Rattle.pictures.specs.declared.settings.Settings.{Settings}
 use Rattle.demand.specs.Premises.{InFields}
-
--- ---- frames
-
-module _ (q : Sequence) (s : List ℕ) {f : FrameInfo} (e : parseFrame q s ≡ accepted (Frame f)) where
-  -- refresh flags are a byte
-  pub flags-byte : f .«refresh_frame_flags» < 256
-  flags-byte = flags-lt q s e
-
-  -- a shown frame that is no key is showable
-  pub shown-showable : f .«show_frame» ≡ true → (f .«frame_type» ≡ keyFrame → ⊥) → f .«showable_frame» ≡ true
-  shown-showable h t = showable q s e h t
 
 -- a show unit's byte shows its slot, under a supported header
 pub show-frame : (q : Sequence) → support (q .header) ≡ accepted tt → (slot : ℕ) → slot < 8 → parseFrame q (showByte slot ∷ []) ≡ accepted (Existing slot)

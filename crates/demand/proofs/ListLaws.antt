@@ -4,11 +4,11 @@ use native.Mathlib.Omega.{arith}
 use mathlib.Core.Path.{_≡_, refl, _∙_}
 use mathlib.Core.List.{List, [], _∷_, map, List·Memᴰ, List·Memᴰ·head, List·Memᴰ·tail, List·Memᴰ·not-nil}
 use mathlib.Core.Bool.{Bool, true, false, cond}
-use lib.ListN.{length, getD, take}
+use lib.ListN.{length, getD}
 use lib.Dec.{eqb}
 use borrow.Author.Tests.{eqb-true, eqb-false}
 use Rattle.bitio.specs.Every.{Every}
-use Rattle.bitio.specs.Every.Every.{none as nothing, also}
+use Rattle.bitio.specs.Every.Every.{nothing, also}
 use Rattle.blocks.proofs.BlockLaws.{code-small}
 use Rattle.blocks.specs.Blocks.{Kind, Key, Golden, Show, Entry, code, number, positions, isKeyEntry, cuesOf}
 use Rattle.demand.specs.Demand.{Rising}
@@ -23,11 +23,6 @@ getD-map-lt f (x ∷ l) (suc k) d d′ h = getD-map-lt f l k d d′ (omega arith
 pub map-both : {A B C : Type 0} (f : B → C) (g : A → B) (h : A → C) (l : List A) (d : A) → ((k : ℕ) → k < length l → f (g (getD l k d)) ≡ h (getD l k d)) → map f (map g l) ≡ map h l
 map-both f g h [] d e = refl
 map-both f g h (x ∷ l) d e = rw (e 0 (omega arith), map-both f g h l d (λ k w. e (suc k) (omega arith)))
-
-pub map-take : {A B : Type 0} (f : A → B) (n : ℕ) (l : List A) → map f (take n l) ≡ take n (map f l)
-map-take f zero l = refl
-map-take f (suc n) [] = refl
-map-take f (suc n) (x ∷ l) = rw (map-take f n l)
 
 -- ---- positions
 

@@ -13,7 +13,7 @@ use Rattle.bitio.specs.Bits.{bitAt, bitsAt, bitsWithin, readBits}
 use Rattle.bitio.specs.Uvlc.{leadingZeros, uvlcSuffix, uvlc}
 use Rattle.bitio.specs.Leb.{lebRead, readLeb, sized, lebWrite, lebBytes, framed}
 use Rattle.bitio.specs.Every.{Every}
-use Rattle.bitio.specs.Every.Every.{none as nothing, also}
+use Rattle.bitio.specs.Every.Every.{nothing, also}
 use Rattle.obu.specs.Obu.{Obu, passes, headObuOf, obusOf, obuBytes, unitBytes, Written}
 use Rattle.obu.specs.Unit.{isType, count, has, firstPayload}
 use Rattle.obu.specs.Place.{part}
@@ -35,7 +35,7 @@ use Rattle.pictures.specs.declared.settings.Settings.{Settings}
 use Rattle.pictures.specs.Assemble.{Outcome, stopped, Output, named, unitsOf}
 use Rattle.assemble.specs.Examples.{unitK, unitG, timedPayload, timedK, otherK, otherG, timedOtherK, pictureKG, rangesKG, roomKG, settingsKG, outputKG, pictureTwo, rangesTwo, pictureTimed, rangesTimed, roomTwo, outputTwo, payloadK, ordered}
 use Rattle.frame.specs.UnitFrame.{framePayload, unitFrame}
-use Rattle.player.specs.Player.{State, start, refresh, keepAs, play, leaves}
+use Rattle.player.specs.Player.{State, start, refresh, keepAs, play, stateAfter}
 use Rattle.demand.specs.Kinds.{unitKind, unitAt}
 use Rattle.demand.specs.Premises.{listHeader, Premise, Formed, Premises}
 use Rattle.demand.specs.Courses.{Course, done, plays, noise, Throughout}
@@ -274,28 +274,25 @@ carried-both : (CarriedOwn stream) × (CarriedOwn annexb)
 unfolding many manyF lebRead readLeb sized lebWrite lebBytes framed passes headObuOf obusOf obuBytes unitBytes flatMap isType count has part named unitsOf cut group others join behind joined units streamUnits flat streamBytes innerObuOf lengthObuOf frameUnitOf temporalUnitOf annexbUnitsOf annexbUnit annexbBytes read write
 carried-both = ((refl, refl), (refl, refl))
 
-carries : (c : Container) → CarriedOwn c → ReadBack (unitsOf outputTwo) (unitsOf outputTwo)
-carries c w = record { container = c; room = record { bytes = 96; ends = 7 }; bytes = _; written = w .0; room′ = record { bytes = 96; ends = 7 }; readBack = w .1 }
+carries-own : (c : Container) → CarriedOwn c → ReadBack (unitsOf outputTwo) (unitsOf outputTwo)
+carries-own c w = record { container = c; room = record { bytes = 96; ends = 7 }; bytes = _; written = w .0; room′ = record { bytes = 96; ends = 7 }; readBack = w .1 }
 
 -- so the claim on what is read back has an instance in each
 pub in-stream : ReadBack (unitsOf outputTwo) (unitsOf outputTwo)
-in-stream = carries stream (carried-both .0)
+in-stream = carries-own stream (carried-both .0)
 
 pub in-annexb : ReadBack (unitsOf outputTwo) (unitsOf outputTwo)
-in-annexb = carries annexb (carried-both .1)
-
-abbrev behind-unit : State → ℕ → List ℕ → State
-behind-unit st p u = leaves st (play st p u)
+in-annexb = carries-own annexb (carried-both .1)
 
 -- behind the first key, its golden, and the second key
 abbrev keyed : State
-keyed = behind-unit start 1 timedK
+keyed = stateAfter start 1 timedK
 
 abbrev goldened : State
-goldened = behind-unit keyed 2 unitG
+goldened = stateAfter keyed 2 unitG
 
 abbrev rekeyed : State
-rekeyed = behind-unit (behind-unit (behind-unit goldened 3 (showUnit 3)) 4 (showUnit 3)) 5 timedOtherK
+rekeyed = stateAfter (stateAfter (stateAfter goldened 3 (showUnit 3)) 4 (showUnit 3)) 5 timedOtherK
 
 -- Refused in between: a show unit before there is a header, one of a slot that holds a key not showable, the other segment's show unit before
 -- its golden, and bytes that are no OBU.

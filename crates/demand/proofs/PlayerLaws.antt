@@ -11,7 +11,7 @@ use borrow.Author.Tests.{eqb-false, le-leb}
 use Rattle.bitio.specs.Parse.{accepted, andNext}
 use Rattle.bitio.specs.Limits.{limit}
 use Rattle.bitio.specs.Every.{Every}
-use Rattle.bitio.specs.Every.Every.{none as nothing, also}
+use Rattle.bitio.specs.Every.Every.{nothing, also}
 use Rattle.obu.specs.Obu.{Obu, obus}
 use Rattle.obu.specs.Unit.{isFrame, has, count, firstPayload}
 use Rattle.header.specs.Sequence.{Sequence, parseSequence}

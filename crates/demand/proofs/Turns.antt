@@ -24,7 +24,7 @@ use Rattle.pictures.specs.Prepare.{isSequence, effective, renewal, Prepared, sh
 use Rattle.pictures.specs.declared.settings.Settings.{Settings}
 use Rattle.pictures.specs.Assemble.{pictureOf, endsFrom, showsOf, named}
 use Rattle.frame.specs.UnitFrame.{unitFrame}
-use Rattle.player.specs.Player.{empty, filled, refresh, State, start, play, leaves}
+use Rattle.player.specs.Player.{empty, filled, refresh, State, start, play, stateAfter}
 use Rattle.player.specs.declared.slots.Slot.{Slot}
 use Rattle.demand.specs.Kinds.{unitKind, saysKey, isKeyUnit, unitAt, segmentOf}
 use Rattle.demand.specs.Premises.{sequencePayload, Premise}
@@ -33,7 +33,8 @@ use Rattle.demand.specs.Demand.{Rising, noSegment, IsUnit, Listed, Plays
 use Rattle.demand.proofs.Following.{entry, first, Following, first-key, segment-in, Since, show-led}
 use Rattle.demand.proofs.ListLaws.{getD-map-lt, map-both, isKey, positions-map, positions-ext, positions-pass, pass-positions, Passes, positions-rising, cues-are, every-from}
 use Rattle.demand.proofs.HandedLaws.{noUnits, unitOf, unitBy, UnitsWithin, named-is}
-use Rattle.demand.proofs.HeaderLaws.{flags-byte, shown-showable, show-frame}
+use Rattle.frame.proofs.FrameLaws.{flags-lt, shown-showable}
+use Rattle.demand.proofs.HeaderLaws.{show-frame}
 use Rattle.demand.proofs.PlayerLaws.{length-refresh, hit, keep-same, keep-first, play-is}
 use Rattle.demand.proofs.UnitLaws.{first-same, show-unit, show-payload}
 use Rattle.demand.proofs.AssembleLaws.{FrameSays, Paired, frame-is, matches-length, matches-at, Boards}
@@ -46,7 +47,7 @@ says-frame {q} {s} {u} {x} w = frame-is q s u x (w .unit) (w .reads)
 
 module _ {q : Sequence} {new : Option (List ℕ)} {s : List ℕ} {x : Segment} {b : Prepared} (ok : Paired q new s x b) where
   flags-small : ok .info .«refresh_frame_flags» < 256
-  flags-small = flags-byte q _ (ok .golden .reads)
+  flags-small = flags-lt q _ (ok .golden .reads)
 
   slot-small : b .slot < 8
   slot-small = rw (ok .slot-is) (hit (ok .info .«refresh_frame_flags») empty (replicate 8 empty) (ok .some-slot) flags-small .within)
@@ -426,7 +427,7 @@ module _ (set : Settings) (xs : List Segment) (m : Boards set xs) (short : Units
   -- ---- every course
 
   -- what a turn leaves is what the course goes on with
-  onward : (c p : ℕ) (st : State) → Turn c p st → Inv c (suc p) (leaves st (play st p (U p)))
+  onward : (c p : ℕ) (st : State) → Turn c p st → Inv c (suc p) (stateAfter st p (U p))
   onward c p st t = rw (t .right .answer) (t .next)
 
   begins : (c : ℕ) → Inv c c start

@@ -11,7 +11,7 @@ use borrow.Author.Tests.{eqb-true}
 use Rattle.bitio.specs.Parse.{accepted, andNext}
 use Rattle.bitio.specs.Leb.{lebWrite, lebBytes, framed}
 use Rattle.bitio.specs.Every.{Every}
-use Rattle.bitio.specs.Every.Every.{none as nothing, also}
+use Rattle.bitio.specs.Every.Every.{nothing, also}
 use Rattle.obu.specs.Obu.{Obu, passes, obuBytes, unitBytes}
 use Rattle.obu.specs.Unit.{isFrame, isDelimiter, isType, has, count, firstPayload}
 use Rattle.obu.specs.declared.unit.Kind.the-variants.{TemporalDelimiter, Frame as FrameObu}

@@ -25,7 +25,7 @@ use Rattle.demand.specs.Demand.{PlaysRight, ReadBack, Demand3}
 use Rattle.playback.specs.Lent.{storeRoom}
 use Rattle.playback.specs.Gather.{gathered}
 use Rattle.playback.specs.Shown.{shownBy, fromCue}
-use Rattle.playback.specs.Way.{bytesRoom, PlayLent, written, carried, shown}
+use Rattle.playback.specs.Way.{bytesRoom, PlayLent, written, carriedUnits, shown}
 use Rattle.playback.specs.Walk.{walk, walkedSays, Walks}
 use Rattle.playback.specs.declared.walk.Walked.{Walked}
 use Rattle.playback.specs.declared.walk.Walked.the-variants.{Positions}
@@ -50,7 +50,7 @@ from-is room cue us ls e = go (leb 1 cue && leb cue (length us)) e
 
 -- the numbers are those of the units read back
 way-is : (c : Container) (vs : List (List ℕ)) (cue : ℕ) (d : PlayLent) (ls : List ℕ) → shown c vs cue d ≡ accepted ls → (us : List (List ℕ)) × (ReadBack vs us) × (shownBy cue us ≡ ls)
-unfolding shown carried written
+unfolding shown carriedUnits written
 way-is c vs cue d ls w =
     link _ _ ls w (λ us w₁ w. link _ _ us w₁ (λ bs w₂ w₃. link _ _ bs w₂ (λ gs w₄ w₅. (
       us,

@@ -11,6 +11,7 @@ use Rattle.bitio.specs.Limits.{limit, limited}
 use Rattle.bitio.specs.Parse.{accepted}
 use Rattle.bitio.specs.Bits.{Reading, fails, reads}
 use Rattle.bitio.specs.Write.{bitsOf, unpack, trailingWidth, trailingBits}
+use Rattle.bitio.proofs.EveryLaws.{every-append}
 use Rattle.bitio.proofs.SeesLaws.{Sees}
 use Rattle.bitio.proofs.UnpackLaws.{length-bits, unpack-append}
 use Rattle.header.specs.Fields.{answerOf}
@@ -22,7 +23,7 @@ use Rattle.emittable.specs.Emittable.{openingFits, sizeFits, codingFits, emitta
 use Rattle.emit.specs.Emit.{trailed, sequenceBytes}
 use Rattle.header.specs.declared.seq_header.FrameSize.{FrameSize}
 use Rattle.header.specs.declared.seq_header.Coding.{Coding}
-use Rattle.emit.proofs.PackLaws.{AreBits, are-append, are-bits, unpack-pack, length-pack}
+use Rattle.emit.proofs.PackLaws.{AreBits, are-bits, unpack-pack, length-pack}
 use Rattle.emit.proofs.PutLaws.{Puts, sequence-puts}
 use Rattle.header.proofs.LimitedLaws.{within-limit}
 use Rattle.bitio.proofs.ParseLaws.{and-both}
@@ -75,7 +76,7 @@ length-trailed l = length-append l (bitsOf (trailingWidth (length l)) (trailingB
 
 are-trailed : {l : List ℕ} → AreBits l → AreBits (trailed l)
 unfolding trailed
-are-trailed {l} k = are-append k (are-bits (trailingWidth (length l)) (trailingBits (length l)))
+are-trailed {l} k = every-append k (are-bits (trailingWidth (length l)) (trailingBits (length l)))
 
 -- ---- the payload
 

@@ -10,44 +10,35 @@ use mathlib.Core.List.{List, [], _∷_, _++_}
 use lib.ListN.{length, take, drop, length-take, length-drop, take-append-drop}
 use lib.Seq.{length-take-le}
 use Rattle.bitio.specs.Bits.{Bytes}
+use Rattle.bitio.specs.Every.{Every}
+use Rattle.bitio.specs.Every.Every.{nothing, also}
 use Rattle.bitio.specs.Write.{bitsOf, unpack}
+use Rattle.bitio.proofs.EveryLaws.{every-append, every-take, every-drop}
 use Rattle.bitio.proofs.UnpackLaws.{bits-join, bits-low, length-unpack, unpack-same}
 use Rattle.emit.specs.Emit.{ofBits, packN, pack}
 
--- every element is 0 or 1
-pub data AreBits : List ℕ → Type 0 where
-  none : AreBits []
-  more : {b : ℕ} {l : List ℕ} → b < 2 → AreBits l → AreBits (b ∷ l)
+-- 0 or 1
+abbrev IsBit : ℕ → Type 0
+IsBit b = b < 2
 
-pub are-append : {a b : List ℕ} → AreBits a → AreBits b → AreBits (a ++ b)
-are-append none k = k
-are-append (more h r) k = more h (are-append r k)
+abbrev pub AreBits : List ℕ → Type 0
+AreBits l = Every IsBit l
 
 pub are-bits : (n v : ℕ) → AreBits (bitsOf n v)
 unfolding bitsOf
-are-bits zero v = none
-are-bits (suc n) v = are-append (are-bits n (v / 2)) (more (omega arith) none)
+are-bits zero v = nothing
+are-bits (suc n) v = every-append (are-bits n (v / 2)) (also (omega arith) nothing)
 
 pub are-unpack : (s : List ℕ) → AreBits (unpack s)
 unfolding unpack
-are-unpack [] = none
-are-unpack (x ∷ s) = are-append (are-bits 8 x) (are-unpack s)
-
-are-take : (n : ℕ) {l : List ℕ} → AreBits l → AreBits (take n l)
-are-take zero k = none
-are-take (suc n) none = none
-are-take (suc n) (more h r) = more h (are-take n r)
-
-are-drop : (n : ℕ) {l : List ℕ} → AreBits l → AreBits (drop n l)
-are-drop zero k = k
-are-drop (suc n) none = none
-are-drop (suc n) (more h r) = are-drop n r
+are-unpack [] = nothing
+are-unpack (x ∷ s) = every-append (are-bits 8 x) (are-unpack s)
 
 -- a number of n bits is below 2 ^ n
 of-lt : {l : List ℕ} → AreBits l → ofBits l < 2 ^ length l
 unfolding ofBits
-of-lt none = lit< tt
-of-lt (more {b} {l} h r) = small b (2 ^ length l) (ofBits l) (2 ^ suc (length l)) h (of-lt r) (pow-suc 2 (length l))
+of-lt nothing = lit< tt
+of-lt (also {a = b} {l} h r) = small b (2 ^ length l) (ofBits l) (2 ^ suc (length l)) h (of-lt r) (pow-suc 2 (length l))
   where
     small : (b c v d : ℕ) → b < 2 → v < c → d ≡ c * 2 → b * c + v < d
     small zero c v d h k e = omega arith
@@ -67,8 +58,8 @@ one-bit b h = let e : b % 2 ≡ b = omega arith in ap (λ x. x ∷ []) e
 -- and its bits are those that it was made of
 of-bits : {l : List ℕ} → AreBits l → bitsOf (length l) (ofBits l) ≡ l
 unfolding ofBits
-of-bits none = no-bits 0
-of-bits (more {b} {l} h r) =
+of-bits nothing = no-bits 0
+of-bits (also {a = b} {l} h r) =
     let n = length l in
     let s : suc n ≡ 1 + n = omega arith in
     ap (λ j. bitsOf j (b * 2 ^ n + ofBits l)) s ∙ bits-join 1 n (b * 2 ^ n + ofBits l)
@@ -77,12 +68,12 @@ of-bits (more {b} {l} h r) =
 -- the bits of packed bits are these bits
 unpack-n : (n : ℕ) {l : List ℕ} → AreBits l → length l ≡ 8 * n → unpack (packN n l) ≡ l
 unfolding packN unpack
-unpack-n zero none e = refl
-unpack-n zero (more h r) e = absurd (omega arith)
+unpack-n zero nothing e = refl
+unpack-n zero (also h r) e = absurd (omega arith)
 unpack-n (suc n) {l} k e =
     let t : length (take 8 l) ≡ 8 = length-take-le 8 l (omega arith) in
     let d : length (drop 8 l) ≡ 8 * n = length-drop 8 l ∙ omega arith in
-    ap₂ _++_ (ap (λ j. bitsOf j (ofBits (take 8 l))) (sym t) ∙ of-bits (are-take 8 k)) (unpack-n n (are-drop 8 k) d)
+    ap₂ _++_ (ap (λ j. bitsOf j (ofBits (take 8 l))) (sym t) ∙ of-bits (every-take IsBit 8 l k)) (unpack-n n (every-drop IsBit 8 l k) d)
     ∙ take-append-drop 8 l
 
 pub unpack-pack : {l : List ℕ} → AreBits l → length l % 8 ≡ 0 → unpack (pack l) ≡ l
@@ -104,13 +95,13 @@ byte-lt : {l : List ℕ} → AreBits l → ofBits (take 8 l) < 256
 byte-lt {l} k =
     let t = length-take 8 l in
     let h : length (take 8 l) ≤ 8 = omega arith in
-    omega (arith, of-lt (are-take 8 k), pow-mono h)
+    omega (arith, of-lt (every-take IsBit 8 l k), pow-mono h)
 
 bytes-n : (n : ℕ) {l : List ℕ} → AreBits l → Bytes (packN n l)
 unfolding packN
 bytes-n zero k i = lit< tt
 bytes-n (suc n) k zero = byte-lt k
-bytes-n (suc n) k (suc i) = bytes-n n (are-drop 8 k) i
+bytes-n (suc n) {l} k (suc i) = bytes-n n (every-drop IsBit 8 l k) i
 
 pub pack-bytes : {l : List ℕ} → AreBits l → Bytes (pack l)
 unfolding pack

@@ -8,6 +8,8 @@ use mir.Val.{boolByte}
 use lib.Dec.{lit≤}
 use lib.ListN.{length, length-append}
 use Rattle.bitio.specs.Write.{bitsOf, uvlcWidth}
+use Rattle.bitio.specs.Every.Every.{nothing}
+use Rattle.bitio.proofs.EveryLaws.{every-append}
 use Rattle.bitio.proofs.UnpackLaws.{length-bits}
 use Rattle.bitio.proofs.UvlcFormLaws.{uvlc-most}
 use Rattle.emittable.specs.PutFields.{put, putOr, putFlag, putFlagOr, putUvlcOr}
@@ -26,7 +28,7 @@ use Rattle.header.specs.declared.seq_header.Filters.{Filters}
 use Rattle.header.specs.declared.seq_header.ColorDescription.{ColorDescription}
 use Rattle.header.specs.declared.seq_header.ColorSampling.{ColorSampling}
 use Rattle.header.specs.declared.seq_header.Coding.{Coding}
-use Rattle.emit.proofs.PackLaws.{AreBits, none, are-append, are-bits}
+use Rattle.emit.proofs.PackLaws.{AreBits, are-bits}
 
 -- f puts at most n bits before what it is given
 pub record Puts (n : ℕ) (f : List ℕ → List ℕ) : Type 0 where
@@ -40,7 +42,7 @@ puts-then {a} {b} {f} {g} p q =
     let e = p .apart (g []) in
     record {
       apart = λ l. p .apart (g l) ∙ ap (λ x. f [] ++ x) (q .apart l) ∙ sym (append-assoc (f []) (g []) l) ∙ ap (λ x. x ++ l) (sym e);
-      bits = rw e (are-append (p .bits) (q .bits));
+      bits = rw e (every-append (p .bits) (q .bits));
       most = omega (arith, ap length e, length-append (f []) (g []), p .most, q .most);
     }
 
@@ -50,7 +52,7 @@ wider h p = record { apart = p .apart; bits = p .bits; most = omega (arith, p .m
 
 -- no bits
 puts-none : Puts 0 (λ l. l)
-puts-none = record { apart = λ l. refl; bits = none; most = omega arith }
+puts-none = record { apart = λ l. refl; bits = nothing; most = omega arith }
 
 puts-bits : (n v : ℕ) → Puts n (put n v)
 unfolding put

@@ -4,7 +4,7 @@ use mathlib.Core.Path.{_≡_, refl, sym, ap, _∙_}
 use mathlib.Core.List.{List}
 use mathlib.Core.Bool.{Bool, true, false, true≢false, and-true, cond as pick}
 use Rattle.bitio.specs.Bits.{Reading, fails, reads, andThen}
-use Rattle.bitio.specs.Every.{Every, none, also}
+use Rattle.bitio.specs.Every.{Every, nothing, also}
 use Rattle.header.specs.Fields.{readFlag, readOr, flagOr}
 use Rattle.header.specs.Sequence.{Sequence}
 use Rattle.header.specs.Support.{hasPointInfo}
@@ -36,7 +36,7 @@ module _ (has has' : OperatingPoint → Bool) (s : List ℕ) where
   -- the same points have a time
   times-same : (n : ℕ) {xs : List OperatingPoint} → Every (λ x. has x ≡ has' x) xs → (p : ℕ) → removalTimes has s p n xs ≡ removalTimes has' s p n xs
   unfolding removalTimes
-  times-same n none p = refl
+  times-same n nothing p = refl
   times-same n (also {a = x} {l = xs} e es) p =
       ap (λ on. andThen (readOr s p on n 0) (λ time p. removalTimes has s p n xs)) e
       ∙ then-same (readOr s p (has' x) n 0) _ _ (λ time p g. times-same n es p)
@@ -110,7 +110,7 @@ module _ (temporal spatial : ℕ) where
   idc-layered x e = rw e (and-true (x .«decoder_model_present»))
 
   idc-each : {xs : List OperatingPoint} → Every (λ x. x .idc ≡ 0) xs → Every (λ x. layered temporal spatial x ≡ modelled x) xs
-  idc-each none = none
+  idc-each nothing = nothing
   idc-each (also {a = x} e es) = also (idc-layered x e) (idc-each es)
 
   module _ (q : Sequence) (s : List ℕ) where

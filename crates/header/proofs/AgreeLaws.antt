@@ -9,7 +9,7 @@ use lib.Dec.{eqb, ltb}
 use borrow.Author.Tests.{le-leb}
 use Rattle.bitio.specs.Bits.{Reading, fails, reads, andThen, readBits}
 use Rattle.bitio.specs.Uvlc.{zeroOrEnd, leadingZeros, uvlcSuffix, uvlc, specUvlc}
-use Rattle.bitio.proofs.UvlcLaws.{Below, uvlc-agrees}
+use Rattle.bitio.proofs.UvlcLaws.{Not16, uvlc-agrees}
 use Rattle.header.specs.Fields.{readFlag, readOr, flagOr, uvlcOr}
 use Rattle.header.specs.SequenceRules.{Rules, ours, av1}
 use Rattle.header.specs.SequenceOpening.{timingInfo, decoderModelInfo, opening}
@@ -23,10 +23,6 @@ use Rattle.header.specs.declared.seq_header.ColorDescription.{ColorDescr
 use Rattle.header.proofs.ReadLaws.{at-test, Holds}
 
 -- ---- two readings that differ in one refusal only
-
--- it is not refused with 16
-abbrev pub Not16 : {A : Type 0} → Reading A → Type 0
-Not16 x = x ≡ fails 16 → ⊥
 
 module _ {A B : Type 0} where
   -- the same first part
@@ -53,13 +49,13 @@ agree-test false a x y n f = f n
 
 -- ---- up to the operating points
 
-uvlc-below : (s : List ℕ) (p : ℕ) → Not16 (uvlc 32 s p) → Below (leadingZeros 32 s p)
+uvlc-not16 : (s : List ℕ) (p : ℕ) → Not16 (uvlc 32 s p) → Not16 (leadingZeros 32 s p)
 unfolding uvlc
-uvlc-below s p n e = n (rw e)
+uvlc-not16 s p n e = n (rw e)
 
 ticks-agree : (s : List ℕ) (p : ℕ) (on : Bool) → Not16 (uvlcOr 32 s p on) → uvlcOr 32 s p on ≡ uvlcOr (suc (8 * length s)) s p on
 unfolding uvlcOr
-ticks-agree s p true n = uvlc-agrees s p (uvlc-below s p n)
+ticks-agree s p true n = uvlc-agrees s p (uvlc-not16 s p n)
 ticks-agree s p false n = refl
 
 timing-agrees : (s : List ℕ) (p : ℕ) (full : Bool) → Not16 (timingInfo ours s p full) → timingInfo ours s p full ≡ timingInfo (av1 s) s p full
@@ -154,6 +150,11 @@ color-at : {A B : Type 0} (P : A → Type 0) (x : Reading A) (k : A → ℕ → 
 color-at P (fails n) k e f = tt
 color-at P (reads a p) k e f = f a p e
 
+-- what was read, or else d
+abbrev pub readElse : {A : Type 0} → A → Reading A → A
+readElse d (fails k) = d
+readElse d (reads a p) = a
+
 -- both parts were read
 pub read-both : {A B : Type 0} (G : Type 0) (x : Reading A) (k : A → ℕ → Reading B) {b : B} {q : ℕ} → andThen x k ≡ reads b q
     → ((a : A) (p : ℕ) → x ≡ reads a p → k a p ≡ reads b q → G) → G
@@ -171,21 +172,12 @@ color-in r s p profile full c q e =
     color-after (λ d. d ≡ c .color) (filters s p) _ _ e (λ filters p e.
     color-at (λ d. d ≡ c .color) (colorDescription s p profile) _ e (λ color p e.
     read-both (color ≡ c .color) (colorSampling r s p profile color) _ e (λ sampling p d e.
-    read-both (color ≡ c .color) (readFlag s p) _ e (λ grain p d e. ap (λ x. answered c x .color) e))))))))
-  where
-    answered : Coding → Reading Coding → Coding
-    answered c (fails k) = c
-    answered c (reads x p) = x
+    read-both (color ≡ c .color) (readFlag s p) _ e (λ grain p d e. ap (λ x. readElse c x .color) e))))))))
 
 -- what follows for each thing read
 holds-so : {A : Type 0} (P Q : A → Type 0) (x : Reading A) → Holds P x → ((a : A) → P a → Q a) → Holds Q x
 holds-so P Q (fails k) h f = tt
 holds-so P Q (reads a p) h f = f a h
-
--- what was read, or else d
-abbrev pub readElse : {A : Type 0} → A → Reading A → A
-readElse d (fails k) = d
-readElse d (reads a p) = a
 
 color-read : (s : List ℕ) (q : Sequence) (p : ℕ) → readSequence s ≡ reads q p → NotMono (q .header .coding .color) → Holds NotMono (colorRead s)
 unfolding sequenceHeader colorRead
@@ -233,7 +225,7 @@ zeros-many (suc a) (suc b) s p z q e f = turn (λ r w. zeros-many a b s r w) (re
     turn g (reads v r) e f = bit g (eqb v 1) r e f
 
 -- a uvlc that AV1 reads, but for its largest value, has fewer than 32 zeros
-few-zeros : (s : List ℕ) (p v q : ℕ) → specUvlc s p ≡ reads v q → v < 2 ^ 32 - 1 → Below (leadingZeros 32 s p)
+few-zeros : (s : List ℕ) (p v q : ℕ) → specUvlc s p ≡ reads v q → v < 2 ^ 32 - 1 → Not16 (leadingZeros 32 s p)
 unfolding uvlc
 few-zeros s p v q e h f =
     read-both ⊥ (leadingZeros (suc (8 * length s)) s p) _ e (λ z r d e.

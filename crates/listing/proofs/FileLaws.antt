@@ -13,7 +13,7 @@ use Rattle.bitio.proofs.ParseLaws.{and-both}
 use Rattle.bitio.proofs.LentLaws.{pasted-length, lent-room, lent-full}
 use Rattle.blocks.specs.Numbers.{width}
 use Rattle.listing.specs.declared.file.Layout.{Layout}
-use Rattle.listing.specs.File.{numberAt, u32At, pictureCount, fileSegments, segmentsAt, settingsAt, fpsAt, denAt, unitsLength, fileNumbersFrom, fileNumbers, isFile, layoutOf, layoutIn, bad, full, read, readInto, fileNumbersAfter, Records, FileSized, LayoutFits}
+use Rattle.listing.specs.File.{numberAt, u32At, pictureCount, fileSegments, segmentsAt, settingsAt, fpsAt, denAt, unitsLength, fileNumbersFrom, fileNumbers, isFile, layoutOf, layoutIn, bad, full, readLayout, readInto, fileNumbersAfter, Records, FileSized, LayoutFits}
 use Rattle.listing.proofs.NumberLaws.{numbers-length}
 
 -- ---- whether the file is whole
@@ -193,13 +193,13 @@ module _ (d s : List ℕ) where
         let k : length d < 0 + length (fileNumbers s) = omega (arith, all-length) in
         rw (w .is) (rw (lt-leb (0 + length (fileNumbers s)) (length d) k) refl, sym (lent-full d 0 (fileNumbers s) k))
 
-    pub read-whole : {d′ : List ℕ} → l .segments ≤ length d / width → d′ ≡ pasted d 0 (fileNumbersFrom s (l .segments) (l .end + 4) 0) → (read l ≡ readInto d s) × (d′ ≡ fileNumbersAfter d s)
+    pub read-whole : {d′ : List ℕ} → l .segments ≤ length d / width → d′ ≡ pasted d 0 (fileNumbersFrom s (l .segments) (l .end + 4) 0) → (readLayout l ≡ readInto d s) × (d′ ≡ fileNumbersAfter d s)
     unfolding readInto fileNumbersAfter hasRoom
     read-whole {d′} h e =
         let k : 0 + length (fileNumbers s) ≤ length d = omega (arith, all-length) in
         let q : l .end + 4 ≡ segmentsAt s = omega (arith, ap (λ (x : Layout). x .end) (w .layout)) in
         rw (w .is) (
-          rw (le-leb (0 + length (fileNumbers s)) (length d) k) (ap read (w .layout)),
+          rw (le-leb (0 + length (fileNumbers s)) (length d) k) (ap readLayout (w .layout)),
           e ∙ ap₂ (λ (n p : ℕ). pasted d 0 (fileNumbersFrom s n p 0)) count-is q ∙ sym (lent-room d 0 (fileNumbers s) k),
         )
 
@@ -210,12 +210,12 @@ pub record ReadIs (d s : List ℕ) (l : Layout) : Type 0 where
   pub count : length (fileNumbers s) ≡ width * l .segments
   pub after : fileNumbersAfter d s ≡ pasted d 0 (fileNumbers s)
 
-pub read-is : (d s : List ℕ) (l : Layout) → read l ≡ readInto d s → ReadIs d s l
+pub read-is : (d s : List ℕ) (l : Layout) → readLayout l ≡ readInto d s → ReadIs d s l
 unfolding readInto fileNumbersAfter hasRoom
 read-is d s l e = go (isFile s) refl (leb (0 + length (fileNumbers s)) (length d)) refl e
   where
     go : (b : Bool) → isFile s ≡ b → (t : Bool) → leb (0 + length (fileNumbers s)) (length d) ≡ t
-        → read l ≡ pick b (pick t (read (layoutOf s)) full) bad → ReadIs d s l
+        → readLayout l ≡ pick b (pick t (readLayout (layoutOf s)) full) bad → ReadIs d s l
     go true w true h e =
         let f = file-front s w in
         let x : FileIs s l = record { is = w; layout = cc; small = f .0; sized = f .1 } in
@@ -224,7 +224,7 @@ read-is d s l e = go (isFile s) refl (leb (0 + length (fileNumbers s)) (length d
     go true w false h e = let z : _≡_ {A = ℕ} 0 1 = cc in absurd (omega arith)
     go false w t h e = let z : _≡_ {A = ℕ} 0 1 = cc in absurd (omega arith)
 
-pub layout-fits : (s numbers : List ℕ) (l : Layout) (numbers′ : List ℕ) → read l ≡ readInto numbers s → numbers′ ≡ fileNumbersAfter numbers s → LayoutFits l s numbers′
+pub layout-fits : (s numbers : List ℕ) (l : Layout) (numbers′ : List ℕ) → readLayout l ≡ readInto numbers s → numbers′ ≡ fileNumbersAfter numbers s → LayoutFits l s numbers′
 layout-fits s numbers l numbers′ e w =
     let a = read-is numbers s l e in
     let x : l .start ≡ 4 = ap (λ (k : Layout). k .start) (a .whole .layout) in

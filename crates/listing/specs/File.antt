@@ -121,10 +121,10 @@ layoutIn s = pick (isFile s) (some (layoutOf s)) none
 pub data FileReading : Type 0 where
   bad : FileReading
   full : FileReading
-  read : Layout → FileReading
+  readLayout : Layout → FileReading
 
 unfoldable pub readInto : List ℕ → List ℕ → FileReading
-readInto d s = pick (isFile s) (pick (hasRoom d 0 (fileNumbers s)) (read (layoutOf s)) full) bad
+readInto d s = pick (isFile s) (pick (hasRoom d 0 (fileNumbers s)) (readLayout (layoutOf s)) full) bad
 
 -- d afterwards
 unfoldable pub fileNumbersAfter : List ℕ → List ℕ → List ℕ

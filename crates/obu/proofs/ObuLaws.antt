@@ -11,10 +11,10 @@ use borrow.Author.Tests.{leb-true, eqb-true}
 use Rattle.bitio.specs.Parse.{Answer, refused, accepted, Head, stop, item, within, onto}
 use Rattle.bitio.specs.Every.{Every}
 use Rattle.bitio.proofs.ParseLaws.{Leaves, Shrinks, pick-both, pick-cases, many-item, many-stop, many-nil, Back, many-all, Holds, many-each, many-agree, Parts, parts-less, parts-behind}
-use Rattle.bitio.specs.Every.Every.{none as nothing, also}
+use Rattle.bitio.specs.Every.Every.{nothing, also}
 use Rattle.bitio.specs.Leb.{sized, framed}
 use Rattle.bitio.proofs.LebLaws.{sized-back, Sized, sized-parts}
-use Rattle.obu.specs.Obu.{Obu, flag, obuType, passes, made, sizedBody, extended, headObuOf, headObu, obusOf, obus, specObus, obuBytes, unitBytes, Written}
+use Rattle.obu.specs.Obu.{Obu, flag, obuType, passes, obuWith, sizedBody, extended, headObuOf, headObu, obusOf, obus, specObus, obuBytes, unitBytes, Written}
 
 -- ---- what is read is a part of the list
 
@@ -38,7 +38,7 @@ module _ (pass : ℕ → Bool) where
       behind (stop k) m = tt
       behind (item p r) m = parts-behind m f
 
-      go : (x : Head (List ℕ)) → Sized (f ++ s) x → Headed (f ++ s) (within x (λ p. accepted (made h e p)))
+      go : (x : Head (List ℕ)) → Sized (f ++ s) x → Headed (f ++ s) (within x (λ p. accepted (obuWith h e p)))
       go (stop k) m = tt
       go (item p r) m = record { parts = m; passing = a }
 
@@ -116,7 +116,7 @@ module _ (h : ℕ) (low : flag 128 h ≡ false) (pass : passes (obuType h) ≡ t
   unfolding headObuOf
   head-ext e s k = rw (low, pass, k)
 
-body-back : (h : ℕ) (e : Option ℕ) (p r : List ℕ) → flag 2 h ≡ true → length p < 2 ^ 56 → sizedBody h e (framed p ++ r) ≡ item (made h e p) r
+body-back : (h : ℕ) (e : Option ℕ) (p r : List ℕ) → flag 2 h ≡ true → length p < 2 ^ 56 → sizedBody h e (framed p ++ r) ≡ item (obuWith h e p) r
 body-back h e p r k l = rw (k, sized-back 4 5 p r l)
 
 back : (t : ℕ) (e : Option ℕ) (p r : List ℕ) → passes t ≡ true → length p < 2 ^ 56

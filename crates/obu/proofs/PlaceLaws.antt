@@ -11,8 +11,7 @@ use lib.Seq.{length-take-le, drop-cons, drop-drop, take-append-seam, drop-append
 use lib.Dec.{ltb}
 use borrow.Author.Tests.{lt-ltb, le-ltb, ltb-true, ltb-false, lt-leb, le-leb, ne-eqb}
 use Rattle.bitio.specs.Parse.{refused, accepted, Head, stop, item}
-use Rattle.bitio.specs.Leb.{number, readLeb, sized}
-use Rattle.bitio.specs.Leb.Number.{none as noNumber}
+use Rattle.bitio.specs.Leb.{noLeb, lebThen, readLeb, sized}
 use Rattle.bitio.proofs.ParseLaws.{pick-cases, parts-length}
 use Rattle.obu.specs.Obu.{Obu, passes, sizedBody, headObuOf, headObu, obus}
 use types.Run.{OneOf}
@@ -21,7 +20,7 @@ use mathlib.Core.Logic.{inl, inr}
 use Rattle.obu.proofs.reader.ObuAt.{the-type}
 use Rattle.obu.specs.declared.reader.ObuAt.{ObuAt}
 use Rattle.obu.specs.declared.reader.ObuAt.the-variants.{Found, End, Refused}
-use Rattle.obu.specs.Place.{Place, nothing, wrong, lies, placeOf, obuPlace, refusalOf, obuSays, part}
+use Rattle.obu.specs.Place.{Place, noMore, wrong, lies, placeOf, obuPlace, placeRefusal, obuSays, part}
 use Rattle.obu.specs.Write.{obu as obuOf}
 use Rattle.obu.proofs.ObuLaws.{is-obu, obus-item, obus-stop, obus-nil, infront, infront-next, infront-nil}
 
@@ -38,11 +37,11 @@ module _ (s : List ℕ) (h : ℕ) (e : Option ℕ) (p : ℕ) (in-s : p ≤ lengt
       rw (ne-eqb (h / 2 % 2) 1 n, length-drop p s, k, z)
 
   module _ (sz : h / 2 % 2 ≡ 1) where
-    pub body-none : readLeb (drop p s) ≡ noNumber → wrong 4 ≡ body
+    pub body-none : readLeb (drop p s) ≡ noLeb → wrong 4 ≡ body
     unfolding sized
     body-none b = rw (sz, b)
 
-    module _ (n q : ℕ) (b : readLeb (drop p s) ≡ number n (drop q s)) where
+    module _ (n q : ℕ) (b : readLeb (drop p s) ≡ lebThen n (drop q s)) where
       pub body-over : length s - q < n → wrong 5 ≡ body
       unfolding sized
       body-over l =
@@ -62,7 +61,7 @@ module _ (s : List ℕ) (h : ℕ) (e : Option ℕ) (p : ℕ) (in-s : p ≤ lengt
 -- ---- the outcomes of an OBU at a position
 
 module _ (s : List ℕ) (at : ℕ) where
-  pub at-end : length s ≤ at → nothing ≡ obuPlace s at
+  pub at-end : length s ≤ at → noMore ≡ obuPlace s at
   unfolding obuPlace
   at-end l = rw (le-ltb at (length s) l)
 
@@ -140,7 +139,7 @@ module _ (s : List ℕ) (at : ℕ) where
 
   -- what the place of x says
   abbrev Says : Head Obu → Place → Type 0
-  Says x nothing = length s ≤ at
+  Says x noMore = length s ≤ at
   Says x (wrong k) = (at < length s) × (x ≡ stop k)
   Says x (lies t e a b) = IsPlaced s at t e a b
 
@@ -160,7 +159,7 @@ module _ (s : List ℕ) (at : ℕ) where
   pub is-wrong : (k : ℕ) → obuPlace s at ≡ wrong k → (at < length s) × (headObu (drop at s) ≡ stop k)
   is-wrong k q = rw q at place-says
 
-  pub is-end : obuPlace s at ≡ nothing → length s ≤ at
+  pub is-end : obuPlace s at ≡ noMore → length s ≤ at
   is-end q = rw q at place-says
 
 -- ---- from one OBU to the next
@@ -181,7 +180,7 @@ module _ {s : List ℕ} {at : ℕ} {front : List Obu} (w : Walked s at front) wh
         within = p .within;
       }
 
-  pub walk-end : obuPlace s at ≡ nothing → obus s ≡ accepted front
+  pub walk-end : obuPlace s at ≡ noMore → obus s ≡ accepted front
   walk-end q =
       w .whole ∙ ap (λ (l : List ℕ). infront front (obus l)) (drop-of-length-le s (is-end s at q)) ∙ ap (infront front) obus-nil
       ∙ ap accepted (append-nil front)
@@ -192,7 +191,7 @@ module _ {s : List ℕ} {at : ℕ} {front : List Obu} (w : Walked s at front) wh
       w .whole ∙ ap (infront front) (obus-stop (drop at s) k (omega (arith, length-drop at s)) e)
 
 -- an answer that is no OBU, though bytes are left, is a refusal
-pub not-found : (s : List ℕ) (at : ℕ) (r : ObuAt) → OneOf (1 ∷ 2 ∷ []) (tagOf the-type r) → at < length s → obuSays r ≡ obuPlace s at → obuPlace s at ≡ wrong (refusalOf (obuSays r))
+pub not-found : (s : List ℕ) (at : ℕ) (r : ObuAt) → OneOf (1 ∷ 2 ∷ []) (tagOf the-type r) → at < length s → obuSays r ≡ obuPlace s at → obuPlace s at ≡ wrong (placeRefusal (obuSays r))
 not-found s at (Found o) k l e = absurd (no k)
   where
     no : OneOf (1 ∷ 2 ∷ []) 0 → ⊥

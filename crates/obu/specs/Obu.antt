@@ -25,12 +25,12 @@ obuType h = h / 8 % 16
 unfoldable pub passes : ℕ → Bool
 passes t = leb t 8 || eqb t 15
 
-abbrev pub made : ℕ → Option ℕ → List ℕ → Obu
-made h e p = record { type = obuType h; ext = e; payload = p }
+abbrev pub obuWith : ℕ → Option ℕ → List ℕ → Obu
+obuWith h e p = record { type = obuType h; ext = e; payload = p }
 
 -- AV1 5.3.1: obu_size bytes; without a size, the rest
 abbrev pub sizedBody : ℕ → Option ℕ → List ℕ → Head Obu
-sizedBody h e s = within (pick (flag 2 h) (sized 4 5 s) (item s [])) (λ p. accepted (made h e p))
+sizedBody h e s = within (pick (flag 2 h) (sized 4 5 s) (item s [])) (λ p. accepted (obuWith h e p))
 
 -- AV1 5.3.3: the extension byte
 abbrev pub extended : ℕ → List ℕ → Head Obu

@@ -14,7 +14,7 @@ use Rattle.obu.specs.declared.reader.ObuAt.the-variants.{Found, End, Ref
 
 -- what stands at a position: nothing more, a refusal, or an OBU whose payload lies from start to end, where the next OBU starts
 pub data Place : Type 0 where
-  nothing : Place
+  noMore : Place
   wrong : ℕ → Place
   lies : (type : ℕ) (ext : Option ℕ) (start end : ℕ) → Place
 
@@ -24,13 +24,13 @@ placeOf s (stop k) = wrong k
 placeOf s (item o r) = lies (o .type) (o .ext) (length s - length r - length (o .payload)) (length s - length r)
 
 unfoldable pub obuPlace : List ℕ → ℕ → Place
-obuPlace s at = pick (ltb at (length s)) (placeOf s (headObu (drop at s))) nothing
+obuPlace s at = pick (ltb at (length s)) (placeOf s (headObu (drop at s))) noMore
 
 -- a refusal's number, 0 where there is none
-abbrev pub refusalOf : Place → ℕ
-refusalOf nothing = 0
-refusalOf (wrong k) = k
-refusalOf (lies t e a b) = 0
+abbrev pub placeRefusal : Place → ℕ
+placeRefusal noMore = 0
+placeRefusal (wrong k) = k
+placeRefusal (lies t e a b) = 0
 
 abbrev pub extensionSays : Extension → Option ℕ
 extensionSays Absent = none
@@ -39,7 +39,7 @@ extensionSays (Byte e) = some e
 -- 01's number and values for each case of ObuAt
 abbrev pub obuSays : ObuAt → Place
 obuSays (Found o) = lies (o .«obu_type») (extensionSays (o .extension)) (o .start) (o .end)
-obuSays End = nothing
+obuSays End = noMore
 obuSays (Refused k) = wrong k
 
 -- the bytes from a to e, or none where they are not there

@@ -3,7 +3,7 @@ ghost use mathlib.Core.Path.{_≡_};
 ghost use Prim.Native.Nat.{_≤_};
 ghost use lib.ListN.{length, drop};
 ghost use Rattle.obu.specs.Obu.{passes, sizedBody};
-ghost use Rattle.obu.specs.Place.{extensionSays, placeOf, obuPlace, obuSays, refusalOf, part};
+ghost use Rattle.obu.specs.Place.{extensionSays, placeOf, obuPlace, obuSays, placeRefusal, part};
 use bitio::leb128::Leb;
 
 pub enum Extension {
@@ -93,7 +93,7 @@ pub fn obu_at(s: &[u8], at: usize) -> ObuAt
 
 // The number of a refusal, 0 where there is none.
 pub fn refusal(found: ObuAt) -> u32
-    ensures { λ r. ⌜ r ≡ refusalOf (obuSays found) ⌝ }
+    ensures { λ r. ⌜ r ≡ placeRefusal (obuSays found) ⌝ }
 {
     match found {
         ObuAt::Refused(k) => k,

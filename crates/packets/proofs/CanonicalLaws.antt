@@ -11,7 +11,7 @@ use Rattle.bitio.specs.Lent.{pasted}
 use Rattle.obu.specs.Obu.{Obu, obus}
 use Rattle.obu.specs.Unit.{strayIn, ofUnit}
 use Rattle.obu.proofs.ObuLaws.{obus-item}
-use Rattle.obu.specs.Place.{Place, nothing, wrong, lies, obuPlace}
+use Rattle.obu.specs.Place.{Place, noMore, wrong, lies, obuPlace}
 use Rattle.obu.proofs.PlaceLaws.{Placed, is-placed, walk-start, walk-end, walk-stop}
 use Rattle.container.specs.Stream.{others}
 use Rattle.packets.specs.Packets.{canonical, canonicalOf}
@@ -48,7 +48,7 @@ split-first s = go (obuPlace s 0) refl
     none x e n o os q = absurd (n o os (sym e ∙ q))
 
     go : (x : Place) → obuPlace s 0 ≡ x → Split s (endOf x)
-    go nothing e = none (accepted []) (walk-end (walk-start s) e) (λ o os q. let z : _≡_ {A = ℕ} 0 1 = cc in omega arith)
+    go noMore e = none (accepted []) (walk-end (walk-start s) e) (λ o os q. let z : _≡_ {A = ℕ} 0 1 = cc in omega arith)
     go (wrong k) e = none (refused k) (walk-stop (walk-start s) k e) (λ o os q. let z : _≡_ {A = ℕ} 0 1 = cc in omega arith)
     go (lies t x a b) e = split-at (is-placed s 0 e .placed)
 

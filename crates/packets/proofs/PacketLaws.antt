@@ -7,13 +7,14 @@ use mathlib.Core.Bool.{true, false}
 use lib.ListN.{length}
 use Rattle.bitio.specs.Parse.{Answer, refused, accepted}
 use Rattle.bitio.specs.Every.{Every}
-use Rattle.bitio.specs.Every.Every.{none as nothing, also}
+use Rattle.bitio.specs.Every.Every.{nothing, also}
+use Rattle.bitio.proofs.EveryLaws.{every-append}
 use Rattle.obu.specs.Obu.{Obu, obus, unitBytes}
 use Rattle.obu.specs.Unit.{ofUnit}
 use Rattle.obu.proofs.ObuLaws.{Allowed, obus-unit, obus-behind, obus-allowed}
 use Rattle.container.specs.Stream.{hasFrame, lead, others, either, join}
 use Rattle.packets.specs.Packets.{Packet, out, meet, tailed, behindP, firstTime, alone, mergePackets}
-use Rattle.container.proofs.StreamLaws.{every-append, either-nil}
+use Rattle.container.proofs.StreamLaws.{either-nil}
 use Rattle.container.proofs.LeadLaws.{others-append, join-twice, join-every}
 use Rattle.packets.specs.PacketLists.{bytesOf}
 use Rattle.packets.specs.code.PacketRuns.{closes, allParsed, pieceOf, Waits}

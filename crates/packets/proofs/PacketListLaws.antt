@@ -10,7 +10,7 @@ use lib.Dec.{leb, eqb}
 use borrow.Author.Tests.{le-leb, lt-leb, leb-true, leb-false, eqb-true, eq-eqb, ne-eqb}
 use Rattle.bitio.specs.Parse.{Answer, refused, accepted, answer, onto}
 use Rattle.bitio.proofs.ParseLaws.{pick-both}
-use Rattle.bitio.specs.Every.Every.{none as nothing, also}
+use Rattle.bitio.specs.Every.Every.{nothing, also}
 use Rattle.obu.specs.Obu.{Obu}
 use Rattle.obu.specs.Place.{part}
 use Rattle.obu.specs.Unit.{isFrame, count, ofUnit}

@@ -10,7 +10,7 @@ use lib.Dec.{ltb}
 use borrow.Author.Tests.{lt-ltb, le-ltb, ltb-true, ltb-false}
 use Rattle.bitio.specs.Lent.{pasted, Wrote}
 use Rattle.bitio.proofs.LentLaws.{pasted-nil, pasted-set, wrote-length, wrote-more}
-use Rattle.bitio.specs.Every.Every.{none as nothing, also}
+use Rattle.bitio.specs.Every.Every.{nothing, also}
 use Rattle.bitio.specs.Limits.{limit}
 use Rattle.container.specs.Stream.{flat, streamBytes}
 use Rattle.container.proofs.StreamLaws.{flat-append}

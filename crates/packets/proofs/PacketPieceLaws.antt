@@ -9,6 +9,7 @@ use lib.Seq.{slice}
 use Rattle.bitio.specs.Parse.{Answer, refused, accepted, answer}
 use Rattle.bitio.specs.Lent.{pasted, Wrote}
 use Rattle.bitio.specs.Every.Every.{also}
+use Rattle.bitio.proofs.EveryLaws.{every-append}
 use Rattle.bitio.proofs.LentLaws.{wrote-length, wrote-more}
 use Rattle.obu.specs.Obu.{Obu, obus}
 use Rattle.obu.specs.Unit.{count, ofUnit}
@@ -19,7 +20,7 @@ use Rattle.container.specs.code.Ranges.{Range, here, more, keptBytes, Ranged, M
 use Rattle.container.proofs.StreamLaws.{bytes-append}
 use Rattle.container.proofs.RangeLaws.{range-end}
 use Rattle.packets.specs.code.PacketRuns.{listed, unitOf, allParsed, parsed, leadOf, piece, most, Parses, Full, Run, RunRoom, HeadAt, found, missing, LeadAt, waiting, closing, behind, parsesUnit, Piece, Joins}
-use Rattle.packets.proofs.SliceLaws.{slice-at, every-join, every-or}
+use Rattle.packets.proofs.SliceLaws.{slice-at, every-or}
 use Rattle.packets.proofs.PacketListLaws.{listed-length, listed-out, listed-short}
 use Rattle.packets.proofs.PacketSteps.{first-obu, lead-found, lead-missing}
 use Rattle.packets.proofs.PacketRunLaws.{lead-empty, runBytes, parsed-append}
@@ -105,7 +106,7 @@ module _ {s es : List ℕ} {a c b : ℕ} (p : Piece s es a c b) where
         short = p .short;
         within = p .within;
         order = omega (arith, p .order, p .after);
-        parse = rw whole (every-join Parses (slice a c (listed s es)) (unitOf s es c ∷ slice (c + 1) b (listed s es)) (p .front) (also m (p .back)));
+        parse = rw whole (every-append {P = Parses} (p .front) (also m (p .back)));
       }
 
   whole-held : allParsed (slice a b (listed s es)) ≡ allParsed (slice a c (listed s es)) ++ (parsed (unitOf s es c) ++ allParsed (slice (c + 1) b (listed s es)))

@@ -8,8 +8,9 @@ use mathlib.Core.Bool.{true}
 use lib.ListN.{length, drop, getD, length-map, List·getD-map}
 use lib.Seq.{slice, slice-empty, drop-cons}
 use Rattle.bitio.specs.Parse.{Answer, refused, accepted, Head, stop, item, onto}
-use Rattle.bitio.specs.Every.Every.{none as nothing, also}
+use Rattle.bitio.specs.Every.Every.{nothing, also}
 use Rattle.bitio.proofs.ParseLaws.{length-none}
+use Rattle.bitio.proofs.EveryLaws.{every-drop}
 use Rattle.obu.specs.Obu.{Obu, headObu, obus, unitBytes}
 use Rattle.obu.specs.Unit.{has}
 use Rattle.obu.proofs.ObuLaws.{obus-nil, obus-item, obus-stop}
@@ -18,7 +19,7 @@ use Rattle.packets.specs.Packets.{Packet, alone, mergePackets}
 use Rattle.packets.specs.PacketLists.{bytesOf, timesOf}
 use Rattle.bitio.specs.Every.{Every}
 use Rattle.packets.specs.code.PacketRuns.{closes, allParsed, leadOf, piece, Parses, Waits, Next, Empty, Full}
-use Rattle.packets.proofs.SliceLaws.{slice-split, slice-rest, slice-at, map-slice, every-map, every-drop, every-slice, every-at, every-seam}
+use Rattle.packets.proofs.SliceLaws.{slice-split, slice-rest, slice-at, map-slice, every-map, every-slice, every-at, every-seam}
 use Rattle.packets.proofs.PacketLaws.{Waiting, Short, alone-run, merge-more, merge-last}
 
 -- ---- a unit with bytes, and units without

@@ -7,7 +7,9 @@ use mathlib.Core.List.{List, [], _∷_, _++_, map}
 use lib.ListN.{length, take, drop, getD, take-append-drop}
 use lib.Seq.{slice, drop-cons, drop-append-le, length-take-le, take-suc, take-length, take-take, getD-take}
 use Rattle.bitio.specs.Every.{Every}
-use Rattle.bitio.specs.Every.Every.{none as nothing, also}
+use Rattle.bitio.specs.Every.Every.{nothing, also}
+use Rattle.bitio.proofs.ParseLaws.{map-take}
+use Rattle.bitio.proofs.EveryLaws.{every-take, every-drop}
 
 module _ {A : Type 0} where
   -- what is left from a on: up to b, and from b on
@@ -39,11 +41,6 @@ module _ {A : Type 0} where
   slice-join a m b l h k n =
       slice-split a m (take b l) h (omega (arith, length-take-le b l n)) ∙ rw (take-take m b l k)
 
-  map-take : {B : Type 0} (f : A → B) (n : ℕ) (l : List A) → map f (take n l) ≡ take n (map f l)
-  map-take f zero l = refl
-  map-take f (suc n) [] = refl
-  map-take f (suc n) (x ∷ l) = rw (map-take f n l)
-
   map-drop : {B : Type 0} (f : A → B) (n : ℕ) (l : List A) → map f (drop n l) ≡ drop n (map f l)
   map-drop f zero l = refl
   map-drop f (suc n) [] = refl
@@ -57,18 +54,8 @@ module _ {A : Type 0} where
     every-map f [] e = nothing
     every-map f (x ∷ l) (also p ps) = also p (every-map f l ps)
 
-    every-take : (n : ℕ) (l : List A) → Every P l → Every P (take n l)
-    every-take zero l e = nothing
-    every-take (suc n) [] e = nothing
-    every-take (suc n) (x ∷ l) (also p ps) = also p (every-take n l ps)
-
-    pub every-drop : (n : ℕ) (l : List A) → Every P l → Every P (drop n l)
-    every-drop zero l e = e
-    every-drop (suc n) [] e = nothing
-    every-drop (suc n) (x ∷ l) (also p ps) = every-drop n l ps
-
     pub every-slice : (a b : ℕ) (l : List A) → Every P l → Every P (slice a b l)
-    every-slice a b l e = every-drop a (take b l) (every-take b l e)
+    every-slice a b l e = every-drop P a (take b l) (every-take P b l e)
 
     pub every-at : (i : ℕ) (l : List A) (d : A) → i < length l → Every P l → P (getD l i d)
     every-at zero [] d h e = absurd (omega arith)
@@ -84,10 +71,6 @@ module _ {A : Type 0} where
     pub every-seam : (l : List A) (x : A) (r : List A) → Every P (l ++ (x ∷ r)) → P x
     every-seam [] x r (also p ps) = p
     every-seam (y ∷ l) x r (also p ps) = every-seam l x r ps
-
-    pub every-join : (l r : List A) → Every P l → Every P r → Every P (l ++ r)
-    every-join [] r e f = f
-    every-join (x ∷ l) r (also p ps) f = also p (every-join l r ps f)
 
     -- an element, or the one that stands for none
     pub every-or : (i : ℕ) (l : List A) (d : A) → P d → Every P l → P (getD l i d)

@@ -4,6 +4,7 @@ use mathlib.Core.Path.{_≡_, refl, sym, _∙_}
 use mathlib.Core.List.{List, [], map}
 use mathlib.Core.Bool.{Bool, true, false, cond as pick}
 use Rattle.bitio.specs.Parse.{Answer, refused, accepted, andNext}
+use Rattle.bitio.proofs.ParseLaws.{next-chain}
 use Rattle.obu.specs.Obu.{Obu, obus, unitBytes}
 use Rattle.obu.specs.Unit.{has}
 use Rattle.header.specs.Sequence.{Sequence}
@@ -14,11 +15,6 @@ use Rattle.pictures.specs.Assemble.{verdict}
 use Rattle.pictures.specs.Flat.{judged, renewing, answerOr, sentBytes}
 
 -- ---- chains of answers
-
-pub next-chain : {A B C : Type 0} (x : Answer A) (f : A → Answer B) (g : B → Answer C) → andNext (andNext x f) g ≡ andNext x (λ a. andNext (f a) g)
-unfolding andNext
-next-chain (refused k) f g = refl
-next-chain (accepted a) f g = refl
 
 pub next-same : {A B : Type 0} (x : Answer A) (f g : A → Answer B) → ((a : A) → f a ≡ g a) → andNext x f ≡ andNext x g
 unfolding andNext

@@ -10,7 +10,7 @@ use Rattle.bitio.specs.Parse.{Answer, refused, accepted}
 use Rattle.bitio.specs.Lent.{pasted}
 use Rattle.bitio.proofs.LentLaws.{pasted-nil, pasted-more, pasted-length}
 use Rattle.obu.specs.Obu.{Obu, passes, obus, obuBytes, unitBytes}
-use Rattle.obu.specs.Place.{wrong, nothing, obuPlace, part}
+use Rattle.obu.specs.Place.{wrong, noMore, obuPlace, part}
 use Rattle.obu.specs.Write.{obu}
 use Rattle.obu.proofs.ObuLaws.{infront}
 use Rattle.obu.proofs.PlaceLaws.{IsPlaced, Walked, walk-start, walk-next, walk-end, walk-stop, part-placed}
@@ -78,7 +78,7 @@ module _ {s new : List ℕ} {at n : ℕ} (m : Sizing s new at n) where
         size = omega (arith, m .size, h′, e, length-next new (m .front) (g .obu));
       }
 
-  pub size-end : obuPlace s at ≡ nothing → n ≡ capped (length (rewritten new s))
+  pub size-end : obuPlace s at ≡ noMore → n ≡ capped (length (rewritten new s))
   unfolding rewritten
   size-end q = rw (walk-end (m .walked) q) (m .size)
 
@@ -139,7 +139,7 @@ module _ {s new d : List ℕ} {w at to : ℕ} {o : List ℕ} (m : PuttingRewritt
   pub rewrite-stop : (k : ℕ) → obuPlace s at ≡ wrong k → ⊥
   rewrite-stop k q = let e = walk-stop (m .walked) k q in let r = m .reads in let z : _≡_ {A = ℕ} 0 1 = cc in omega arith
 
-  pub rewrite-end : obuPlace s at ≡ nothing → (to ≡ w + length (rewritten new s)) × (o ≡ pasted d w (rewritten new s))
+  pub rewrite-end : obuPlace s at ≡ noMore → (to ≡ w + length (rewritten new s)) × (o ≡ pasted d w (rewritten new s))
   unfolding rewritten
   rewrite-end q = rw (walk-end (m .walked) q) (m .next, m .lent)
 

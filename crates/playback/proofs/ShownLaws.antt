@@ -13,13 +13,14 @@ use borrow.Author.Tests.{le-leb, lt-leb, leb-true, ltb-true, ltb-false}
 use Rattle.bitio.specs.Limits.{limit}
 use Rattle.bitio.specs.Parse.{Answer, refused, accepted, answer, onto, andNext}
 use Rattle.bitio.specs.Lent.{pasted}
+use Rattle.bitio.proofs.ParseLaws.{or-neither, onto-is}
 use Rattle.bitio.proofs.LentLaws.{pasted-nil, pasted-set, pasted-length}
 use Rattle.obu.specs.Place.{part, partIn}
 use Rattle.container.specs.Units.{unitsFrom, unitsAt, countOf, outAfter}
 use Rattle.container.specs.Lists.{accepts}
 use Rattle.container.proofs.ListLaws.{units-refused}
 use Rattle.annexb.proofs.CutLaws.{accepted-is}
-use Rattle.player.specs.Player.{State, start, Played, play, leaves}
+use Rattle.player.specs.Player.{State, start, Played, play, leaves, stateAfter}
 use Rattle.player.specs.Values.{shows, keptBehind, stateSays, playedOn, playedBy}
 use Rattle.player.specs.declared.step.State.{State as CodeState}
 use Rattle.player.specs.declared.step.Played.{Played as CodePlayed}
@@ -39,11 +40,6 @@ number-says st p u = go (play (stateSays st) p u)
     go (refused n) = refl
     go (accepted r) = position (r .shown)
 
--- the end before unit i
-pub start-before : (es : List ℕ) (i : ℕ) → (i ≡ 0 → ⊥) → getD es (i - 1) 0 ≡ getD (0 ∷ es) i 0
-start-before es zero h = absurd (h refl)
-start-before es (suc i) h = ap (λ n. getD es n 0) (omega arith)
-
 -- unit i, by where it starts and ends
 pub unit-at : (s es : List ℕ) (i : ℕ) {a : ℕ} {v : List ℕ} → a ≡ getD (0 ∷ es) i 0 → v ≡ part s a (getD es i 0) → v ≡ partIn s es i
 unit-at s es i q w = w ∙ ap (λ x. part s x (getD es i 0)) q
@@ -52,10 +48,6 @@ unit-at s es i q w = w ∙ ap (λ x. part s x (getD es i 0)) q
 
 pub none-cut : {A : Type 0} {k : ℕ} {a : A} → refused k ≡ accepted a → ⊥
 none-cut e = let z : _≡_ {A = ℕ} 0 1 = cc in omega arith
-
-onto-is : {A : Type 0} (a : A) (x : Answer (List A)) (l : List A) → onto a x ≡ accepted l → (m : List A) × (x ≡ accepted m) × (l ≡ a ∷ m)
-onto-is a (refused k) l e = absurd (none-cut e)
-onto-is a (accepted m) l e = (m, refl, cc)
 
 pub record IsCut (b : List ℕ) (at : ℕ) (es : List ℕ) (us : List (List ℕ)) : Type 0 where
   pub count : length us ≡ length es
@@ -153,7 +145,7 @@ module _ {s es : List ℕ} {cue : ℕ} {d : List ℕ} {st : State} {i k : ℕ} {
     pub playing-slot : k < length o
     playing-slot = omega (arith, playing-long, z .can .room, z .place)
 
-    module _ (r : CodePlayed) (says : codeNumber (r .answer) ≡ shownNumber (play st (i + 1) (partIn s es i))) (left : stateSays (r .state) ≡ leaves st (play st (i + 1) (partIn s es i))) where
+    module _ (r : CodePlayed) (says : codeNumber (r .answer) ≡ shownNumber (play st (i + 1) (partIn s es i))) (left : stateSays (r .state) ≡ stateAfter st (i + 1) (partIn s es i)) where
       abbrev u : List ℕ
       u = getD all i []
 
@@ -166,7 +158,7 @@ module _ {s es : List ℕ} {cue : ℕ} {d : List ℕ} {st : State} {i k : ℕ} {
       number-is : codeNumber (r .answer) ≡ shownNumber (play st (suc i) u)
       number-is = says ∙ ap shownNumber same
 
-      state-is : stateSays (r .state) ≡ leaves st (play st (suc i) u)
+      state-is : stateSays (r .state) ≡ stateAfter st (suc i) u
       state-is = left ∙ ap (leaves st) same
 
       turn : shownFrom st (suc i) (drop i all) ≡ codeNumber (r .answer) ∷ shownFrom (stateSays (r .state)) (suc (i + 1)) (drop (i + 1) all)
@@ -192,10 +184,6 @@ module _ {s es : List ℕ} {cue : ℕ} {d : List ℕ} {st : State} {i k : ℕ} {
 
 -- ---- the whole
 
-or-false : (x y : Bool) → (x || y) ≡ false → (x ≡ false) × (y ≡ false)
-or-false true y q = let z : _≡_ {A = ℕ} 0 1 = cc in absurd (omega arith)
-or-false false y q = (refl, q)
-
 and-false : (x : Bool) → (x && false) ≡ false
 and-false true = refl
 and-false false = refl
@@ -203,10 +191,10 @@ and-false false = refl
 -- a cue among n positions
 module _ (cue n : ℕ) (t : (ltb cue 1 || ltb n cue) ≡ false) where
   pub inside-from : 1 ≤ cue
-  inside-from = ltb-false cue 1 (or-false (ltb cue 1) (ltb n cue) t .0)
+  inside-from = ltb-false cue 1 (or-neither (ltb cue 1) (ltb n cue) t .0)
 
   pub inside-to : cue ≤ n
-  inside-to = ltb-false n cue (or-false (ltb cue 1) (ltb n cue) t .1)
+  inside-to = ltb-false n cue (or-neither (ltb cue 1) (ltb n cue) t .1)
 
 module _ (s es : List ℕ) (cue : ℕ) (d : List ℕ) where
   abbrev result : Answer (List ℕ)

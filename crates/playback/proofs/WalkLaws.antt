@@ -22,6 +22,7 @@ use Rattle.assemble.specs.Whole.{counts, countsOf, assembledSays, Lent, outcome
 use Rattle.assemble.specs.declared.multi.Counts.{Counts}
 use Rattle.assemble.specs.declared.multi.Assembled.{Assembled}
 use Rattle.assemble.specs.declared.multi.Assembled.the-variants.{Made}
+use Rattle.assemble.proofs.AnswerLaws.{stopped-is}
 use Rattle.playback.specs.declared.walk.Walked.{Walked}
 use Rattle.playback.specs.declared.play.Shows.{Shows}
 use Rattle.playback.specs.declared.play.Shows.the-variants.{Positions, Refused as ShowsRefused}
@@ -88,11 +89,6 @@ pub behind-none : (k : ℕ) {s : Shows} → s ≡ ShowsRefused k → _≡_ {A = 
 unfolding overall
 behind-none k q = ap (λ z. overall (showsSay z)) (sym q)
 
-stops : (x : Outcome Output) (k : ℕ) (i : Option ℕ) → stopped k i ≡ countsOf x → x ≡ stopped k i
-unfolding andAlso
-stops (stopped n j) k i q = let a : n ≡ k = cc in let b : j ≡ i = cc in rw (a, b)
-stops (made o) k i q = absurd (none-made q)
-
 makes : (x : Outcome Output) (t : Counts) → made t ≡ countsOf x → (o : Output) × (x ≡ made o) × (t ≡ counts o)
 unfolding andAlso
 makes (stopped n j) t q = absurd (none-made (sym q))
@@ -121,7 +117,7 @@ module _ (c : Container) (cue : ℕ) (s rs : List ℕ) (set : Settings) (l l′ 
       → Walks c cue (outcome s rs set) r (record { entry = l; exit = l′ }) (record { entry = d; exit = d })
   unfolding walk andAlso
   walk-stop d r k i v w =
-      let e = stops x k i (sym w ∙ h .answer) in
+      let e = stopped-is x k i (sym w ∙ h .answer) in
       record { answer = v ∙ rw e; assembled = h .lent; way = rw e }
 
   module _ (t : Counts) (made-it : a ≡ Made t) where

@@ -26,7 +26,7 @@ use Rattle.playback.specs.declared.play.Shows.the-variants.{Refused as S
 use Rattle.playback.specs.Lent.{Fills, Store, storeRoom, storeAfter, Stores}
 use Rattle.playback.specs.Gather.{gathered, HasRoom}
 use Rattle.playback.specs.Shown.{fromCue, playFrom, showsSay}
-use Rattle.playback.specs.Way.{WriteLent, CarryLent, bytesRoom, written, Writes, carried, Carries, shown, Plays}
+use Rattle.playback.specs.Way.{WriteLent, CarryLent, bytesRoom, written, Writes, carriedUnits, Carries, shown, Plays}
 use Rattle.playback.proofs.GatherLaws.{has-room, stores}
 use Rattle.playback.proofs.ShownLaws.{none-cut}
 use Rattle.container.proofs.LentLaws.{units-there, lent-write}
@@ -198,14 +198,14 @@ module _ (c : Container) (us : List (List ℕ)) where
   -- written
   module _ (d d′ : WriteLent) (r : ByteCount) (w : Writes c us r (record { entry = d; exit = d′ })) (b : Store) where
     abbrev R : Answer (List (List ℕ))
-    R = carried c us (record { written = d; back = b })
+    R = carriedUnits c us (record { written = d; back = b })
 
     carried-some : {bs : List ℕ} → written c us d ≡ accepted bs → read c (storeRoom b) bs ≡ R
-    unfolding carried andNext
+    unfolding carriedUnits andNext
     carried-some q = rw q
 
     pub carry-stop : (k : ℕ) → r ≡ CountRefused k → Carries c us (SplitRefused k) (record { entry = record { written = d; back = b }; exit = record { written = d′; back = b } })
-    unfolding carried andNext
+    unfolding carriedUnits andNext
     carry-stop k t =
         let z : R ≡ refused k = rw (joined-none (written c us d) r k (w .answer) t) in
         record { answer = sym (ap (λ i. sizesOf i) z); lent = ap₂ (λ i j. record { written = i; back = j }) (w .lent) (sym (ap (λ i. storeAfter i b) z)) }
@@ -243,33 +243,33 @@ module _ (c : Container) (us : List (List ℕ)) where
     abbrev S : Answer (List ℕ)
     S = shown c us cue (record { carried = d; shown = g })
 
-    shown-some : {vs : List (List ℕ)} → carried c us d ≡ accepted vs → fromCue (length g) cue vs ≡ S
+    shown-some : {vs : List (List ℕ)} → carriedUnits c us d ≡ accepted vs → fromCue (length g) cue vs ≡ S
     unfolding shown andNext
     shown-some q = rw q
 
     pub show-stop : (k : ℕ) → r ≡ SplitRefused k → Plays c us cue (ShowsRefused k) (record { entry = record { carried = d; shown = g }; exit = record { carried = d′; shown = g } })
     unfolding shown andNext
     show-stop k t =
-        let z : S ≡ refused k = rw (split-none (carried c us d) r k (w .answer) t) in
+        let z : S ≡ refused k = rw (split-none (carriedUnits c us d) r k (w .answer) t) in
         record { answer = sym (ap (λ i. countOf i) z); lent = ap₂ (λ i j. record { carried = i; shown = j }) (w .lent) (sym (ap (λ i. outAfter i g) z)) }
 
     module _ (n u : ℕ) (t : r ≡ Units n u) where
-      back-fits : (vs : List (List ℕ)) → carried c us d ≡ accepted vs → HasRoom (storeRoom (d .back)) vs
-      unfolding carried andNext
+      back-fits : (vs : List (List ℕ)) → carriedUnits c us d ≡ accepted vs → HasRoom (storeRoom (d .back)) vs
+      unfolding carriedUnits andNext
       back-fits vs q = go (written c us (d .written)) q
         where
           go : (x : Answer (List ℕ)) → andNext x (read c (storeRoom (d .back))) ≡ accepted vs → HasRoom (storeRoom (d .back)) vs
           go (refused k) q = absurd (none-cut q)
           go (accepted bs) q = read-fits c (storeRoom (d .back)) bs vs q
 
-      back-is : d′ .back ≡ storeAfter (carried c us d) (d .back)
+      back-is : d′ .back ≡ storeAfter (carriedUnits c us d) (d .back)
       back-is = ap (λ (y : CarryLent). y .back) (w .lent)
 
       pub show-long : n ≤ length (d′ .back .bytes)
-      show-long = bytes-long (carried c us d) (d .back) back-fits r (w .answer) (d′ .back) back-is n u t
+      show-long = bytes-long (carriedUnits c us d) (d .back) back-fits r (w .answer) (d′ .back) back-is n u t
 
       pub show-slots : u ≤ length (d′ .back .ends)
-      show-slots = ends-long (carried c us d) (d .back) back-fits r (w .answer) (d′ .back) back-is n u t
+      show-slots = ends-long (carriedUnits c us d) (d .back) back-fits r (w .answer) (d′ .back) back-is n u t
 
       played : (vs : List (List ℕ)) → HasRoom (storeRoom (d .back)) vs → playFrom (length g) cue (streamBytes vs) (endsOf 0 vs) ≡ fromCue (length g) cue vs
       unfolding playFrom streamBytes andNext
@@ -277,10 +277,10 @@ module _ (c : Container) (us : List (List ℕ)) where
 
       shown-whole : playFrom (length g) cue (take (n - 0) (drop 0 (d′ .back .bytes))) (take (u - 0) (drop 0 (d′ .back .ends))) ≡ S
       shown-whole =
-          let z = sized (carried c us d) (d .back) back-fits r (w .answer) (d′ .back) back-is n u t in
+          let z = sized (carriedUnits c us d) (d .back) back-fits r (w .answer) (d′ .back) back-is n u t in
           ap₂ (λ i j. playFrom (length g) cue i j)
-          (bytes-head (carried c us d) (d .back) back-fits r (w .answer) (d′ .back) back-is n u t)
-          (ends-head (carried c us d) (d .back) back-fits r (w .answer) (d′ .back) back-is n u t)
+          (bytes-head (carriedUnits c us d) (d .back) back-fits r (w .answer) (d′ .back) back-is n u t)
+          (ends-head (carriedUnits c us d) (d .back) back-fits r (w .answer) (d′ .back) back-is n u t)
           ∙ played (z .units) (back-fits (z .units) (z .are)) ∙ shown-some (z .are)
 
       pub show-go : (g′ : List ℕ) (j : Shows)

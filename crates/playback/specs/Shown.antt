@@ -9,7 +9,7 @@ use lib.Dec.{leb}
 use Rattle.bitio.specs.Parse.{Answer, refused, accepted, andNext}
 use Rattle.bitio.specs.Limits.{led34}
 use Rattle.container.specs.Units.{unitsAt}
-use Rattle.player.specs.Player.{State, start, Played, play, leaves}
+use Rattle.player.specs.Player.{State, start, Played, play, stateAfter}
 use Rattle.player.specs.declared.slots.Answer.{Answer as CodeAnswer}
 use Rattle.player.specs.declared.slots.Answer.the-variants.{Shown, Nothing, Refused}
 use Rattle.playback.specs.declared.play.Shows.{Shows}
@@ -38,7 +38,7 @@ codeNumber (Refused n) = 18446744073709551615 - n
 -- the units played in order from the state st, the first under position p and each other under the next
 unfoldable pub shownFrom : State → ℕ → List (List ℕ) → List ℕ
 shownFrom st p [] = []
-shownFrom st p (u ∷ us) = shownNumber (play st p u) ∷ shownFrom (leaves st (play st p u)) (suc p) us
+shownFrom st p (u ∷ us) = shownNumber (play st p u) ∷ shownFrom (stateAfter st p u) (suc p) us
 
 -- 01: positions count from 1; from the cue to the last, from eight empty slots and no kept header
 unfoldable pub shownBy : ℕ → List (List ℕ) → List ℕ

@@ -64,19 +64,19 @@ module _ (c : Container) (us : List (List ℕ)) where
   Writes r = Does (λ d. countOf (written d)) writtenAfter (byteCountSays r)
 
   -- and read back
-  unfoldable pub carried : CarryLent → Answer (List (List ℕ))
-  carried d = andNext (written (d .written)) (read c (storeRoom (d .back)))
+  unfoldable pub carriedUnits : CarryLent → Answer (List (List ℕ))
+  carriedUnits d = andNext (written (d .written)) (read c (storeRoom (d .back)))
 
   abbrev pub carriedAfter : CarryLent → CarryLent
-  carriedAfter d = record { written = writtenAfter (d .written); back = storeAfter (carried d) (d .back) }
+  carriedAfter d = record { written = writtenAfter (d .written); back = storeAfter (carriedUnits d) (d .back) }
 
   abbrev pub Carries : Split → Both CarryLent CarryLent → Type 0
-  Carries r = Does (λ d. sizesOf (carried d)) carriedAfter (splitSays r)
+  Carries r = Does (λ d. sizesOf (carriedUnits d)) carriedAfter (splitSays r)
 
   -- and played from the cue, a number for each position
   module _ (cue : ℕ) where
     unfoldable pub shown : PlayLent → Answer (List ℕ)
-    shown d = andNext (carried (d .carried)) (fromCue (length (d .shown)) cue)
+    shown d = andNext (carriedUnits (d .carried)) (fromCue (length (d .shown)) cue)
 
     abbrev pub shownAfter : PlayLent → PlayLent
     shownAfter d = record { carried = carriedAfter (d .carried); shown = outAfter (shown d) (d .shown) }

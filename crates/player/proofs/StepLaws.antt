@@ -10,13 +10,14 @@ use lib.Dec.{leb}
 use borrow.Author.Tests.{lt-leb, le-leb}
 use Rattle.bitio.specs.Parse.{Answer, refused, accepted, andNext}
 use Rattle.bitio.specs.Limits.{limit}
+use Rattle.bitio.proofs.ParseLaws.{next-chain}
 use Rattle.obu.specs.Obu.{Obu, obus}
 use Rattle.header.specs.Sequence.{Sequence, sequenceOf}
 use Rattle.frame.specs.Frame.{parseFrame}
 use Rattle.frame.specs.UnitFrame.{framePayload, unitFrame}
 use Rattle.frame.specs.declared.frame_header.FrameHeaderInfo.{FrameHeaderInfo}
 use Rattle.header.specs.declared.seq_header.SequenceHeader.{SequenceHeader}
-use Rattle.player.specs.Player.{Shown, keep, known, act, State, start, Played, play, leaves}
+use Rattle.player.specs.Player.{Shown, keep, known, act, State, start, Played, play, leaves, stateAfter}
 use Rattle.player.specs.Values.{shows, actedOn, keptSays, keptBehind, stateSays, startState, playedOn, playedBy, leftIn, leftBy, playKept}
 use Rattle.player.specs.declared.slots.Slot.{Slot}
 use Rattle.player.specs.declared.keep.Last.the-variants.{Nothing as NoHeader, Header}
@@ -27,11 +28,6 @@ use Rattle.player.specs.declared.step.State.{State as CodeState}
 use Rattle.player.proofs.KeepLaws.{behind-refused, behind-read, behind-kept}
 
 -- ---- the whole unit, by what its sequence headers are
-
-next-next : {A B C : Type 0} (x : Answer A) (f : A → Answer B) (g : B → Answer C) → andNext x (λ a. andNext (f a) g) ≡ andNext (andNext x f) g
-unfolding andNext
-next-next (refused k) f g = refl
-next-next (accepted a) f g = refl
 
 module _ (st : State) (p : ℕ) (u : List ℕ) where
   pub play-long : limit < length u → refused 34 ≡ play st p u
@@ -69,7 +65,7 @@ module _ (st : State) (p : ℕ) (u : List ℕ) where
             → andNext (known j) (λ q. andNext (andNext x (λ os. andNext (framePayload true os) (λ f. parseFrame q f))) (λ x. leftBy (some q) (act (st .slots) p x))) ≡ whole x
         go (refused n) e j i = let z : _≡_ {A = ℕ} 0 1 = cc in absurd (omega arith)
         go (accepted os) e none i = rw (← e, ← i)
-        go (accepted os) e (some q) i = rw (← e, ← i) (sym (next-next (framePayload true os) (λ f. parseFrame q f) (λ x. leftBy (some q) (act (st .slots) p x))))
+        go (accepted os) e (some q) i = rw (← e, ← i) (next-chain (framePayload true os) (λ f. parseFrame q f) (λ x. leftBy (some q) (act (st .slots) p x)))
 
 -- ---- an accepted chain was accepted at each link
 
@@ -121,7 +117,7 @@ module _ (st : CodeState) (p : ℕ) (u : List ℕ) where
         ∙ ap (playedOn st (behind .kept)) (play-kept (stateSays st) p u h _ (behind-read (st .kept) u (sym (ap (λ y. y .answer) b) ∙ e)))
 
   -- what the state afterwards says
-  pub leaves-so : stateSays (playedBy st p u .state) ≡ leaves (stateSays st) (play (stateSays st) p u)
+  pub leaves-so : stateSays (playedBy st p u .state) ≡ stateAfter (stateSays st) p u
   unfolding playedBy
   leaves-so = go (play (stateSays st) p u) refl
     where

@@ -100,3 +100,6 @@ play st p u =
 abbrev pub leaves : State → Answer Played → State
 leaves st (refused n) = st
 leaves st (accepted r) = r .state
+
+abbrev pub stateAfter : State → ℕ → List ℕ → State
+stateAfter st p u = leaves st (play st p u)

@@ -11,8 +11,8 @@ use Rattle.protocol.specs.Kinds.{separatorOf, refilledOf, restOf}
 use Rattle.protocol.specs.Marked.{isClean}
 use Rattle.protocol.specs.Told.{Told}
 use Rattle.protocol.specs.Typed.{Typed, typed, decimalText, bytesText}
-use Rattle.protocol.specs.Printed.{dirtyText, partEnd, partStart, partText, valueText, itemText, isPrinted, openedOf, pastOf, itemsText, firstOf, formatOf, headText, endText, answerText}
-use Rattle.protocol.specs.declared.answer.Answer.{Answer}
+use Rattle.protocol.specs.Printed.{dirtyText, partEnd, partStart, partText, valueText, itemText, isPrinted, openedOf, pastOf, itemsText, printStart, formatOf, headText, endText, answerText}
+use Rattle.protocol.specs.declared.answer.Answer.{Answer as Line}
 use Rattle.protocol.specs.declared.kinds.Format.{Format}
 use Rattle.protocol.specs.declared.printer.Printed.{Printed}
 use Rattle.protocol.proofs.TypedLaws.{typed-both}
@@ -28,7 +28,7 @@ inside a e n = go (leb a e) refl (leb e n) refl
     go true p false q h = let z : _≡_ {A = ℕ} 0 1 = cc in absurd (omega arith)
     go false p y q h = let z : _≡_ {A = ℕ} 0 1 = cc in absurd (omega arith)
 
-module _ (a : Answer) (s es : List ℕ) (i : ℕ) {x y : ℕ} (p : x ≡ partStart a es i) (q : y ≡ partEnd a es i) where
+module _ (a : Line) (s es : List ℕ) (i : ℕ) {x y : ℕ} (p : x ≡ partStart a es i) (q : y ≡ partEnd a es i) where
   pub part-inside : leb x y && leb y (length s) ≡ true → bytesText (take (y - x) (drop x s)) ≡ partText a s es i
   unfolding partText
   part-inside h = rw (← p, ← q, h)
@@ -104,10 +104,10 @@ module _ (l : Told) where
 
   -- head, items and end, one behind the other
   pub answer-typed : (t : Typed) (f : Format) (own : Bool) {g : Format} {clean : Bool} {u v w : Typed}
-      → g ≡ formatOf (l .answer) f → clean ≡ isClean own (l .answer) (l .bytes) (l .ends) (l .numbers) → u ≡ typed t (headText (l .answer)) → v ≡ typed u (itemsText (2 ^ 64 - 1) l (firstOf g))
+      → g ≡ formatOf (l .answer) f → clean ≡ isClean own (l .answer) (l .bytes) (l .ends) (l .numbers) → u ≡ typed t (headText (l .answer)) → v ≡ typed u (itemsText (2 ^ 64 - 1) l (printStart g))
       → w ≡ typed v (endText clean) → w ≡ typed t (answerText l f own)
   unfolding answerText
   answer-typed t f own {g} {clean} {u} {v} {w} e n a b c =
-      let items = itemsText (2 ^ 64 - 1) l (firstOf g) in
+      let items = itemsText (2 ^ 64 - 1) l (printStart g) in
       rw (← e, ← n)
       (typed-both t (headText (l .answer)) (items ++ endText clean) a (typed-both u items (endText clean) b c refl) refl)

@@ -10,6 +10,7 @@ use lib.Pow.{pow-add}
 use lib.Seq.{drop-cons}
 use lib.Dec.{ltb, eqb}
 use borrow.Author.Tests.{lt-ltb, le-ltb, le-leb, lt-leb, eq-eqb, ne-eqb, ltb-true}
+use Rattle.bitio.proofs.ParseLaws.{length-none}
 use Rattle.protocol.specs.Text.{none, spells, hexDigit, hexValue, allHex, hexText, hexBytes, pairs, byteString, numberFrom, readNumber, word, keyFrom, wordKey}
 
 -- ---- digits
@@ -103,12 +104,8 @@ bytes-length [] = refl
 bytes-length (a ∷ []) = refl
 bytes-length (a ∷ b ∷ s) = omega (arith, bytes-length s)
 
-no-length : (l : List ℕ) → length l ≡ 0 → l ≡ []
-no-length [] e = refl
-no-length (a ∷ l) e = absurd (omega arith)
-
 pub bytes-none : (s : List ℕ) (k : ℕ) → length s ≤ k + 1 → hexBytes (drop k s) ≡ []
-bytes-none s k h = no-length _ (omega (arith, bytes-length (drop k s), length-drop k s))
+bytes-none s k h = length-none _ (omega (arith, bytes-length (drop k s), length-drop k s))
 
 -- ---- byte strings
 

@@ -13,7 +13,7 @@ use Rattle.io.specs.Digits.{digits, Fewest}
 use Rattle.bitio.specs.Lent.{pasted}
 use Rattle.bitio.proofs.LentLaws.{pasted-take-end}
 use Rattle.protocol.specs.Text.{hexText}
-use Rattle.protocol.specs.Typed.{Typed, typing, placeOf, typed, placesIn, decimalText, bytesText}
+use Rattle.protocol.specs.Typed.{Typed, typing, nextPlace, typed, placesIn, decimalText, bytesText}
 
 -- ---- the buffer
 
@@ -28,7 +28,7 @@ pub typed-both : (t : Typed) (a b : List ℕ) {c : List ℕ} {u v : Typed} → u
 typed-both t a b p q e = q ∙ ap (λ (x : Typed). typed x b) p ∙ typed-more t a b ∙ ap (λ (l : List ℕ). typed t l) e
 
 module _ (t : Typed) (s : List ℕ) (i : ℕ) where
-  pub typed-next : {p : ℕ} → i < length s → p ≡ placeOf (t .at)
+  pub typed-next : {p : ℕ} → i < length s → p ≡ nextPlace (t .at)
       → typed t (drop i s) ≡ typed (typing (p + 1) (set (t .out) p (getD s i 0))) (drop (i + 1) s)
   unfolding typed
   typed-next h e = rw (add-one i, drop-cons s i 0 h, e)

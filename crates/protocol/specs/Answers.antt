@@ -5,28 +5,28 @@ use mathlib.Core.Bool.{Bool, false, cond as pick, _&&_}
 use lib.ListN.{length, set}
 use lib.Dec.{ltb}
 use Rattle.bitio.specs.Lent.{pasted, hasRoom}
-use Rattle.protocol.specs.declared.answer.Answer.{Answer}
+use Rattle.protocol.specs.declared.answer.Answer.{Answer as Line}
 
 -- so many bytes, in so many parts
-abbrev pub partsOf : ℕ → ℕ → Answer
+abbrev pub partsOf : ℕ → ℕ → Line
 partsOf n u = record { refusal = 0; bytes = n; ends = u; numbers = 0; «is_dirty» = false }
 
 -- document 01's number k
-abbrev pub refusedWith : ℕ → Answer
+abbrev pub refusedWith : ℕ → Line
 refusedWith k = record { refusal = k; bytes = 0; ends = 0; numbers = 0; «is_dirty» = false }
 
 -- ---- numbers
 
 -- an answer and the numbers lent to it
 pub record Numbered : Type 0 where
-  pub answer : Answer
+  pub answer : Line
   pub numbers : List ℕ
 
-abbrev pub numbered : Answer → List ℕ → Numbered
+abbrev pub numbered : Line → List ℕ → Numbered
 numbered a ns = record { answer = a; numbers = ns }
 
 -- v stored behind the answer's numbers
-abbrev pub storedNumber : Answer → List ℕ → ℕ → Numbered
+abbrev pub storedNumber : Line → List ℕ → ℕ → Numbered
 storedNumber a ns v =
     record {
       answer = record { refusal = a .refusal; bytes = a .bytes; ends = a .ends; numbers = a .numbers + 1; «is_dirty» = a .«is_dirty» };
@@ -56,18 +56,18 @@ filled a s = record { answer = a; bytes = s }
 
 -- an answer, and the bytes and ends lent to it
 pub record Parted : Type 0 where
-  pub answer : Answer
+  pub answer : Line
   pub bytes : List ℕ
   pub ends : List ℕ
 
-abbrev pub parted : Answer → List ℕ → List ℕ → Parted
+abbrev pub parted : Line → List ℕ → List ℕ → Parted
 parted a s es = record { answer = a; bytes = s; ends = es }
 
 abbrev pub hasPartRoom : Parted → List ℕ → Bool
 hasPartRoom t xs = ltb (t .answer .ends) (length (t .ends)) && hasRoom (t .bytes) (t .answer .bytes) xs
 
 -- xs put behind the answer's bytes, and its end, of which 32 bits are kept, behind the answer's ends
-abbrev pub storedPart : Answer → List ℕ → List ℕ → List ℕ → Parted
+abbrev pub storedPart : Line → List ℕ → List ℕ → List ℕ → Parted
 storedPart a s es xs =
     record {
       answer = record { refusal = a .refusal; bytes = a .bytes + length xs; ends = a .ends + 1; numbers = a .numbers; «is_dirty» = a .«is_dirty» };

@@ -4,7 +4,7 @@ use mathlib.Core.List.{List, [], _∷_}
 use mathlib.Core.Bool.{Bool, true, false, not, _&&_, cond as pick}
 use lib.ListN.{length, drop, replicate}
 use lib.Dec.{eqb}
-use Rattle.protocol.specs.declared.answer.Answer.{Answer}
+use Rattle.protocol.specs.declared.answer.Answer.{Answer as Line}
 
 -- A5 in every byte of an element
 abbrev pub byteMark : ℕ
@@ -26,7 +26,7 @@ isMarked m [] = true
 isMarked m (b ∷ s) = pick (eqb b m) (isMarked m s) false
 
 -- after a call: what the answer does not account for is as it was marked
-abbrev pub isClean : Bool → Answer → (bytes ends numbers : List ℕ) → Bool
+abbrev pub isClean : Bool → Line → (bytes ends numbers : List ℕ) → Bool
 isClean own a s es ns =
     pick own (not (a .«is_dirty»))
     (isMarked byteMark (drop (a .bytes) s) && isMarked endMark (drop (a .ends) es) && isMarked numberMark (drop (a .numbers) ns))

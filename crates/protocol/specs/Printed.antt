@@ -9,7 +9,7 @@ use Rattle.protocol.specs.Marked.{isClean}
 use Rattle.protocol.specs.Text.{ascii}
 use Rattle.protocol.specs.Told.{Told}
 use Rattle.protocol.specs.Typed.{decimalText, bytesText}
-use Rattle.protocol.specs.declared.answer.Answer.{Answer}
+use Rattle.protocol.specs.declared.answer.Answer.{Answer as Line}
 use Rattle.protocol.specs.declared.kinds.Format.{Format}
 use Rattle.protocol.specs.declared.printer.Printed.{Printed}
 
@@ -20,17 +20,17 @@ abbrev pub dirtyText : List ℕ
 dirtyText = ascii "dirty"
 
 -- where part i ends: the last one with all the answer's bytes
-abbrev pub partEnd : Answer → List ℕ → ℕ → ℕ
+abbrev pub partEnd : Line → List ℕ → ℕ → ℕ
 partEnd a es i = pick (ltb i (a .ends)) (getD es i 0) (a .bytes)
 
-abbrev pub partStart : Answer → List ℕ → ℕ → ℕ
+abbrev pub partStart : Line → List ℕ → ℕ → ℕ
 partStart a es i = pick (eqb i 0) 0 (partEnd a es (i - 1))
 
 abbrev pub rangeText : List ℕ → ℕ → ℕ → List ℕ
 rangeText s a e = pick (leb a e && leb e (length s)) (bytesText (take (e - a) (drop a s))) dirtyText
 
 -- part i in hexadecimal
-unfoldable pub partText : Answer → List ℕ → List ℕ → ℕ → List ℕ
+unfoldable pub partText : Line → List ℕ → List ℕ → ℕ → List ℕ
 partText a s es i = rangeText s (partStart a es i) (partEnd a es i)
 
 -- a number, `-` for a byte that is not given, or `no` and a number
@@ -55,7 +55,7 @@ abbrev pub afterOf : ℕ → ℕ
 afterOf i = min (i + 1) (2 ^ 64 - 1)
 
 -- repeated kinds end where there is no more for the first of them
-unfoldable pub isPrinted : Answer → Printed → Bool
+unfoldable pub isPrinted : Line → Printed → Bool
 isPrinted a p =
     pick (eqb (p .format .repeated % 16) bytesKind) (eqb (p .format .kinds) 0 && leb (a .ends) (p .parts))
     (eqb (p .format .kinds) 0 && (leb (a .numbers) (p .numbers) || eqb (p .format .repeated) 0))
@@ -86,15 +86,15 @@ itemsText (suc k) t p =
 
 -- ---- the line
 
-abbrev pub firstOf : Format → Printed
-firstOf f = record { kind = 0; format = f; parts = 0; numbers = 0 }
+abbrev pub printStart : Format → Printed
+printStart f = record { kind = 0; format = f; parts = 0; numbers = 0 }
 
 -- a refusal's line has its number, and what numbers come with it
-abbrev pub formatOf : Answer → Format → Format
+abbrev pub formatOf : Line → Format → Format
 formatOf a f = pick (ltb 0 (a .refusal)) (any (numberKind ∷ [])) f
 
 -- `ok`, or `no` and the refusal's number
-abbrev pub headText : Answer → List ℕ
+abbrev pub headText : Line → List ℕ
 headText a = pick (ltb 0 (a .refusal)) (valueText refusedKind (a .refusal)) (ascii "ok")
 
 -- a line's end; dirty: memory was changed that the answer does not account for
@@ -104,7 +104,7 @@ endText clean = pick clean (10 ∷ []) (ascii " dirty\n")
 unfoldable pub answerText : Told → Format → Bool → List ℕ
 answerText t f own =
     headText (t .answer)
-    ++ (itemsText (2 ^ 64 - 1) t (firstOf (formatOf (t .answer) f)) ++ endText (isClean own (t .answer) (t .bytes) (t .ends) (t .numbers)))
+    ++ (itemsText (2 ^ 64 - 1) t (printStart (formatOf (t .answer) f)) ++ endText (isClean own (t .answer) (t .bytes) (t .ends) (t .numbers)))
 
 abbrev pub badLine : List ℕ
 badLine = ascii "bad line\n"

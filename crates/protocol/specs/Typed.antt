@@ -16,12 +16,12 @@ abbrev pub typing : ℕ → List ℕ → Typed
 typing at out = record { at = at; out = out }
 
 -- where the next character goes: at the start of a buffer that was written out
-unfoldable pub placeOf : ℕ → ℕ
-placeOf at = pick (leb 65536 at) 0 at
+unfoldable pub nextPlace : ℕ → ℕ
+nextPlace at = pick (leb 65536 at) 0 at
 
 unfoldable pub typed : Typed → List ℕ → Typed
 typed t [] = t
-typed t (c ∷ s) = typed (typing (placeOf (t .at) + 1) (set (t .out) (placeOf (t .at)) c)) s
+typed t (c ∷ s) = typed (typing (nextPlace (t .at) + 1) (set (t .out) (nextPlace (t .at)) c)) s
 
 -- ---- values as text
 

@@ -5,7 +5,7 @@ ghost use mathlib.Core.Path.{_≡_};
 ghost use Prim.Native.Nat.{_≤_, _<_};
 ghost use lib.ListN.{length};
 ghost use Rattle.protocol.specs.Text.{hexText};
-ghost use Rattle.protocol.specs.Typed.{typing, placeOf, typed, decimalText, bytesText};
+ghost use Rattle.protocol.specs.Typed.{typing, nextPlace, typed, decimalText, bytesText};
 use crate::text::encode_hex;
 use bitio::numbers::least;
 
@@ -23,7 +23,7 @@ pub fn flush(out: &[u8], at: usize) {
 
 // Where the next character goes.
 fn place(out: &[u8], at: usize) -> usize
-    ensures { λ r. ⌜ (r ≡ placeOf at) × (r < 65536) ⌝ }
+    ensures { λ r. ⌜ (r ≡ nextPlace at) × (r < 65536) ⌝ }
 {
     if at >= SIZE {
         flush(out, at);

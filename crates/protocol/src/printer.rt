@@ -3,7 +3,7 @@ ghost use mathlib.Core.Path.{_≡_};
 ghost use Prim.Native.Nat.{_-_, _^_};
 ghost use Rattle.protocol.specs.Told.{told};
 ghost use Rattle.protocol.specs.Typed.{typing, typed};
-ghost use Rattle.protocol.specs.Printed.{partEnd, partStart, partText, valueText, itemText, isPrinted, openedOf, pastOf, itemsText, firstOf, formatOf, headText, answerText, badLine};
+ghost use Rattle.protocol.specs.Printed.{partEnd, partStart, partText, valueText, itemText, isPrinted, openedOf, pastOf, itemsText, printStart, formatOf, headText, answerText, badLine};
 use crate::answer::Answer;
 use crate::kinds::BYTES;
 use crate::kinds::COUNT;
@@ -172,7 +172,7 @@ fn put_items(
     out: &mut Buffer,
     at: usize,
 ) -> usize
-    ensures { λ r. ⌜ typing r (now (out .exit)) ≡ typed (typing at (now (out .entry))) (itemsText (2 ^ 64 - 1) (told answer (now (memory .entry)) (now (ends .entry)) (now (numbers .entry))) (firstOf format)) ⌝ }
+    ensures { λ r. ⌜ typing r (now (out .exit)) ≡ typed (typing at (now (out .entry))) (itemsText (2 ^ 64 - 1) (told answer (now (memory .entry)) (now (ends .entry)) (now (numbers .entry))) (printStart format)) ⌝ }
 {
     let mut printed = Printed {
         kind: 0,

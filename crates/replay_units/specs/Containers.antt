@@ -33,23 +33,23 @@ abbrev pub annexbTold : List ℕ → (m es : List ℕ) → Parted
 annexbTold s m es = unitsTold (read annexb (roomIn m es) s) m es
 
 -- bytes at the head of lent memory, which is all their room
-abbrev pub bytesIn : List ℕ → Room
-bytesIn m = record { bytes = length m; ends = 0 }
+abbrev pub bytesRoom : List ℕ → Room
+bytesRoom m = record { bytes = length m; ends = 0 }
 
 abbrev pub writtenTold : Answer (List ℕ) → List ℕ → Filled
 writtenTold x m = filled (countTold (countOf x)) (outAfter x m)
 
 -- wstream UNIT ..
 abbrev pub wstreamTold : (s es m : List ℕ) → Filled
-wstreamTold s es m = writtenTold (writeAt stream (bytesIn m) s es) m
+wstreamTold s es m = writtenTold (writeAt stream (bytesRoom m) s es) m
 
 -- wannexb UNIT ..
 abbrev pub wannexbTold : (s es m : List ℕ) → Filled
-wannexbTold s es m = writtenTold (writeAt annexb (bytesIn m) s es) m
+wannexbTold s es m = writtenTold (writeAt annexb (bytesRoom m) s es) m
 
 -- canon UNIT
 abbrev pub canonTold : (s m : List ℕ) → Filled
-canonTold s m = writtenTold (canonicalAt (bytesIn m) s) m
+canonTold s m = writtenTold (canonicalAt (bytesRoom m) s) m
 
 -- packets: their times are numbers
 abbrev pub stampedTold : Answer Sizes → Line

@@ -4,7 +4,7 @@ ghost use mathlib.Core.Bool.{true};
 ghost use Prim.Native.Nat.{_-_, _^_, _≤_, min};
 ghost use lib.ListN.{length};
 ghost use Rattle.bitio.specs.Leb.{readLeb, lebAnswer, sized};
-ghost use Rattle.obu.specs.Place.{refusalOf, extensionSays};
+ghost use Rattle.obu.specs.Place.{placeRefusal, extensionSays};
 ghost use Rattle.obu.specs.Write.{obuLength};
 ghost use Rattle.container.specs.AnnexB.{withSize, typed, innerObu, lengthObu};
 ghost use Rattle.annexb.specs.code.Spans.{span, spotOf, partSays, spotRefusal, placeTo, placeUpTo, innerSays};
@@ -140,7 +140,7 @@ pub(crate) fn length_obu_at(s: &[u8], at: usize, end: usize) -> InnerAt
 
 // The number of a refusal, 0 where there is none.
 pub(crate) fn inner_refusal(found: InnerAt) -> u32
-    ensures { λ r. ⌜ r ≡ refusalOf (innerSays found) ⌝ }
+    ensures { λ r. ⌜ r ≡ placeRefusal (innerSays found) ⌝ }
 {
     match found {
         InnerAt::Refused(k) => k,

@@ -5,13 +5,13 @@ use mathlib.Core.List.{List}
 use mathlib.Core.Bool.{false}
 use lib.ListN.{length}
 use Rattle.obu.specs.Obu.{obus}
-use Rattle.obu.specs.Place.{Place, nothing, wrong, lies}
+use Rattle.obu.specs.Place.{Place, noMore, wrong, lies}
 use Rattle.obu.specs.Unit.{strayIn, ofUnit}
 use Rattle.bitio.specs.Limits.{limit}
 
 -- where the OBU ends that stands there, 0 if there is none
 abbrev pub endOf : Place → ℕ
-endOf nothing = 0
+endOf noMore = 0
 endOf (wrong k) = 0
 endOf (lies t e a b) = b
 

@@ -6,7 +6,7 @@ use Prim.Native.Nat.{ℕ, _+_, _-_, _≤_}
 use denote.Ref.{now}
 use lib.ListN.{length, take, drop, length-drop}
 use lib.Seq.{take-all, drop-drop}
-use Rattle.bitio.specs.Leb.{readLeb, number, lebAnswer}
+use Rattle.bitio.specs.Leb.{readLeb, lebThen, lebAnswer}
 use Rattle.bitio.specs.declared.leb128.Leb.the-variants.{Value}
 use Rattle.bitio.proofs.LebLaws.{is-number, is-bad}
 use Rattle.obu.proofs.PlaceLaws.{body-rest, body-none, body-over, body-got}
@@ -18,14 +18,14 @@ rest : (s : List ℕ) (p : ℕ) → take (length s - p) (drop p s) ≡ drop p s
 rest s p = take-all (length s - p) (drop p s) (omega (arith, length-drop p s))
 
 -- a number in the part from p on
-number-at : (s : List ℕ) (p v n : ℕ) → p ≤ length s → lebAnswer (drop p s) (readLeb (drop p s)) ≡ Value v n → (readLeb (drop p s) ≡ number v (drop (p + n) s)) × (p + n ≤ length s)
+number-at : (s : List ℕ) (p v n : ℕ) → p ≤ length s → lebAnswer (drop p s) (readLeb (drop p s)) ≡ Value v n → (readLeb (drop p s) ≡ lebThen v (drop (p + n) s)) × (p + n ≤ length s)
 number-at s p v n h e =
     let i = is-number (drop p s) v n e in
-    (i .read ∙ ap (number v) (drop-drop n p s), omega (arith, i .within, length-drop p s))
+    (i .read ∙ ap (lebThen v) (drop-drop n p s), omega (arith, i .within, length-drop p s))
 
 got : (c : tie.After-size)
     → (let a = c .before .before .before .before .before .before .args in
-    (readLeb (drop (a .p) (now (a .s))) ≡ number (c .size .given .0 .0) (drop (a .p + c .size .given .0 .1 .0) (now (a .s)))) × (a .p + c .size .given .0 .1 .0 ≤ length (now (a .s))))
+    (readLeb (drop (a .p) (now (a .s))) ≡ lebThen (c .size .given .0 .0) (drop (a .p + c .size .given .0 .1 .0) (now (a .s)))) × (a .p + c .size .given .0 .1 .0 ≤ length (now (a .s))))
 got c =
     let b = c .before .before .before .before .before .before in
     let a = b .args in

@@ -46,8 +46,8 @@ use denote.Triple.Table.{entered, cited}
 use denote.Triple.Walked.{says, Stays, stay-ref, stay-none, stay-none-slice, walkOf, AllGo, goes-none, goes-none-slice, goes-ref, Walks, ends-at, walked, walk-meets}
 use denote.Exit.{yes}
 use Rattle.player.specs.Values.{playedBy}
-use Rattle.player.specs.declared.step.State.{State}
-use Rattle.player.specs.declared.step.Played.{Played}
+use Rattle.player.specs.declared.step.State.{State as CodeState}
+use Rattle.player.specs.declared.step.Played.{Played as CodePlayed}
 use Rattle.player.proofs.step.State as T
 use Rattle.player.proofs.step.State.Laws as T′
 use Rattle.player.proofs.step.Played as S
@@ -64,16 +64,16 @@ use Rattle.player.proofs.play.play_unit.Statement as stated
 use Rattle.player.proofs.play.play_unit.Code as code
 
 abbrev Arg : Type 0
-Arg = RefT State × (ℕ × (RefT (List ℕ) × Unit {0}))
+Arg = RefT CodeState × (ℕ × (RefT (List ℕ) × Unit {0}))
 
 abbrev stayed : Stays (f.ended .signature .params) (f.ended .kept)
 stayed = (stay-ref (0 ∷ []) tt (plain (λ _. T.the-row)), (stay-none (λ _. u64) yes, (stay-none-slice (1 ∷ []) tt (plain (λ _. u8)) yes, tt)))
 
 -- the machine values of a state and of an answer
-abbrev vals : State → List Val
+abbrev vals : CodeState → List Val
 vals = LL.vals T.the-type T′.the-laws
 
-abbrev Answers : Played → Val
+abbrev Answers : CodePlayed → Val
 Answers r = LE.val N.the-type N′.the-laws (r .answer)
 
 -- where the two fields of a Played lie
@@ -107,7 +107,7 @@ module _ {M : Type 1} (𝓤 : URA M) (H : Heap 𝓤) (A : Atoms 𝓤) (mem′ : 
   abbrev Step : Contract 𝓤
   Step = tripleOf 𝓤 H A step′.signature (step′.spec 𝓤 H A mem′ run)
 
-  module _ (κ : Lft) (h : State) (n : ℕ) (u : RefT (List ℕ)) (r : Played) where
+  module _ (κ : Lft) (h : CodeState) (n : ℕ) (u : RefT (List ℕ)) (r : CodePlayed) where
     -- what `step` ensures
     abbrev Says : Type 0
     Says = r ≡ playedBy h n (u .now)
@@ -117,7 +117,7 @@ module _ {M : Type 1} (𝓤 : URA M) (H : Heap 𝓤) (A : Atoms 𝓤) (mem′ : 
     stepped-of = exE 𝓤 _ (λ ws. snd∗ 𝓤 (sem 𝓤 H A (lasts step′.ended (κ, tt) (h, (n, (u, tt))) ws)) (fact 𝓤 Says))
 
 module _ {M : Type 1} (𝓤 : URA M) (H : Heap 𝓤) (A : Atoms 𝓤) (W : Given 𝓤 H A) (at-mem : Memory → SProp 𝓤) (run : Routine → Fun 𝓤) (κ κ′ : Lft) (bounds : AllOutlive 2 (f.signature .outlives) (κ, (κ′, tt))) (q q′ : Share)
-    (b o : ℕ) (γ : GName) (h : State) (n : ℕ) (u : RefT (List ℕ)) where
+    (b o : ℕ) (γ : GName) (h : CodeState) (n : ℕ) (u : RefT (List ℕ)) where
   abbrev x : Arg
   x = (record { ptr = (b, o); name = γ; now = h }, (n, (u, tt)))
 
@@ -131,19 +131,19 @@ module _ {M : Type 1} (𝓤 : URA M) (H : Heap 𝓤) (A : Atoms 𝓤) (W : Given
   OwnUnit = ShrSlice (named 1) κ′ u8 .own u (slice-vals u)
 
   -- what is known of the fields of what `step` returns
-  state-is : (r : Played) (v : Val) → Is S.the-row r (v ∷ []) → Is T.the-row (r .state) (vals (r .state))
+  state-is : (r : CodePlayed) (v : Val) → Is S.the-row r (v ∷ []) → Is T.the-row (r .state) (vals (r .state))
   state-is r v is = LL.owed S.the-type S′.the-laws r (v ∷ []) is .1 .0
 
-  answer-is : (r : Played) (v : Val) → Is S.the-row r (v ∷ []) → Is N.the-row (r .answer) (Answers r ∷ [])
+  answer-is : (r : CodePlayed) (v : Val) → Is S.the-row r (v ∷ []) → Is N.the-row (r .answer) (Answers r ∷ [])
   answer-is r v is = LL.owed S.the-type S′.the-laws r (v ∷ []) is .0
 
-  abbrev Left : Played → Fml
+  abbrev Left : CodePlayed → Fml
   Left r = fobs γ (T.the-row .coded .code (r .state))
 
   abbrev Lent : Fml
   Lent = fbor κ (Body (mem T.the-row) b o γ)
 
-  exits : (r : Played) → Says 𝓤 H A at-mem run κ′ h n u r → n < 2 ^ 64 → Is N.the-row (r .answer) (Answers r ∷ [])
+  exits : (r : CodePlayed) → Says 𝓤 H A at-mem run κ′ h n u r → n < 2 ^ 64 → Is N.the-row (r .answer) (Answers r ∷ [])
       → ent 𝓤 (⋆ 𝓤 H A (‵ (Left r) ∷ ‵ Lent ∷ ‵ (flft κ q) ∷ ‵ (flft κ′ q′) ∷ ‵ OwnUnit ∷ [])) (Post (Answers r))
   exits r e n-fits is =
       qed W (‵ (Left r) ∷ ‵ Lent ∷ ‵ (flft κ q) ∷ ‵ (flft κ′ q′) ∷ ‵ OwnUnit ∷ []) ∵
@@ -179,7 +179,7 @@ module _ {M : Type 1} (𝓤 : URA M) (H : Heap 𝓤) (A : Atoms 𝓤) (W : Given
         move ! (20 ∷ 0 ∷ []) $ use2 W (raw (Step 𝓤 H A at-mem run .pre to-step)) (goes-step (gn .1) was) $
         -- [step's pre; the unit; the state's cell; what a State owns; the open borrow; obs; auth; _5; …]
         calls-at ! fm (Step 𝓤 H A at-mem run) known to-step (and-then ! (load ! (from ! (stop !)) (look ! 9 refl)) (and-then ! (load ! (from ! (stop !)) (look ! 13 refl)) (and-then ! (load ! (from ! (stop !)) (look ! 11 refl)) (no-more !)))) (λ v.
-        use1 W (later (some (λ (r : Played). ((‵ (flft κ′ q′) ⊛ ‵ ftrue) ⊛ ‵ (S.the-row .own r (v ∷ []))) ⊛ raw (ensured 𝓤 H A step′.ended (step′.clauses 𝓤 H A at-mem run) (κ′, tt) (h, (n, (u, tt))) tt r)))) (id⊢ 𝓤 _) $ await ! tt $ pick ! (λ r.
+        use1 W (later (some (λ (r : CodePlayed). ((‵ (flft κ′ q′) ⊛ ‵ ftrue) ⊛ ‵ (S.the-row .own r (v ∷ []))) ⊛ raw (ensured 𝓤 H A step′.ended (step′.clauses 𝓤 H A at-mem run) (κ′, tt) (h, (n, (u, tt))) tt r)))) (id⊢ 𝓤 _) $ await ! tt $ pick ! (λ r.
         split ! $ move ! (1 ∷ []) $
         use1 W (raw (fact 𝓤 (Says 𝓤 H A at-mem run κ′ h n u r))) (stepped-of 𝓤 H A at-mem run κ′ h n u r) $
         heard ! (Says 𝓤 H A at-mem run κ′ h n u r) (λ e. split ! $ move ! (1 ∷ []) $

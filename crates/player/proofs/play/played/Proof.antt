@@ -45,9 +45,9 @@ use denote.Triple.Table.{entered, cited}
 use denote.Triple.Walked.{says, Stays, stay-none, stay-none-slice, walkOf, AllGo, goes-none, goes-none-slice, Walks, ends-at, walked, walk-meets}
 use denote.Exit.{yes}
 use Rattle.player.specs.Values.{playedBy}
-use Rattle.player.specs.declared.slots.Answer.{Answer}
-use Rattle.player.specs.declared.step.State.{State}
-use Rattle.player.specs.declared.step.Played.{Played}
+use Rattle.player.specs.declared.slots.Answer.{Answer as CodeAnswer}
+use Rattle.player.specs.declared.step.State.{State as CodeState}
+use Rattle.player.specs.declared.step.Played.{Played as CodePlayed}
 use Rattle.player.proofs.step.State as T
 use Rattle.player.proofs.step.State.Laws as T′
 use Rattle.player.proofs.step.Played as S
@@ -66,17 +66,17 @@ use Rattle.player.proofs.play.played.Code as code
 abbrev stayed : Stays (f.ended .signature .params) (f.ended .kept)
 stayed = (stay-none (λ _. T.the-row) yes, (stay-none (λ _. u64) yes, (stay-none-slice (0 ∷ []) tt (plain (λ _. u8)) yes, tt)))
 
-abbrev val : State → Val
+abbrev val : CodeState → Val
 val = LL.val T.the-type T′.the-laws
 
-abbrev vals : State → List Val
+abbrev vals : CodeState → List Val
 vals = LL.vals T.the-type T′.the-laws
 
 abbrev Lend : {M : Type 1} (𝓤 : URA M) (H : Heap 𝓤) (A : Atoms 𝓤) (at-mem : Memory → SProp 𝓤) (run : Routine → Fun 𝓤) → Contract 𝓤
 Lend 𝓤 H A at-mem run = tripleOf 𝓤 H A lent′.signature (lent′.spec 𝓤 H A at-mem run)
 
 module _ {M : Type 1} (𝓤 : URA M) (H : Heap 𝓤) (A : Atoms 𝓤) (W : Given 𝓤 H A) (at-mem : Memory → SProp 𝓤) (run : Routine → Fun 𝓤) (κ : Lft) (bounds : AllOutlive 1 (f.signature .outlives) (κ, tt)) (q : Share)
-    (h : State) (n : ℕ) (u : RefT (List ℕ)) (h-is : Is T.the-row h (vals h)) (n-fits : n < 2 ^ 64) where
+    (h : CodeState) (n : ℕ) (u : RefT (List ℕ)) (h-is : Is T.the-row h (vals h)) (n-fits : n < 2 ^ 64) where
   abbrev at : Vals f.signature (κ, tt)
   at = (vals h, (vint w64 n ∷ [], (slice-vals u, tt)))
 
@@ -87,13 +87,13 @@ module _ {M : Type 1} (𝓤 : URA M) (H : Heap 𝓤) (A : Atoms 𝓤) (W : Given
   OwnUnit = ShrSlice (named 0) κ u8 .own u (slice-vals u)
 
   -- what `play_unit` ensures of its result r and the last state s
-  abbrev Says : Answer → State → Type 0
+  abbrev Says : CodeAnswer → CodeState → Type 0
   Says r s = (r ≡ playedBy h n (u .now) .answer) × (s ≡ playedBy h n (u .now) .state)
 
-  abbrev got : Answer → State → Played
+  abbrev got : CodeAnswer → CodeState → CodePlayed
   got r s = record { answer = r; state = s }
 
-  exits : (r : Answer) (s : State) → Says r s → Is S.the-row (got r s) (LL.vals S.the-type S′.the-laws (got r s)) → ent 𝓤 (⋆ 𝓤 H A (‵ (flft κ q) ∷ ‵ OwnUnit ∷ [])) (Post (LL.val S.the-type S′.the-laws (got r s)))
+  exits : (r : CodeAnswer) (s : CodeState) → Says r s → Is S.the-row (got r s) (LL.vals S.the-type S′.the-laws (got r s)) → ent 𝓤 (⋆ 𝓤 H A (‵ (flft κ q) ∷ ‵ OwnUnit ∷ [])) (Post (LL.val S.the-type S′.the-laws (got r s)))
   exits r s e is =
       qed W (‵ (flft κ q) ∷ ‵ OwnUnit ∷ []) ∵ suffices ! _
       (ends-at 𝓤 H A f.ended stayed (f.clauses 𝓤 H A at-mem run) W (((κ, tt), (q, tt), bounds, (h, (n, (u, tt))), at), tt) (LL.val S.the-type S′.the-laws (got r s)) (got r s) (tt, (tt, (tt, tt))) (tt, (tt, (tt, tt)))) $ says ! (ap₂ got (e .0) (e .1)) $
@@ -101,7 +101,7 @@ module _ {M : Type 1} (𝓤 : URA M) (H : Heap 𝓤) (A : Atoms 𝓤) (W : Given
       owned ! T.the-row (Is T.the-row) ((LL.makes T.the-type T′.the-plain) 𝓤 H A) h _ h-is $ fjoin ! $ nothing ! $ move ! (3 ∷ 0 ∷ []) $ join ! $ done !
 
   -- what is lent: the local at l, under the name δ
-  abbrev args : ℕ → GName → RefT State × (ℕ × (RefT (List ℕ) × Unit {0}))
+  abbrev args : ℕ → GName → RefT CodeState × (ℕ × (RefT (List ℕ) × Unit {0}))
   args l δ = (record { ptr = (l, 0); name = δ; now = h }, (n, (u, tt)))
 
   abbrev Ref : ℕ → ℕ → GName → Fml
@@ -140,7 +140,7 @@ module _ {M : Type 1} (𝓤 : URA M) (H : Heap 𝓤) (A : Atoms 𝓤) (W : Given
         move ! (4 ∷ 20 ∷ 2 ∷ 0 ∷ []) $ join ! $ move ! (1 ∷ 2 ∷ []) $ join ! $ move ! (1 ∷ 0 ∷ []) $ use2 W (raw (Lend 𝓤 H A at-mem run .pre (to-lend l₄ ν δ))) (goes-lend l₄ ν δ) $
         -- [play_unit's pre; the unit; what is lent; _7; …]
         calls-at ! fm (Lend 𝓤 H A at-mem run) known (to-lend l₄ ν δ) (and-then ! (load ! (from ! (stop !)) (look ! 5 refl)) (and-then ! (load ! (from ! (stop !)) (look ! 12 refl)) (and-then ! (load ! (from ! (stop !)) (look ! 10 refl)) (no-more !)))) (λ w.
-        use1 W (later (some (λ (r : Answer). ((‵ (flft (ν ∷ []) fullShare) ⊛ ‵ (flft κ q) ⊛ ‵ ftrue) ⊛ ‵ (N.the-row .own r (w ∷ []))) ⊛ raw (ensured 𝓤 H A lent′.ended (lent′.clauses 𝓤 H A at-mem run) (ν ∷ [], (κ, tt)) (args l₄ δ) tt r)))) (id⊢ 𝓤 _) $
+        use1 W (later (some (λ (r : CodeAnswer). ((‵ (flft (ν ∷ []) fullShare) ⊛ ‵ (flft κ q) ⊛ ‵ ftrue) ⊛ ‵ (N.the-row .own r (w ∷ []))) ⊛ raw (ensured 𝓤 H A lent′.ended (lent′.clauses 𝓤 H A at-mem run) (ν ∷ [], (κ, tt)) (args l₄ δ) tt r)))) (id⊢ 𝓤 _) $
         await ! tt $ pick ! (λ r. split ! $ move ! (1 ∷ []) $
         use1 W (some (λ (ss : Lasts lent′.ended (ν ∷ [], (κ, tt)) (args l₄ δ)). ‵ (lasts lent′.ended (ν ∷ [], (κ, tt)) (args l₄ δ) ss) ⊛ raw (fact 𝓤 (Says r (ss .0))))) (id⊢ 𝓤 _) $ pick ! (λ ss.
         split ! $ move ! (1 ∷ []) $ heard ! (Says r (ss .0)) (λ e. fsplit ! $ move ! (2 ∷ []) $ split ! $ move ! (1 ∷ []) $ peeks ! N.the-row (Is N.the-row) (shows 𝓤 H A N.the-row) r (w ∷ []) (λ is.
@@ -161,7 +161,7 @@ module _ {M : Type 1} (𝓤 : URA M) (H : Heap 𝓤) (A : Atoms 𝓤) (W : Given
         move ! (9 ∷ 10 ∷ []) $ free1 ! $ move ! (7 ∷ 8 ∷ []) $ free1 ! $ move ! (5 ∷ 6 ∷ []) $ free1 ! $ free0 ! $
         move ! (1 ∷ []) $ split ! $ keep ! (0 ∷ 5 ∷ []) $ by ! (exits r (ss .0) e (got-is r (ss .0) w is s-is)))))))))))))))))))
       where
-        got-is : (r : Answer) (s : State) (w : Val) → Is N.the-row r (w ∷ []) → Is T.the-row s (vals s) → Is S.the-row (got r s) (LL.vals S.the-type S′.the-laws (got r s))
+        got-is : (r : CodeAnswer) (s : CodeState) (w : Val) → Is N.the-row r (w ∷ []) → Is T.the-row s (vals s) → Is S.the-row (got r s) (LL.vals S.the-type S′.the-laws (got r s))
         got-is r s w is s-is = LL.owes S.the-type S′.the-laws (got r s) (LE.owes N.the-type N′.the-laws r (LE.owed N.the-type N′.the-laws r (w ∷ []) is), (s-is, tt))
 
 module _ {M : Type 1} (𝓤 : URA M) (H : Heap 𝓤) (A : Atoms 𝓤) (W : Given 𝓤 H A) (at-mem : Memory → SProp 𝓤) (run : Routine → Fun 𝓤) where

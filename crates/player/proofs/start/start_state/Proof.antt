@@ -5,12 +5,12 @@ use Rattle.header.specs.SequencePoints.{padded}
 use Rattle.header.specs.declared.seq_header.OperatingPoint.{OperatingPoint}
 use Rattle.player.specs.Player.{empty}
 use Rattle.player.specs.declared.keep.Last.the-variants.{Nothing}
-use Rattle.player.specs.declared.step.State.{State}
+use Rattle.player.specs.declared.step.State.{State as CodeState}
 use Rattle.player.proofs.start.start_state.Statement.{statement}
 use Rattle.player.proofs.start.start_state.Tie as tie
 
 -- the state with operating points like this one
-abbrev with : OperatingPoint → State
+abbrev with : OperatingPoint → CodeState
 with p = record { slots = replicate 8 empty; kept = record { last = Nothing; points = replicate 32 p } }
 
 no-point-requires : tie.Need-no-point-requires
