@@ -12,7 +12,7 @@ use Rattle.bitio.specs.Parse.{Answer, refused, accepted, Head, stop, item, befo
 use Rattle.bitio.specs.Leb.{Number, noLeb, lebThen, readLeb, lebAnswer, sized}
 use Rattle.bitio.specs.declared.leb128.Leb.the-variants.{Value}
 use Rattle.bitio.proofs.ParseLaws.{pick-both, pick-cases, Parts}
-use Rattle.bitio.proofs.LebLaws.{Numbered, read-parts, Sized, sized-parts, is-number}
+use Rattle.bitio.proofs.LebLaws.{LebParts, read-parts, Sized, sized-parts, is-number}
 use Rattle.obu.specs.Obu.{Obu, flag, obuType, passes, obuWith}
 use types.Run.{OneOf}
 use denote.Enum.Declared.{tagOf}
@@ -163,7 +163,7 @@ Inside p (accepted o) = IsInner p o
 
 -- f is what stands before p
 module _ (f : List ℕ) (h : ℕ) (x : Option ℕ) (p : List ℕ) where
-  sized-inside : (n : Number) → Numbered p n → passes (obuType h) ≡ true → Inside (f ++ p) (withSize h x n)
+  sized-inside : (n : Number) → LebParts p n → passes (obuType h) ≡ true → Inside (f ++ p) (withSize h x n)
   sized-inside noLeb z a = tt
   sized-inside (lebThen n r) z a =
       let q : f ++ p ≡ (f ++ z .front) ++ r = ap (λ t. f ++ t) (z .split) ∙ sym (append-assoc f (z .front) r) in

@@ -3,7 +3,7 @@ use Prim.Native.Nat.{ℕ, zero, suc}
 use mathlib.Core.Path.{_≡_, refl, ap}
 use mathlib.Core.List.{List, [], _∷_, map}
 use mathlib.Core.Bool.{true, false}
-use Rattle.bitio.specs.Parse.{Answer, refused, accepted, answer, Head, stop, item, before, within, onto, more, many, manyF}
+use Rattle.bitio.specs.Parse.{Answer, refused, accepted, answer, Head, stop, item, before, within, onto, andMore, many, manyF}
 use Rattle.bitio.specs.Every.{Every, nothing, also}
 use Rattle.bitio.specs.Leb.{sized}
 use Rattle.obu.specs.Obu.{unitBytes}
@@ -17,12 +17,12 @@ module _ {B : Type 0} (h : List ℕ → Head (List ℕ)) (f g : List ℕ → Ans
   abbrev Same : List ℕ → Type 0
   Same p = f p ≡ g p
 
-  same-rest : (r : List ℕ) (x : Answer B) (p q : List ℕ → Answer (List B)) → p r ≡ q r → more (before r x) p ≡ more (before r x) q
+  same-rest : (r : List ℕ) (x : Answer B) (p q : List ℕ → Answer (List B)) → p r ≡ q r → andMore (before r x) p ≡ andMore (before r x) q
   same-rest r (refused k) p q e = refl
   same-rest r (accepted b) p q e = ap (onto b) e
 
   same-more : (x : Head (List ℕ)) (t : List ℕ → List (List ℕ)) (p q : List ℕ → Answer (List B)) → ((r : List ℕ) → Every Same (t r) → p r ≡ q r)
-      → Every Same (andOn x t) → more (within x f) p ≡ more (within x g) q
+      → Every Same (andOn x t) → andMore (within x f) p ≡ andMore (within x g) q
   same-more (stop k) t p q rest e = refl
   same-more (item a r) t p q rest (also w e) = rw w (same-rest r (g a) p q (rest r e))
 
