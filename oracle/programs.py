@@ -24,12 +24,12 @@ BATCH = 50_000
 # Differences that docs/DIFFERENCES.md lists: (operation, why, test of request, Rust's answer and ours).
 KNOWN = [
     ('timed', 'timing a reduced header', lambda line, rust, ours: rust.startswith('ok ') and ours == 'no 17'),
-    ('annexb', 'sizes inside Annex B', lambda line, rust, ours: ignores_sizes(line, rust) and not rust_agrees(rust, ours)),
+    ('annexb', 'sizes inside Annex B', lambda line, rust, ours: ignores_sizes(line, rust, ours)),
 ]
 
 REFUSED = re.compile('no ([0-9]+)(?: ([0-9]+))?')
 
-# The Rust's errors are texts. The first of these that is found in one gives document 01's number.
+# The Rust's errors are texts. The first of these that is found in one gives the refusal's number.
 RUST_TEXTS = {
     'Annex-B temporal_unit_size': 6, 'truncated Annex-B temporal unit': 7, 'Annex-B frame_unit_size': 8,
     'frame unit overruns temporal unit': 9, 'bad Annex-B OBU size': 10, 'OBU overruns frame unit': 11,
@@ -85,7 +85,7 @@ class Run:
 
 
 def answered(requests, program):
-    """For each request: request, the Rust's answer, the program's or None, document 01's or None."""
+    """For each request: request, the Rust's answer, the program's or None, the papers' or None."""
     requests = iter(requests)
     while lines := list(islice(requests, BATCH)):
         rust = Run([RUST, '--texts'], [rust_request(line) for line in lines])
@@ -112,8 +112,10 @@ def rust_agrees(rust, answer):
     return number == int(refusal[1]) and segment in (None, refusal[2])
 
 
-def ignores_sizes(line, rust):
-    """The Rust's answer is the one without a look at the size bits inside Annex B."""
+def ignores_sizes(line, rust, ours):
+    """An OBU inside Annex B has its size bit set, and the Rust's answer is the one without a look at it."""
+    if rust_agrees(rust, ours) or not model.is_annexb_with_sizes(line):
+        return False
     return rust_agrees(rust, model.answer(rust_request(line), model.AS_RUST))
 
 

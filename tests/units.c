@@ -20,9 +20,9 @@ static int failed(const char *why) {
     return 1;
 }
 
-static int save(const char *path, size_t len) {
+static int save(const char *path, const uint8_t *bytes, size_t len) {
     FILE *f = fopen(path, "wb");
-    if (!f || fwrite(out, 1, len, f) != len || fclose(f)) return failed("can't write");
+    if (!f || fwrite(bytes, 1, len, f) != len || fclose(f)) return failed("can't write");
     return 0;
 }
 
@@ -88,16 +88,15 @@ int main(int count, char **words) {
     const char *job = words[1];
     if (!strcmp(job, "from-ivf")) {
         size_t n = packets(len);
-        return n ? save(words[3], n) : failed("no IVF");
+        return n ? save(words[3], out, n) : failed("no IVF");
     }
     size_t n = strcmp(job, "annexb") ? split_obu_stream(data, len, units, ROOM, ends, SLOTS)
                                      : bench_split_annexb(data, len, units, ROOM, ends, SLOTS);
     if (!n) return failed("refused");
     if (!strncmp(job, "to-", 3)) {
         size_t m = strcmp(job, "to-annexb") ? sized_annexb(n) : bench_write_annexb(units, ends[n - 1], ends, n, out, ROOM);
-        return m ? save(words[3], m) : failed("not written");
+        return m ? save(words[3], out, m) : failed("not written");
     }
     printf("%zu\n", n);
-    memcpy(out, units, ends[n - 1]);
-    return save(words[3], ends[n - 1]);
+    return save(words[3], units, ends[n - 1]);
 }

@@ -1,4 +1,4 @@
-"""What document 01 answers to a request, in plain Python: values and refusal numbers.
+"""What documents 01 and 02 answer to a request, in plain Python: values and refusal numbers.
 
 Written from 01, 02 and replay.md in another way than the Rust goes about it, and not from our own code,
 so that it is a third opinion; its author had read the Rust. An operation not in OPERATIONS has no

@@ -107,16 +107,22 @@ def inner_obu(data, honoured):
     return kind, extension, data[start:]
 
 
-def has_inner_size(data):
-    """Whether an OBU to which the lengths lead has its size bit set."""
+def reached(data, faults):
+    """The parts that lengths lead to, up to the end or the first bad length."""
     try:
         while data:
-            unit, data = cut(data, UNIT_FAULTS)
-            if any(obu and obu[0] & SIZE_BIT for obu in obus_of_unit(unit)):
-                return True
+            part, data = cut(data, faults)
+            yield part
     except Refused:
         pass
-    return False
+
+
+def has_inner_size(data):
+    """Whether an OBU to which the lengths lead has its size bit set."""
+    return any(obu[:1] and obu[0] & SIZE_BIT
+               for unit in reached(data, UNIT_FAULTS)
+               for frame_unit in reached(unit, FRAME_UNIT_FAULTS)
+               for obu in reached(frame_unit, OBU_FAULTS))
 
 
 def with_length(data):

@@ -29,7 +29,7 @@ use Rattle.annexb.specs.code.Join.{innerLength, framedLength, Putting, W
 use Rattle.annexb.proofs.SpanLaws.{span-all, ahead, Passed, passed-start, passed-next, passed-stop, passed-end}
 use Rattle.annexb.proofs.FillLaws.{flatMap-append, Whole}
 use Rattle.annexb.proofs.CutLaws.{Cut, cut-start, cut-next, cut-good, cut-part, cut-done, accepted-is}
-use Rattle.container.proofs.RangeLaws.{ext-most}
+use Rattle.obu.proofs.WriteLaws.{ext-most}
 
 -- ---- lengths
 

@@ -23,7 +23,7 @@ use Rattle.container.proofs.StreamLaws.{bytes-append, bytes-flat, flat-append}
 use Rattle.container.proofs.AnnexBLaws.{length-shrinks, frame-shrinks, temporal-shrinks}
 use Rattle.annexb.proofs.SpanLaws.{span-all, Passed, passed-start, passed-next, passed-end, passed-stop}
 use Rattle.annexb.proofs.PartLaws.{IsPart, IsObuAt}
-use Rattle.container.proofs.RangeLaws.{ext-most}
+use Rattle.obu.proofs.WriteLaws.{ext-most}
 
 -- ---- bytes of what is behind, and one more
 

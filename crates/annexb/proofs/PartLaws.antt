@@ -4,7 +4,7 @@ use native.Mathlib.Omega.{arith}
 use mathlib.Core.Path.{_≡_, refl, sym, ap, ap₂, _∙_}
 use mathlib.Core.List.{List, [], _∷_, _++_, append-assoc}
 use mathlib.Core.Option.{Option, none, some}
-use mathlib.Core.Bool.{Bool, true, false, cond as pick}
+use mathlib.Core.Bool.{true, false}
 use lib.ListN.{length, getD, take, drop, length-append}
 use lib.Dec.{eqb}
 use borrow.Author.Tests.{lt-leb, le-leb, ne-eqb, eq-eqb}
@@ -16,7 +16,7 @@ use Rattle.bitio.proofs.LebLaws.{LebParts, read-parts, Sized, sized-parts, is-n
 use Rattle.obu.specs.Obu.{Obu, flag, obuType, passes, obuWith}
 use types.Run.{OneOf}
 use denote.Enum.Declared.{tagOf}
-use Rattle.obu.specs.Place.{Place, wrong, lies, placeRefusal}
+use Rattle.obu.specs.Place.{wrong, lies, placeRefusal}
 use Rattle.container.specs.AnnexB.{withSize, typed, extendedB, innerObuOf, innerObu, lengthObuOf, lengthObu}
 use Rattle.annexb.specs.code.Spans.{span, noSpot, spot, spotOf, placeTo, placeUpTo, spotRefusal, partSays, innerSays}
 use Rattle.annexb.specs.declared.annexb.part.PartAt.{PartAt}

@@ -1,8 +1,10 @@
--- The cases that 01 marks P.
+-- The cases that 01 marks P, and those of 02.
 use Prim.Native.Nat.{ℕ}
 use mathlib.Core.List.{List, [], _∷_, _++_}
+use mathlib.Core.Bool.{false}
 use Rattle.bitio.specs.Parse.{Answer, refused, accepted, answer, andNext}
 use Rattle.container.specs.Limits.{Room}
+use Rattle.container.specs.AnnexB.{annexbUnitsOf}
 use Rattle.container.specs.Container.{stream, annexb, read, write}
 use Rattle.bitio.specs.Limits.{limited}
 use Rattle.header.specs.Sequence.{parseSequence}
@@ -60,10 +62,13 @@ markedRows =
     ∷ (inAnnexB (0x00 ∷ []), accepted ([] ∷ []))
     ∷ (inAnnexB (0x03 ∷ 0x02 ∷ 0x01 ∷ 0x30 ∷ []), accepted ((0x32 ∷ 0x00 ∷ []) ∷ []))
     ∷ (toAnnexB ((0x12 ∷ 0x00 ∷ 0x1A ∷ 0x01 ∷ 0xB8 ∷ []) ∷ []), accepted ((0x06 ∷ 0x05 ∷ 0x01 ∷ 0x10 ∷ 0x02 ∷ 0x18 ∷ 0xB8 ∷ []) ∷ []))
-    -- 02 §1: sizes inside Annex B, in one byte, in two, behind an extension; none that ends; one too small, one too large
+    -- 02 §1: sizes inside Annex B, the first as the Rust reads it too; in one byte, in two, behind an extension; a type that is
+    -- refused before them; none that ends, one too small, one too large
+    ∷ (annexbUnitsOf false (0x04 ∷ 0x03 ∷ 0x02 ∷ 0x32 ∷ 0x00 ∷ []), accepted ((0x32 ∷ 0x01 ∷ 0x00 ∷ []) ∷ []))
     ∷ (inAnnexB (0x04 ∷ 0x03 ∷ 0x02 ∷ 0x32 ∷ 0x00 ∷ []), accepted ((0x32 ∷ 0x00 ∷ []) ∷ []))
     ∷ (inAnnexB (0x05 ∷ 0x04 ∷ 0x03 ∷ 0x32 ∷ 0x80 ∷ 0x00 ∷ []), accepted ((0x32 ∷ 0x00 ∷ []) ∷ []))
     ∷ (inAnnexB (0x06 ∷ 0x05 ∷ 0x04 ∷ 0x36 ∷ 0x08 ∷ 0x01 ∷ 0xAA ∷ []), accepted ((0x36 ∷ 0x08 ∷ 0x01 ∷ 0xAA ∷ []) ∷ []))
+    ∷ (inAnnexB (0x03 ∷ 0x02 ∷ 0x01 ∷ 0x4A ∷ []), refused 2)
     ∷ (inAnnexB (0x03 ∷ 0x02 ∷ 0x01 ∷ 0x32 ∷ []), refused 4)
     ∷ (inAnnexB (0x05 ∷ 0x04 ∷ 0x03 ∷ 0x32 ∷ 0x00 ∷ 0x00 ∷ []), refused 40)
     ∷ (inAnnexB (0x05 ∷ 0x04 ∷ 0x03 ∷ 0x32 ∷ 0x02 ∷ 0x00 ∷ []), refused 40)

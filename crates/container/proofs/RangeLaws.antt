@@ -4,7 +4,7 @@ use native.Mathlib.Nat.{eq-or-lt-of-le}
 use native.Mathlib.Omega.{arith}
 use mathlib.Core.Path.{_≡_, refl, sym, ap, ap₂, _∙_}
 use mathlib.Core.List.{List, [], _∷_, _++_, flatMap}
-use mathlib.Core.Option.{Option, none, some}
+use mathlib.Core.Option.{Option, some}
 use mathlib.Core.Bool.{Bool, true, false, cond as pick, not}
 use mathlib.Core.Logic.{⊎-elim}
 use lib.ListN.{length, drop, length-append, length-drop, drop-of-length-le}
@@ -13,7 +13,7 @@ use Rattle.bitio.specs.Parse.{accepted, Head, stop, item}
 use Rattle.bitio.specs.Lent.{pasted, Wrote}
 use Rattle.bitio.proofs.LebLaws.{bytes-length}
 use Rattle.bitio.proofs.LentLaws.{pasted-nil, pasted-more, pasted-length}
-use Rattle.obu.specs.Obu.{Obu, passes, headObu, obus, extBytes, obuBytes, unitBytes}
+use Rattle.obu.specs.Obu.{Obu, passes, headObu, obus, obuBytes, unitBytes}
 use Rattle.obu.specs.Place.{wrong, placeOf, obuPlace, part}
 use Rattle.obu.specs.Write.{obuLength, obu}
 use Rattle.bitio.proofs.ParseLaws.{parts-length, onto-is}
@@ -22,6 +22,7 @@ use Rattle.obu.proofs.LengthLaws.{obu-length}
 use Rattle.obu.proofs.PlaceLaws.{Placed, IsPlaced, is-placed, part-placed}
 use Rattle.bitio.specs.Limits.{limit}
 use Rattle.obu.specs.Unit.{isDelimiter}
+use Rattle.obu.proofs.WriteLaws.{ext-most}
 use Rattle.container.specs.Stream.{others}
 use Rattle.container.specs.code.Ranges.{Step, Range, here, more, isKept, keptOne, keptBytes, Ranged, Measured, Roomy, WroteKept}
 
@@ -166,10 +167,6 @@ kept-length keep o = go (isKept keep (o .type))
     go : (b : Bool) → length (pick b (obuBytes o) []) ≡ pick b (obuLength (o .ext) (length (o .payload))) 0
     go true = obu-length o
     go false = refl
-
-pub ext-most : (e : Option ℕ) → length (extBytes e) ≤ 1
-ext-most none = omega arith
-ext-most (some x) = omega arith
 
 -- an OBU is written in at most twelve times its bytes
 pub step-most : (keep : Bool) {s : List ℕ} {a m : ℕ} {o : Obu} → Step s a o m → length (keptOne keep o) ≤ 12 * (m - a)

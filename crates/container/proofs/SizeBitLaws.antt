@@ -1,4 +1,4 @@
--- Where no inner OBU has its size bit set, honouring it changes nothing: there Annex B is read as the Rust reads it.
+-- Where no inner OBU has its size bit set, honouring it changes nothing.
 use Prim.Native.Nat.{ℕ, zero, suc}
 use mathlib.Core.Path.{_≡_, refl, ap}
 use mathlib.Core.List.{List, [], _∷_, map}
@@ -33,14 +33,14 @@ module _ {B : Type 0} (h : List ℕ → Head (List ℕ)) (f g : List ℕ → Ans
   same-fuel (suc n) (b ∷ s) e =
       same-more (h (b ∷ s)) (reachedF h n) (manyF (λ l. within (h l) f) n) (manyF (λ l. within (h l) g) n) (same-fuel n) e
 
-  -- that agree on all that is reached read the same
+  -- two ways that agree on all that is reached read the same
   many-same : (s : List ℕ) → Every Same (reached h s) → many (λ l. within (h l) f) s ≡ many (λ l. within (h l) g) s
   unfolding many reached
   many-same s e = same-fuel _ s e
 
-every-map : {A : Type 0} {P Q : A → Type 0} → ((a : A) → P a → Q a) → {l : List A} → Every P l → Every Q l
-every-map f nothing = nothing
-every-map f (also {a} p e) = also (f a p) (every-map f e)
+every-imply : {A : Type 0} {P Q : A → Type 0} → ((a : A) → P a → Q a) → {l : List A} → Every P l → Every Q l
+every-imply f nothing = nothing
+every-imply f (also {a} p e) = also (f a p) (every-imply f e)
 
 -- ---- an OBU, a frame unit, a unit, all units
 
@@ -52,16 +52,16 @@ inner-same (h ∷ e ∷ s) c = rw c
 
 frame-same : (s : List ℕ) → ClearFrame s → many (lengthObuOf true) s ≡ many (lengthObuOf false) s
 unfolding lengthObuOf
-frame-same s c = many-same (sized 10 11) (innerObuOf true) (innerObuOf false) s (every-map inner-same c)
+frame-same s c = many-same (sized 10 11) (innerObuOf true) (innerObuOf false) s (every-imply inner-same c)
 
 unit-same : (s : List ℕ) → ClearUnit s → answer flat (many (frameUnitOf true) s) ≡ answer flat (many (frameUnitOf false) s)
 unfolding frameUnitOf
-unit-same s c = ap (answer flat) (many-same (sized 8 9) (many (lengthObuOf true)) (many (lengthObuOf false)) s (every-map frame-same c))
+unit-same s c = ap (answer flat) (many-same (sized 8 9) (many (lengthObuOf true)) (many (lengthObuOf false)) s (every-imply frame-same c))
 
--- docs/DIFFERENCES.md claims it
+-- docs/DIFFERENCES.md claims it: both readings are the same where no OBU to which the lengths lead has the bit
 pub size-bit-clear : (s : List ℕ) → ClearUnits s → annexbUnitsOf true s ≡ annexbUnitsOf false s
 unfolding annexbUnitsOf temporalUnitOf
 size-bit-clear [] c = refl
 size-bit-clear (b ∷ s) c =
     ap (answer (map unitBytes))
-    (many-same (sized 6 7) (λ p. answer flat (many (frameUnitOf true) p)) (λ p. answer flat (many (frameUnitOf false) p)) (b ∷ s) (every-map unit-same c))
+    (many-same (sized 6 7) (λ p. answer flat (many (frameUnitOf true) p)) (λ p. answer flat (many (frameUnitOf false) p)) (b ∷ s) (every-imply unit-same c))

@@ -5,8 +5,8 @@ use mathlib.Core.Path.{_≡_, refl, ap, _∙_}
 use mathlib.Core.List.{List, [], _∷_}
 use mathlib.Core.Bool.{Bool, true, false, cond as pick, _&&_}
 use mathlib.Core.Option.{Option, none, some}
-use lib.ListN.{length, getD, take, drop, length-take, length-drop}
-use lib.Dec.{eqb, ltb, leb}
+use lib.ListN.{length, getD}
+use lib.Dec.{eqb, ltb}
 use borrow.Author.Tests.{eqb-true, eqb-false, ltb-false, leb-true}
 use Rattle.bitio.specs.Parse.{Answer, refused, accepted, andNext}
 use Rattle.bitio.specs.Limits.{limit}
@@ -14,9 +14,9 @@ use Rattle.bitio.specs.Every.{Every}
 use Rattle.bitio.specs.Every.Every.{nothing, also}
 use Rattle.bitio.proofs.ParseLaws.{onto-is}
 use Rattle.assemble.proofs.RenewLaws.{header-read}
+use Rattle.obu.proofs.PlaceLaws.{part-short}
 use Rattle.obu.specs.Obu.{Obu, obus}
 use Rattle.obu.specs.Unit.{isFrame, has, lastPayload, firstPayload, ofUnit}
-use Rattle.obu.specs.Place.{part}
 use Rattle.header.specs.Sequence.{Sequence, parseSequence}
 use Rattle.header.specs.Support.{support}
 use Rattle.header.specs.Timed.{isTimed}
@@ -291,15 +291,6 @@ from-segments set (x ∷ xs) r fields sh p e =
     )))))))
 
 -- ---- from the picture bytes and the numbers
-
-part-short : (s : List ℕ) (a e : ℕ) → length (part s a e) ≤ length s
-unfolding part
-part-short s a e = go (leb a e) (leb e (length s))
-  where
-    go : (t u : Bool) → length (pick t (pick u (take (e - a) (drop a s)) []) []) ≤ length s
-    go true true = let n = length-take (e - a) (drop a s) in let m = length-drop a s in omega arith
-    go true false = omega arith
-    go false u = omega arith
 
 abbrev SegmentWithin : ℕ → Segment → Type 0
 SegmentWithin n x = (length (x .key) ≤ n) × (length (x .golden) ≤ n)

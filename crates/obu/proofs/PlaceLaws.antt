@@ -6,13 +6,13 @@ use mathlib.Core.Path.{_≡_, refl, sym, ap, _∙_}
 use mathlib.Core.List.{List, [], _∷_, _++_, append-nil}
 use mathlib.Core.Option.{Option, none, some}
 use mathlib.Core.Bool.{true, false}
-use lib.ListN.{length, getD, take, drop, length-drop, drop-of-length-le}
+use lib.ListN.{length, getD, take, drop, length-drop, length-take, drop-of-length-le}
 use lib.Seq.{length-take-le, drop-cons, drop-drop, take-append-seam, drop-append-seam}
-use lib.Dec.{ltb}
+use lib.Dec.{leb, ltb}
 use borrow.Author.Tests.{lt-ltb, le-ltb, ltb-true, ltb-false, lt-leb, le-leb, ne-eqb}
 use Rattle.bitio.specs.Parse.{refused, accepted, Head, stop, item}
 use Rattle.bitio.specs.Leb.{noLeb, lebThen, readLeb, sized}
-use Rattle.bitio.proofs.ParseLaws.{pick-cases, parts-length}
+use Rattle.bitio.proofs.ParseLaws.{pick-both, pick-cases, parts-length}
 use Rattle.obu.specs.Obu.{Obu, passes, sizedBody, headObuOf, headObu, obus}
 use types.Run.{OneOf}
 use denote.Enum.Declared.{tagOf}
@@ -215,3 +215,10 @@ pub placed-obu : {s : List ℕ} {at t a b : ℕ} {e : Option ℕ} (g : IsPlaced 
 placed-obu {s} {at} {t} {a} {b} {e} g =
     ap (λ x. obuOf x e (part s a b)) (sym (g .type)) ∙ ap (λ x. obuOf (g .obu .type) x (part s a b)) (sym (g .ext))
     ∙ ap (λ x. obuOf (g .obu .type) (g .obu .ext) x) (part-placed (g .placed))
+
+-- a part is no longer than the bytes
+pub part-short : (s : List ℕ) (a e : ℕ) → length (part s a e) ≤ length s
+unfolding part
+part-short s a e =
+    let P : List ℕ → Type 0 = λ l. length l ≤ length s in
+    pick-both P (leb a e) (pick-both P (leb e (length s)) (omega (arith, length-take (e - a) (drop a s), length-drop a s)) (omega arith)) (omega arith)

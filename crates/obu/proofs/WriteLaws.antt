@@ -13,16 +13,13 @@ use Rattle.bitio.specs.Lent.{pasted}
 use Rattle.bitio.specs.Leb.{lebBytes, framed}
 use Rattle.bitio.proofs.LebLaws.{bytes-mono}
 use Rattle.bitio.proofs.LentLaws.{pasted-more, pasted-one, pasted-set, placed-room, lent-room, placed-full, lent-full}
-use Rattle.obu.specs.declared.reader.Extension.{Extension}
-use Rattle.obu.specs.declared.reader.Extension.the-variants.{Absent, Byte}
 use Rattle.obu.specs.Obu.{passes, extBytes, header, obuBytes}
-use Rattle.obu.specs.Place.{extensionSays}
 use Rattle.obu.specs.Write.{obuLength, obu, obuPlaced, obuLent}
 use Rattle.obu.proofs.LengthLaws.{obu-length}
 
-pub ext-length : (e : Extension) → length (extBytes (extensionSays e)) ≤ 1
-ext-length Absent = omega arith
-ext-length (Byte x) = omega arith
+pub ext-most : (e : Option ℕ) → length (extBytes e) ≤ 1
+ext-most none = omega arith
+ext-most (some x) = omega arith
 
 -- a header byte alone, and with an extension byte
 pub header-plain : (d : List ℕ) (at t f : ℕ) → at < length d → set d at (t * 8 + f) ≡ pasted d at (header f t none)

@@ -4,13 +4,13 @@ use native.Mathlib.Omega.{arith}
 use mathlib.Core.Path.{_≡_, refl, sym, ap, _∙_}
 use mathlib.Core.List.{List, [], _∷_}
 use mathlib.Core.Bool.{Bool, true, false, cond as pick, _&&_}
-use lib.ListN.{length, take, drop, getD, length-drop, length-take, List·getD-eq-default}
+use lib.ListN.{length, take, drop, getD, length-drop, List·getD-eq-default}
 use lib.Seq.{slice, slice-empty, drop-drop}
 use lib.Dec.{leb, eqb}
 use borrow.Author.Tests.{le-leb, lt-leb, leb-true, leb-false, eqb-true, eq-eqb, ne-eqb}
 use Rattle.bitio.specs.Parse.{Answer, refused, accepted, answer, onto}
-use Rattle.bitio.proofs.ParseLaws.{pick-both}
 use Rattle.bitio.specs.Every.Every.{nothing, also}
+use Rattle.obu.proofs.PlaceLaws.{part-short}
 use Rattle.obu.specs.Obu.{Obu}
 use Rattle.obu.specs.Place.{part}
 use Rattle.obu.specs.Unit.{isFrame, count, ofUnit}
@@ -130,16 +130,10 @@ module _ (P : List ℕ → Type 0) (us : List (List ℕ)) (a : ℕ) where
 
 -- ---- no unit is longer than all bytes
 
-part-length : (s : List ℕ) (a e : ℕ) → length (part s a e) ≤ length s
-unfolding part
-part-length s a e =
-    let P : List ℕ → Type 0 = λ l. length l ≤ length s in
-    pick-both P (leb a e) (pick-both P (leb e (length s)) (omega (arith, length-take (e - a) (drop a s), length-drop a s)) (omega arith)) (omega arith)
-
 pub listed-short : (at : ℕ) (s es : List ℕ) → Every (λ u. length u ≤ length s) (listedFrom at s es)
 unfolding listedFrom
 listed-short at s [] = nothing
-listed-short at s (e ∷ es) = also (part-length s at e) (listed-short e s es)
+listed-short at s (e ∷ es) = also (part-short s at e) (listed-short e s es)
 
 -- ---- the packets
 

@@ -22,7 +22,7 @@ positionNumber none = 0
 positionNumber (some q) = q
 
 -- The position shown, 0 where nothing is shown, 2^64 - 1 - n for refusal n.
--- Positions count from 1 and 01's refusals end at 39, so that the three can be told apart.
+-- Positions count from 1 and refusals are u32, so that the three can be told apart.
 abbrev pub shownNumber : Answer Played → ℕ
 shownNumber (refused n) = 18446744073709551615 - n
 shownNumber (accepted r) = positionNumber (r .shown)

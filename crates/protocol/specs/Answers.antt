@@ -46,10 +46,10 @@ withNumbers t (v ∷ vs) = withNumbers (withNumber t v) vs
 
 -- an answer and the bytes lent to it
 pub record Filled : Type 0 where
-  pub answer : Answer
+  pub answer : Line
   pub bytes : List ℕ
 
-abbrev pub filled : Answer → List ℕ → Filled
+abbrev pub filled : Line → List ℕ → Filled
 filled a s = record { answer = a; bytes = s }
 
 -- ---- parts of the bytes

@@ -11,14 +11,14 @@ use borrow.Author.Tests.{leb-true, leb-false}
 use lib.Seq.{take-suc, take-all}
 use Rattle.header.specs.declared.seq_header.OperatingPoint.{OperatingPoint}
 use Rattle.frame.specs.declared.frame_header.FrameHeaderInfo.{FrameHeaderInfo}
-use Rattle.protocol.specs.declared.answer.Answer.{Answer}
+use Rattle.protocol.specs.declared.answer.Answer.{Answer as Line}
 use Rattle.protocol.specs.Answers.{partsOf, Numbered, numbered, withNumbers}
 use Rattle.protocol.proofs.ToldLaws.{numbers-then}
 use Rattle.replay_headers.specs.Fields.{pointFields, pointsFields}
 use Rattle.replay_headers.specs.Headers.{frameFields}
 
 -- told from nothing on
-pub from-done : (ns vs : List ℕ) {t : Numbered} {d : Answer} → t ≡ withNumbers (numbered d ns) vs → d ≡ partsOf 0 0 → t ≡ withNumbers (numbered (partsOf 0 0) ns) vs
+pub from-done : (ns vs : List ℕ) {t : Numbered} {d : Line} → t ≡ withNumbers (numbered d ns) vs → d ≡ partsOf 0 0 → t ≡ withNumbers (numbered (partsOf 0 0) ns) vs
 from-done ns vs e i = e ∙ ap (λ y. withNumbers (numbered y ns) vs) i
 
 pub frame-told : (ns : List ℕ) {t : Numbered} {x : FrameHeaderInfo} (y : FrameHeaderInfo) → t ≡ withNumbers (numbered (partsOf 0 0) ns) (frameFields y) → x ≡ y

@@ -8,7 +8,7 @@ use lib.Seq.{drop-cons}
 use Rattle.player.specs.Values.{playedBy, startState}
 use Rattle.player.specs.declared.slots.Answer.{Answer as Shows}
 use Rattle.player.specs.declared.step.State.{State}
-use Rattle.protocol.specs.declared.answer.Answer.{Answer}
+use Rattle.protocol.specs.declared.answer.Answer.{Answer as Line}
 use Rattle.protocol.specs.Answers.{partsOf, Numbered, numbered, withNumbers}
 use Rattle.obu.specs.Place.{partIn}
 use Rattle.protocol.proofs.AnswerLaws.{numbers-more}
@@ -40,7 +40,7 @@ module _ (s es : List ℕ) where
   unfolding playFields withNumbers
   play-end t st i ps h = rw (drop-of-length-le ps {i = i} h)
 
-  pub play-told : (ps ns : List ℕ) {t : Numbered} {d : Answer} {st : State} → t ≡ withNumbers (numbered d ns) (playFields s es st 0 ps) → d ≡ partsOf 0 0 → st ≡ startState
+  pub play-told : (ps ns : List ℕ) {t : Numbered} {d : Line} {st : State} → t ≡ withNumbers (numbered d ns) (playFields s es st 0 ps) → d ≡ partsOf 0 0 → st ≡ startState
       → t ≡ playTold s es ps ns
   play-told ps ns {st = st} e i j =
       e ∙ ap (λ x. withNumbers (numbered x ns) (playFields s es st 0 ps)) i ∙ ap (λ x. withNumbers (numbered (partsOf 0 0) ns) (playFields s es x 0 ps)) j

@@ -12,7 +12,7 @@ use Rattle.assemble.specs.Whole.{Lent, lentAfter, countsOf, assembledSays}
 use Rattle.assemble.specs.declared.multi.Counts.{Counts}
 use Rattle.assemble.specs.declared.multi.Assembled.{Assembled}
 use Rattle.assemble.specs.declared.multi.Assembled.the-variants.{Made, Refused, RefusedIn}
-use Rattle.protocol.specs.declared.answer.Answer.{Answer}
+use Rattle.protocol.specs.declared.answer.Answer.{Answer as Line}
 use Rattle.protocol.specs.Answers.{partsOf, refusedWith, Numbered, numbered, withNumbers, Parted, parted, withParts}
 use Rattle.protocol.specs.Told.{Told, told, numbersTold, tellNumbers, tellParts}
 use Rattle.protocol.proofs.AnswerLaws.{numbers-more, parts-more}
@@ -56,7 +56,7 @@ module _ (t : Numbered) (kind others : ℕ) (l : List ℕ) (i : ℕ) where
 
 -- ---- parts, then numbers
 
-pub tell-made : (m e n : List ℕ) (us : List (List ℕ)) (vs : List ℕ) {h k : List ℕ} {u p r : Answer} {m1 e1 m2 e2 n2 : List ℕ} → h ≡ k
+pub tell-made : (m e n : List ℕ) (us : List (List ℕ)) (vs : List ℕ) {h k : List ℕ} {u p r : Line} {m1 e1 m2 e2 n2 : List ℕ} → h ≡ k
     → parted u m1 e1 ≡ withParts (parted (partsOf 0 0) m e) us → parted p m2 e2 ≡ withParts (parted u m1 e1) (h ∷ []) → numbered r n2 ≡ withNumbers (numbered p n) vs
     → told r m2 e2 n2 ≡ tellNumbers (tellParts (told (partsOf 0 0) m e n) (us ++ (k ∷ []))) vs
 tell-made m e n us vs {h} {k} {m2 = m2} {e2 = e2} q i j l =
@@ -70,18 +70,18 @@ module _ (d : Lent) (m e n : List ℕ) (x : Assembled) where
   pub told-made : (c : Counts) {t : Told} → x ≡ Made c → t ≡ assembledTold (assembledSays (Made c)) d m e n → t ≡ assembledTold (assembledSays x) d m e n
   told-made c i j = j ∙ ap (λ y. assembledTold (assembledSays y) d m e n) (sym i)
 
-  pub told-refused : (k : ℕ) {r : Answer} → x ≡ Refused k → r ≡ refusedWith k → told r m e n ≡ assembledTold (assembledSays x) d m e n
+  pub told-refused : (k : ℕ) {r : Line} → x ≡ Refused k → r ≡ refusedWith k → told r m e n ≡ assembledTold (assembledSays x) d m e n
   unfolding assembledTold
   told-refused k i j = ap (λ y. told y m e n) j ∙ ap (λ y. assembledTold (assembledSays y) d m e n) (sym i)
 
-  pub told-refused-in : (k s : ℕ) {a r : Answer} {n' : List ℕ} → x ≡ RefusedIn k s → a ≡ refusedWith k → numbered r n' ≡ withNumbers (numbered a n) (s ∷ [])
+  pub told-refused-in : (k s : ℕ) {a r : Line} {n' : List ℕ} → x ≡ RefusedIn k s → a ≡ refusedWith k → numbered r n' ≡ withNumbers (numbered a n) (s ∷ [])
       → told r m e n' ≡ assembledTold (assembledSays x) d m e n
   unfolding assembledTold
   told-refused-in k s i j l =
       ap (numbersTold m e) l ∙ ap (λ y. numbersTold m e (withNumbers (numbered y n) (s ∷ []))) j ∙ ap (λ y. assembledTold (assembledSays y) d m e n) (sym i)
 
 -- dirty, unless all is marked
-pub told-handed : (x : Outcome Counts) (d : Lent) (m e n : List ℕ) (c : Counts) (b : Bool) {r : Answer} {m' e' n' : List ℕ} → c ≡ accountedFor x → b ≡ slicesMarked c d
+pub told-handed : (x : Outcome Counts) (d : Lent) (m e n : List ℕ) (c : Counts) (b : Bool) {r : Line} {m' e' n' : List ℕ} → c ≡ accountedFor x → b ≡ slicesMarked c d
     → told r m' e' n' ≡ assembledTold x d m e n → told (asDirty (not b) r) m' e' n' ≡ handedTold x d m e n
 unfolding handedTold
 told-handed x d m e n c b i j l =

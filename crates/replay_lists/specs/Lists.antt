@@ -9,8 +9,8 @@ use Rattle.pictures.specs.declared.settings.Settings.{Settings}
 use Rattle.pictures.specs.Assemble.{Outcome, stopped, made, Output, named}
 use Rattle.assemble.specs.Whole.{Lent, outcome, lentAfter, countsOf}
 use Rattle.assemble.specs.declared.multi.Counts.{Counts}
-use Rattle.protocol.specs.declared.answer.Answer.{Answer}
-use Rattle.protocol.specs.declared.lent.Lent.{Lent as Room}
+use Rattle.protocol.specs.declared.answer.Answer.{Answer as Line}
+use Rattle.protocol.specs.declared.lent.Lent.{Lent as LineLent}
 use Rattle.protocol.specs.Answers.{partsOf, refusedWith}
 use Rattle.protocol.specs.Kinds.{numberKind, namedKind, afterComma}
 use Rattle.protocol.specs.Marked.{byteMark, endMark, isMarked}
@@ -48,7 +48,7 @@ slicesOf list cues pictures ends shows header =
     record { list = list; cues = cues; pictures = pictures; ends = ends; shows = shows; header = header }
 
 -- list, cues and picture bytes as the request lends them, the others ample; all are marked
-abbrev pub slicesLent : Room → Lent
+abbrev pub slicesLent : LineLent → Lent
 slicesLent room =
     slicesOf (replicate (min (room .ends) 32768) endMark) (replicate (min (room .numbers) 32768) endMark) (replicate (min (room .bytes) 65536) byteMark)
     (replicate 32768 endMark) (replicate 54615 byteMark) (replicate 32768 byteMark)
@@ -96,7 +96,7 @@ slicesMarked c d =
     && isMarked byteMark (drop (c .picture) (d .pictures))) && isMarked byteMark (drop (c .shows) (d .shows)))
     && isMarked byteMark (drop (c .header) (d .header))
 
-abbrev pub asDirty : Bool → Answer → Answer
+abbrev pub asDirty : Bool → Line → Line
 asDirty dirty a = record { refusal = a .refusal; bytes = a .bytes; ends = a .ends; numbers = a .numbers; «is_dirty» = dirty }
 
 -- told as dirty, unless all is marked
@@ -111,6 +111,6 @@ unfoldable pub outcomeTold : Outcome Output → Lent → List ℕ → List ℕ �
 outcomeTold x d s es ns = handedTold (countsOf x) (lentAfter x d) s es ns
 
 -- assemble GOP FPS DEN KEY GOLDEN FRAMES ..
-unfoldable pub assembleTold : Room → List ℕ → List ℕ → List ℕ → List ℕ → List ℕ → List ℕ → Told
+unfoldable pub assembleTold : LineLent → List ℕ → List ℕ → List ℕ → List ℕ → List ℕ → List ℕ → Told
 assembleTold room s es fs out-s out-es out-ns =
     outcomeTold (outcome s (segmentRecords es fs 0 (segmentsAsked es)) (settingsOf fs) (slicesLent room)) (slicesLent room) out-s out-es out-ns

@@ -21,7 +21,7 @@ pub enum PartAt {
 
 pub enum InnerAt {
     Found(Obu),
-    // document 01's number: 10 OBU length, 11 overrun, 12 empty OBU, 1 forbidden bit, 3 no extension byte, 2 type; of
+    // the refusal's number: 10 OBU length, 11 overrun, 12 empty OBU, 1 forbidden bit, 3 no extension byte, 2 type; of
     // the size, 4 no number, 40 another count
     Refused(u32),
 }

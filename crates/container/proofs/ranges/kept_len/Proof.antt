@@ -3,8 +3,9 @@ use native.Mathlib.Omega.{arith}
 use mathlib.Core.Path.{_≡_, sym, _∙_}
 use mathlib.Core.Bool.{true, false}
 use Prim.Native.Nat.{_-_}
+use Rattle.obu.specs.Place.{extensionSays}
 use Rattle.bitio.proofs.LebLaws.{bytes-length}
-use Rattle.obu.proofs.WriteLaws.{ext-length}
+use Rattle.obu.proofs.WriteLaws.{ext-most}
 use Rattle.container.specs.code.Ranges.{isKept}
 use Rattle.container.proofs.ranges.kept_len.Statement.{statement}
 use Rattle.container.proofs.ranges.kept_len.Tie as tie
@@ -23,7 +24,7 @@ returns c =
     let k = c .before .before in
     let a = k .before .before .args in
     let e : isKept (a .keep) (a .o .«obu_type») ≡ true = sym (k .is-kept .ensures) ∙ c .before .if1 .taken in
-    rw e (omega (arith, c .obu-len .ensures, ext-length (a .o .extension), bytes-length (a .o .end - a .o .start)))
+    rw e (omega (arith, c .obu-len .ensures, ext-most (extensionSays (a .o .extension)), bytes-length (a .o .end - a .o .start)))
 
 returns-2 : tie.Need-returns-2
 returns-2 c =

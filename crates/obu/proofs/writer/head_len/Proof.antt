@@ -1,7 +1,8 @@
 use borrow.Author.Needs.{needs}
 use native.Mathlib.Omega.{arith}
+use Rattle.obu.specs.Place.{extensionSays}
 use Rattle.bitio.proofs.LebLaws.{bytes-length}
-use Rattle.obu.proofs.WriteLaws.{ext-length}
+use Rattle.obu.proofs.WriteLaws.{ext-most}
 use Rattle.obu.proofs.writer.head_len.Statement.{statement}
 use Rattle.obu.proofs.writer.head_len.Tie as tie
 
@@ -9,13 +10,13 @@ extension-len-requires : tie.Need-extension-len-requires
 extension-len-requires c κs = search needs
 
 add-result : tie.Need-add-result
-add-result c = omega (arith, ext-length (c .before .args .extension))
+add-result c = omega (arith, ext-most (extensionSays (c .before .args .extension)))
 
 leb128-len-requires : tie.Need-leb128-len-requires
 leb128-len-requires c κs = search needs
 
 add-result-2 : tie.Need-add-result-2
-add-result-2 c = omega (arith, ext-length (c .before .before .args .extension), bytes-length (c .before .before .args .size))
+add-result-2 c = omega (arith, ext-most (extensionSays (c .before .before .args .extension)), bytes-length (c .before .before .args .size))
 
 returns : tie.Need-returns
 returns c = search needs

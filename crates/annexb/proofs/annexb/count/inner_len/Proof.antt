@@ -1,6 +1,7 @@
 use borrow.Author.Needs.{needs}
 use native.Mathlib.Omega.{arith}
-use Rattle.obu.proofs.WriteLaws.{ext-length}
+use Rattle.obu.specs.Place.{extensionSays}
+use Rattle.obu.proofs.WriteLaws.{ext-most}
 use Rattle.annexb.proofs.annexb.count.inner_len.Statement.{statement}
 use Rattle.annexb.proofs.annexb.count.inner_len.Tie as tie
 
@@ -8,10 +9,10 @@ extension-len-requires : tie.Need-extension-len-requires
 extension-len-requires c κs = search needs
 
 add-result : tie.Need-add-result
-add-result c = omega (arith, ext-length (c .before .args .extension))
+add-result c = omega (arith, ext-most (extensionSays (c .before .args .extension)))
 
 add-result-2 : tie.Need-add-result-2
-add-result-2 c = omega (arith, ext-length (c .before .args .extension))
+add-result-2 c = omega (arith, ext-most (extensionSays (c .before .args .extension)))
 
 returns : tie.Need-returns
 returns c = search needs

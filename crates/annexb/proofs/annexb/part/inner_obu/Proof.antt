@@ -1,5 +1,4 @@
 use borrow.Author.Needs.{needs}
-use native.Mathlib.Omega.{arith}
 use mathlib.Core.Path.{_∙_}
 use Rattle.annexb.proofs.PartLaws.{inner-empty, inner-forbidden, inner-plain, inner-short, inner-ext}
 use Rattle.annexb.proofs.annexb.part.inner_obu.Statement.{statement}
