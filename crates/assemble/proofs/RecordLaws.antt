@@ -14,12 +14,12 @@ use Rattle.bitio.specs.Limits.{limit}
 use Rattle.bitio.specs.Lent.{pasted}
 use Rattle.bitio.proofs.ParseLaws.{pick-cases}
 use Rattle.bitio.proofs.LentLaws.{pasted-nil, pasted-more, pasted-length, pasted-take-end}
-use Rattle.blocks.specs.Numbers.{width, recordOf, segmentCount, firstRecords}
+use Rattle.blocks.specs.Numbers.{width, recordOf, noSegment, segmentCount, firstRecords}
 use Rattle.blocks.specs.declared.numbers.Segment.{Segment}
 use Rattle.pictures.specs.Assemble.{Outcome, stopped, Output}
 use Rattle.pictures.specs.declared.settings.Settings.{Settings}
 use Rattle.assemble.specs.Whole.{Lent, outcome}
-use Rattle.assemble.specs.Records.{numbersOf, copyCount, numbersAfter, noRoom, copiedOutcome, recordsOutcome, noRecord}
+use Rattle.assemble.specs.Records.{numbersOf, copyCount, numbersAfter, noRoom, copiedOutcome, recordsOutcome}
 
 -- ---- how many are copied
 
@@ -85,14 +85,14 @@ module _ {xs : List Segment} {d₀ d : List ℕ} {at i : ℕ} (r : Copying xs d�
     pub copy-room : at < segmentCount d
     copy-room = omega (arith, copied-room (length xs) (length d₀), r .place, r .len)
 
-    pub copy-turn : (m : ℕ) (d′ : List ℕ) → m ≡ at + 1 → d′ ≡ pasted d (width * at) (recordOf (getD xs i noRecord)) → Copying xs d₀ d′ m (i + 1)
+    pub copy-turn : (m : ℕ) (d′ : List ℕ) → m ≡ at + 1 → d′ ≡ pasted d (width * at) (recordOf (getD xs i noSegment)) → Copying xs d₀ d′ m (i + 1)
     copy-turn m d′ e f =
         let n = copyCount (length xs) (length d₀) in
-        let x = getD xs i noRecord in
+        let x = getD xs i noSegment in
         let k : width * m ≡ width * at + width = omega (arith, e) in
         let l : i < length (take n xs) = omega (arith, length-take n xs, copied-within (length xs) (length d₀)) in
         let behind : drop i (take n xs) ≡ x ∷ drop (i + 1) (take n xs) =
-        drop-cons (take n xs) i noRecord l ∙ ap₂ (λ (y : Segment) (k : ℕ). y ∷ drop k (take n xs)) (getD-take n xs i noRecord h) (sym (add-one i)) in
+        drop-cons (take n xs) i noSegment l ∙ ap₂ (λ (y : Segment) (k : ℕ). y ∷ drop k (take n xs)) (getD-take n xs i noSegment h) (sym (add-one i)) in
         record {
           within = omega arith;
           place = omega (arith, r .place, e);

@@ -18,10 +18,6 @@ unfoldable pub numbersOf : List Segment → List ℕ
 numbersOf [] = []
 numbersOf (x ∷ xs) = recordOf x ++ numbersOf xs
 
--- what stands for a segment where there is none
-abbrev pub noRecord : Segment
-noRecord = record { «key_start» = 0; «key_end» = 0; «golden_start» = 0; «golden_end» = 0; frames = 0 }
-
 -- room for so many records
 abbrev pub hasRecords : ℕ → List ℕ → Bool
 hasRecords count d = leb count (segmentCount d)

@@ -52,9 +52,9 @@ use denote.Triple.Table.{entered, cited}
 use denote.Triple.Walked.{says, Stays, stay-none-slice, stay-slice, walkOf, goes-none-slice, goes-slice, Walks, ends-at, walked, walk-meets}
 use denote.Exit.{yes}
 use Rattle.bitio.specs.Lent.{pasted}
-use Rattle.blocks.specs.Numbers.{width, recordOf, segmentCount}
+use Rattle.blocks.specs.Numbers.{width, recordOf, noSegment, segmentCount}
 use Rattle.blocks.specs.declared.numbers.Segment.{Segment}
-use Rattle.assemble.specs.Records.{copyCount, numbersAfter, noRecord}
+use Rattle.assemble.specs.Records.{copyCount, numbersAfter}
 use Rattle.assemble.proofs.RecordLaws.{Copying, copy-start, copy-end, copy-less, copy-room, copy-turn}
 use Rattle.assemble.proofs.Relend.{LentAgain, lends-again, comes-back}
 use Rattle.blocks.proofs.numbers.Segment as T
@@ -97,8 +97,12 @@ ref = tyRef erased mut word
 abbrev lent : Ty
 lent = sliceTy ref
 
+-- how many bytes a segment's struct has: eight a number
+abbrev stride : ℕ
+stride = 8 * width
+
 -- the byte offset of a place in a slice fits
-offset-fits : {i n : ℕ} → n * 40 < 2 ^ 63 → i < n → i * 40 < 2 ^ 64
+offset-fits : {i n : ℕ} → n * stride < 2 ^ 63 → i < n → i * stride < 2 ^ 64
 offset-fits room within = omega arith
 
 module _ {M : Type 1} (𝓤 : URA M) (H : Heap 𝓤) (A : Atoms 𝓤) (mem : Memory → SProp 𝓤) (run : Routine → Fun 𝓤) where
@@ -213,7 +217,7 @@ module _ {M : Type 1} (𝓤 : URA M) (H : Heap 𝓤) (A : Atoms 𝓤) (W : Given
 
     -- what `put_numbers` ensures of its result r and its last list zs
     abbrev Says : State → ℕ → List ℕ → Type 0
-    Says s r zs = (r ≡ s .to + 1) × (zs ≡ pasted (s .zs) (width * s .to) (recordOf (getD ys (s .i) noRecord)))
+    Says s r zs = (r ≡ s .to + 1) × (zs ≡ pasted (s .zs) (width * s .to) (recordOf (getD ys (s .i) noSegment)))
 
     -- the state after one more segment
     abbrev next : (s : State) (r : ℕ) (zs : List ℕ) → s .i < end → r < 2 ^ 64 → Says s r zs → State
@@ -227,11 +231,11 @@ module _ {M : Type 1} (𝓤 : URA M) (H : Heap 𝓤) (A : Atoms 𝓤) (W : Given
         rewrite ! 17 (λ (t : Bool). ‵ (fat fullShare tyBool l₈ 0 (vbool t))) is-less refl $ stays ! (load ! (from ! (stop !)) (look ! 17 refl)) $
         assigns ! (bin ! (load ! (from ! (stop !)) (look ! 23 refl)) (lit ! tt) (record { fits = offset-fits (room .1) less })) (from ! (stop !)) (init ! 15 refl (tt, record { fits = offset-fits (room .1) less })) $
         assigns ! (bin ! (load ! (from ! (fld ! refl (stop !))) (look-in ! 31 (sub ! 0 refl (whole !)))) (load ! (from ! (stop !)) (look ! 15 refl)) tt) (from ! (stop !)) (init ! 13 refl (tt, tt)) $
-        rewrite ! 13 (λ (r : ℕ). ‵ (fat fullShare tyPtr l₁₀ 0 (vptr b r))) (sym (place-is 40 o (s .i))) refl $
-        elem-out ! T.the-row (Is T.the-row) (shows 𝓤 H A T.the-row) vals (LL.tells T.the-type T′.the-laws) q′ ys (s .i) noRecord b o less (λ g.
+        rewrite ! 13 (λ (r : ℕ). ‵ (fat fullShare tyPtr l₁₀ 0 (vptr b r))) (sym (place-is stride o (s .i))) refl $
+        elem-out ! T.the-row (Is T.the-row) (shows 𝓤 H A T.the-row) vals (LL.tells T.the-type T′.the-laws) q′ ys (s .i) noSegment b o less (λ g.
         -- [segments[i]; what it owns; the others; and the rest, 2 further on]: it is copied, and put back
         assigns ! (of-opd ! (load ! (from ! (hop ! (look ! 15 refl) (stop !))) (look-raw ! 0 refl))) (from ! (stop !)) (init ! 13 refl (LL.lawful T.the-type T′.the-laws 𝓤 H A W .typed elem _ g .0)) $
-        elem-back ! T.the-row q′ ys (s .i) noRecord (vals elem) b o less $
+        elem-back ! T.the-row q′ ys (s .i) noSegment (vals elem) b o less $
         assigns ! (addr ! (from ! (fld ! refl (hop ! (look-in ! 29 (sub ! 0 refl (whole !))) (stop !))))) (from ! (stop !)) (init ! 9 refl (tt, tt)) $
         assigns ! (agg ! (and-then ! (load ! (from ! (stop !)) (look ! 9 refl)) (and-then ! (load ! (from ! (fld ! refl (stop !))) (look-in ! 29 (sub ! 1 refl (whole !)))) (no-more !)))) (from ! (stop !)) (init ! 7 refl (tt, (tt, (record { fits = room′ .0 }, tt)))) $
         rewrite ! 7 (λ (m : ℕ). ‵ (fat fullShare lent l₁₃ 0 (sliceVal (b′, o′) m))) (sym (s .copied .len)) refl $
@@ -259,7 +263,7 @@ module _ {M : Type 1} (𝓤 : URA M) (H : Heap 𝓤) (A : Atoms 𝓤) (W : Given
         forget ! 7 refl $ forget ! 9 refl $ forget ! 11 refl $ forget ! 13 refl $ forget ! 15 refl $ forget ! 17 refl $ again ! Nearer At s (next s r (zs .1 .1 .0) sooner (is .1) e) (add-one-dec end (s .i) sooner))))))))))
       where
         elem : Segment
-        elem = getD ys (s .i) noRecord
+        elem = getD ys (s .i) noSegment
 
         sooner : s .i < end
         sooner = ltb-true (s .i) end is-less
