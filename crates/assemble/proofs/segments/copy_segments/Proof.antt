@@ -179,6 +179,10 @@ module _ {M : Type 1} (𝓤 : URA M) (H : Heap 𝓤) (A : Atoms 𝓤) (W : Given
       qed W (‵ (flft (ν ∷ []) fullShare) ∷ ‵ (MutSlice (named 0) (ν ∷ []) u64 .own (x′ δ zs) (sv zs)) ∷ []) ∵ says ! fit $ nothing ! $ move ! (1 ∷ 0 ∷ []) $ join ! $ frame ! $
       nothing ! $ move ! (1 ∷ 0 ∷ []) $ fjoin ! $ owned ! T.the-row (Is T.the-row) ((LL.makes T.the-type T′.the-plain) 𝓤 H A) s _ is $ fjoin ! $ owned ! usize (Is usize) (uint-makes 𝓤 H A W w64) m _ (refl, fits) $ fjoin ! $ done !
 
+  -- the numbers' last list, among what `put_numbers` says of the last values
+  abbrev numbers-last : {X Y Z : Type 0} → X × (Y × (List ℕ × Z)) → List ℕ
+  numbers-last zs = zs .1 .1 .0
+
   -- the loop's state: the index, the next record, the numbers, and what is known of them
   pub record State : Type 0 where
     pub i : ℕ
@@ -247,20 +251,20 @@ module _ {M : Type 1} (𝓤 : URA M) (H : Heap 𝓤) (A : Atoms 𝓤) (W : Given
         -- [the callee's pre; what is lent; the segments' share; what shuts; the fractured borrow; res; fact; the locals]
         calls-at ! (fmOf 𝓤 H (W .laws) 𝓣) (Put 𝓤 H A mem run) known (to-put (s .to) elem (s .zs) ν δ) (and-then ! (load ! (from ! (stop !)) (look ! 25 refl)) (and-then ! (load ! (from ! (stop !)) (look ! 11 refl)) (and-then ! (load ! (from ! (stop !)) (look ! 7 refl)) (no-more !)))) (λ w.
         use1 W (later (some (λ (r : ℕ). ((‵ (flft (ν ∷ []) fullShare) ⊛ ‵ ftrue) ⊛ ‵ (usize .own r (w ∷ []))) ⊛ raw (ensured 𝓤 H A put.ended (put.clauses 𝓤 H A mem run) (ν ∷ [], tt) (args (s .to) elem (s .zs) δ) tt r)))) (id⊢ 𝓤 _) $ await ! tt $ pick ! (λ r. split ! $ move ! (1 ∷ []) $
-        use1 W (some (λ (zs : Lasts put.ended (ν ∷ [], tt) (args (s .to) elem (s .zs) δ)). ‵ (lasts put.ended (ν ∷ [], tt) (args (s .to) elem (s .zs) δ) zs) ⊛ raw (fact 𝓤 (Says s r (zs .1 .1 .0))))) (id⊢ 𝓤 _) $ pick ! (λ zs.
-        split ! $ move ! (1 ∷ []) $ heard ! (Says s r (zs .1 .1 .0)) (λ e. fsplit ! $ drops ! $ fsplit ! $ drops ! $ fsplit ! $ fsplit ! $ move ! (1 ∷ []) $ feqL ! (λ l.
+        use1 W (some (λ (zs : Lasts put.ended (ν ∷ [], tt) (args (s .to) elem (s .zs) δ)). ‵ (lasts put.ended (ν ∷ [], tt) (args (s .to) elem (s .zs) δ) zs) ⊛ raw (fact 𝓤 (Says s r (numbers-last zs))))) (id⊢ 𝓤 _) $ pick ! (λ zs.
+        split ! $ move ! (1 ∷ []) $ heard ! (Says s r (numbers-last zs)) (λ e. fsplit ! $ drops ! $ fsplit ! $ drops ! $ fsplit ! $ fsplit ! $ move ! (1 ∷ []) $ feqL ! (λ l.
         -- [the numbers' last list; true; the token and the result; what is lent; the segments' share; …]
         move ! (2 ∷ []) $ split ! $ move ! (1 ∷ []) $ peeks ! usize (Is usize) (shows 𝓤 H A usize) r (w ∷ []) (λ is.
         land ! (from ! (stop !)) (store ! 28 refl (uint-lawful 𝓤 H A W w64 .typed r _ is .0)) $ rewrite ! 28 (λ (u : Val). ‵ (fat fullShare word l₄ 0 u)) (ap only (is .0)) refl $
         -- the lifetime is ended, and the numbers come back
         move ! (1 ∷ []) $ split ! $ lft-end ! tt $ move ! (0 ∷ 5 ∷ 3 ∷ []) $
-        use3 W (later (‵ (MutSlice (named 1) κ₁ u64 .own (x′ γ′ (zs .1 .1 .0)) (sv (s .zs))) ⊛ ‵ (flft κ₁ p₁)))
-        (comes-back u64 κ₁ (ν ∷ []) p₁ γ′ b′ o′ 𝓤 H A W (named 1) (named 0) (s .zs) δ (zs .1 .1 .0) (subst (Room u64) (sym (s .copied .len)) room′) l) $ await ! tt $ split ! $
-        rewrite ! 0 (λ (m : ℕ). ‵ (MutSlice (named 1) κ₁ u64 .own (x′ γ′ (zs .1 .1 .0)) (sliceVal (b′, o′) m ∷ []))) (sym l) refl $
+        use3 W (later (‵ (MutSlice (named 1) κ₁ u64 .own (x′ γ′ (numbers-last zs)) (sv (s .zs))) ⊛ ‵ (flft κ₁ p₁)))
+        (comes-back u64 κ₁ (ν ∷ []) p₁ γ′ b′ o′ 𝓤 H A W (named 1) (named 0) (s .zs) δ (numbers-last zs) (subst (Room u64) (sym (s .copied .len)) room′) l) $ await ! tt $ split ! $
+        rewrite ! 0 (λ (m : ℕ). ‵ (MutSlice (named 1) κ₁ u64 .own (x′ γ′ (numbers-last zs)) (sliceVal (b′, o′) m ∷ []))) (sym l) refl $
         -- [the numbers; their token; true; the result; true; the segments' share; what shuts; the fractured borrow; res; fact; the locals]
         keep ! (5 ∷ 6 ∷ 7 ∷ 8 ∷ 9 ∷ 0 ∷ 1 ∷ 10 ∷ 11 ∷ 12 ∷ 13 ∷ 14 ∷ 15 ∷ 16 ∷ 17 ∷ 18 ∷ 19 ∷ 20 ∷ 21 ∷ 22 ∷ 23 ∷ 24 ∷ 25 ∷ 26 ∷ 27 ∷ 28 ∷ 29 ∷ 30 ∷ 31 ∷ 32 ∷ 33 ∷ 34 ∷ 35 ∷ 36 ∷ 37 ∷ []) $
         assigns-last ! (bin ! (load ! (from ! (stop !)) (look ! 23 refl)) (lit ! tt) (record { fits = next-fits })) (from ! (stop !)) (store ! 23 refl (tt, record { fits = next-fits })) $
-        forget ! 7 refl $ forget ! 9 refl $ forget ! 11 refl $ forget ! 13 refl $ forget ! 15 refl $ forget ! 17 refl $ again ! Nearer At s (next s r (zs .1 .1 .0) sooner (is .1) e) (add-one-dec end (s .i) sooner))))))))))
+        forget ! 7 refl $ forget ! 9 refl $ forget ! 11 refl $ forget ! 13 refl $ forget ! 15 refl $ forget ! 17 refl $ again ! Nearer At s (next s r (numbers-last zs) sooner (is .1) e) (add-one-dec end (s .i) sooner))))))))))
       where
         elem : Segment
         elem = getD ys (s .i) noSegment
