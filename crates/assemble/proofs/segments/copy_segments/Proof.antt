@@ -53,7 +53,7 @@ use denote.Triple.Walked.{says, Stays, stay-none-slice, stay-slice, walkOf, goes
 use denote.Exit.{yes}
 use Rattle.bitio.specs.Lent.{pasted}
 use Rattle.blocks.specs.Numbers.{width, recordOf, noSegment, segmentCount}
-use Rattle.blocks.specs.declared.numbers.Segment.{Segment}
+use Rattle.blocks.specs.declared.numbers.Segment.{Segment as SegmentStruct}
 use Rattle.assemble.specs.Records.{copyCount, numbersAfter}
 use Rattle.assemble.proofs.RecordLaws.{Copying, copy-start, copy-end, copy-less, copy-room, copy-turn}
 use Rattle.assemble.proofs.Relend.{LentAgain, lends-again, comes-back}
@@ -74,12 +74,12 @@ use Rattle.assemble.proofs.segments.copy_segments.Code as code
 use Rattle.assemble.proofs.segments.copy_segments.Code.Mir as mir′
 
 abbrev Arg : Type 0
-Arg = RefT (List Segment) × (RefT (List ℕ) × Unit {0})
+Arg = RefT (List SegmentStruct) × (RefT (List ℕ) × Unit {0})
 
 abbrev stayed : Stays (f.ended .signature .params) (f.ended .kept)
 stayed = (stay-none-slice (0 ∷ []) tt (plain (λ _. T.the-row)) yes, (stay-slice (1 ∷ []) tt (plain (λ _. u64)), tt))
 
-abbrev vals : Segment → List Val
+abbrev vals : SegmentStruct → List Val
 vals = LL.vals T.the-type T′.the-laws
 
 abbrev word : Ty
@@ -118,14 +118,14 @@ module _ {M : Type 1} (𝓤 : URA M) (H : Heap 𝓤) (A : Atoms 𝓤) (mem : Mem
   count-of m k r = exE 𝓤 _ (λ ws. snd∗ 𝓤 (sem 𝓤 H A (lasts count.ended tt (m, (k, tt)) ws)) (fact 𝓤 (r ≡ copyCount m k)))
 
 module _ {M : Type 1} (𝓤 : URA M) (H : Heap 𝓤) (A : Atoms 𝓤) (W : Given 𝓤 H A) (mem : Memory → SProp 𝓤) (run : Routine → Fun 𝓤) (κ₀ κ₁ : Lft) (bounds : AllOutlive 2 (f.signature .outlives) (κ₀, (κ₁, tt))) (p₀ p₁ : Share)
-    (b o : ℕ) (γ : GName) (ys : List Segment) (b′ o′ : ℕ) (γ′ : GName) (ws : List ℕ) where
+    (b o : ℕ) (γ : GName) (ys : List SegmentStruct) (b′ o′ : ℕ) (γ′ : GName) (ws : List ℕ) where
   abbrev n : ℕ
   n = length ys
 
   abbrev end : ℕ
   end = copyCount n (length ws)
 
-  abbrev x : RefT (List Segment)
+  abbrev x : RefT (List SegmentStruct)
   x = record { ptr = (b, o); name = γ; now = ys }
 
   abbrev x′ : GName → List ℕ → RefT (List ℕ)
@@ -167,13 +167,13 @@ module _ {M : Type 1} (𝓤 : URA M) (H : Heap 𝓤) (A : Atoms 𝓤) (W : Given
       qed W (‵ ftrue ∷ []) ∵ owned ! usize (Is usize) (uint-makes 𝓤 H A W w64) (length ws) _ (refl, f₁) $ fjoin ! $ owned ! usize (Is usize) (uint-makes 𝓤 H A W w64) n _ (refl, f₀) $ fjoin ! $
       nothing ! $ join ! $ frame ! $ done !
 
-  abbrev args : ℕ → Segment → List ℕ → GName → ℕ × (Segment × (RefT (List ℕ) × Unit {0}))
+  abbrev args : ℕ → SegmentStruct → List ℕ → GName → ℕ × (SegmentStruct × (RefT (List ℕ) × Unit {0}))
   args m s zs δ = (m, (s, (x′ δ zs, tt)))
 
-  abbrev to-put : ℕ → Segment → List ℕ → ℕ → GName → Put 𝓤 H A mem run .Ghost
+  abbrev to-put : ℕ → SegmentStruct → List ℕ → ℕ → GName → Put 𝓤 H A mem run .Ghost
   to-put m s zs ν δ = (((ν ∷ [], tt), (fullShare, tt), tt, args m s zs δ, (vint w64 m ∷ [], (vals s, (sv zs, tt)))), tt)
 
-  goes-put : (m : ℕ) (s : Segment) (zs : List ℕ) (ν : ℕ) (δ : GName) → m < 2 ^ 64 → Is T.the-row s (vals s) → m < segmentCount zs
+  goes-put : (m : ℕ) (s : SegmentStruct) (zs : List ℕ) (ν : ℕ) (δ : GName) → m < 2 ^ 64 → Is T.the-row s (vals s) → m < segmentCount zs
       → ent 𝓤 (sep 𝓤 (A .lft (ν ∷ []) fullShare) (sem 𝓤 H A (MutSlice (named 0) (ν ∷ []) u64 .own (x′ δ zs) (sv zs)))) (Put 𝓤 H A mem run .pre (to-put m s zs ν δ))
   goes-put m s zs ν δ fits is fit =
       qed W (‵ (flft (ν ∷ []) fullShare) ∷ ‵ (MutSlice (named 0) (ν ∷ []) u64 .own (x′ δ zs) (sv zs)) ∷ []) ∵ says ! fit $ nothing ! $ move ! (1 ∷ 0 ∷ []) $ join ! $ frame ! $
@@ -266,7 +266,7 @@ module _ {M : Type 1} (𝓤 : URA M) (H : Heap 𝓤) (A : Atoms 𝓤) (W : Given
         assigns-last ! (bin ! (load ! (from ! (stop !)) (look ! 23 refl)) (lit ! tt) (record { fits = next-fits })) (from ! (stop !)) (store ! 23 refl (tt, record { fits = next-fits })) $
         forget ! 7 refl $ forget ! 9 refl $ forget ! 11 refl $ forget ! 13 refl $ forget ! 15 refl $ forget ! 17 refl $ again ! Nearer At s (next s r (numbers-last zs) sooner (is .1) e) (add-one-dec end (s .i) sooner))))))))))
       where
-        elem : Segment
+        elem : SegmentStruct
         elem = getD ys (s .i) noSegment
 
         sooner : s .i < end
