@@ -14,12 +14,12 @@ use Rattle.bitio.specs.Limits.{limit}
 use Rattle.bitio.specs.Lent.{pasted}
 use Rattle.bitio.proofs.ParseLaws.{pick-cases}
 use Rattle.bitio.proofs.LentLaws.{pasted-nil, pasted-more, pasted-length, pasted-take-end}
-use Rattle.blocks.specs.Numbers.{width, recordOf, segmentCount, firstRecords}
-use Rattle.blocks.specs.declared.numbers.Segment.{Segment}
+use Rattle.blocks.specs.Numbers.{width, recordOf, noSegment, segmentCount, firstRecords}
+use Rattle.blocks.specs.declared.numbers.Segment.{Segment as SegmentStruct}
 use Rattle.pictures.specs.Assemble.{Outcome, stopped, Output}
 use Rattle.pictures.specs.declared.settings.Settings.{Settings}
 use Rattle.assemble.specs.Whole.{Lent, outcome}
-use Rattle.assemble.specs.Records.{numbersOf, copyCount, numbersAfter, noRoom, copiedOutcome, recordsOutcome, noRecord}
+use Rattle.assemble.specs.Records.{numbersOf, copyCount, numbersAfter, noRoom, copiedOutcome, recordsOutcome}
 
 -- ---- how many are copied
 
@@ -37,7 +37,7 @@ copied-room count room = pick-cases (λ n. n ≤ room / width) (leb count (room 
 
 -- ---- all segments
 
-pub numbers-length : (xs : List Segment) → length (numbersOf xs) ≡ width * length xs
+pub numbers-length : (xs : List SegmentStruct) → length (numbersOf xs) ≡ width * length xs
 unfolding numbersOf
 numbers-length [] = refl
 numbers-length (x ∷ xs) = let e = numbers-length xs in length-append (recordOf x) (numbersOf xs) ∙ omega (arith, e)
@@ -46,18 +46,18 @@ numbers-nil : numbersOf [] ≡ []
 unfolding numbersOf
 numbers-nil = refl
 
-numbers-cons : (x : Segment) (xs : List Segment) → numbersOf (x ∷ xs) ≡ recordOf x ++ numbersOf xs
+numbers-cons : (x : SegmentStruct) (xs : List SegmentStruct) → numbersOf (x ∷ xs) ≡ recordOf x ++ numbersOf xs
 unfolding numbersOf
 numbers-cons x xs = refl
 
 -- the numbers of i segments stand in d, which held d₀
-pub record Copying (xs : List Segment) (d₀ d : List ℕ) (at i : ℕ) : Type 0 where
+pub record Copying (xs : List SegmentStruct) (d₀ d : List ℕ) (at i : ℕ) : Type 0 where
   pub within : i ≤ copyCount (length xs) (length d₀)
   pub place : at ≡ i
   pub len : length d ≡ length d₀
   pub rest : pasted d (width * at) (numbersOf (drop i (take (copyCount (length xs) (length d₀)) xs))) ≡ numbersAfter xs d₀
 
-pub copy-start : (xs : List Segment) (d : List ℕ) → Copying xs d d 0 0
+pub copy-start : (xs : List SegmentStruct) (d : List ℕ) → Copying xs d d 0 0
 unfolding numbersAfter
 copy-start xs d =
     record {
@@ -68,10 +68,10 @@ copy-start xs d =
     }
   where
     go : (b : Bool) → pasted d 0 (numbersOf (drop 0 (take (pick b (length xs) 0) xs))) ≡ pick b (pasted d 0 (numbersOf xs)) d
-    go true = ap (λ (l : List Segment). pasted d 0 (numbersOf l)) (take-all (length xs) xs (omega arith))
+    go true = ap (λ (l : List SegmentStruct). pasted d 0 (numbersOf l)) (take-all (length xs) xs (omega arith))
     go false = ap (pasted d 0) numbers-nil ∙ pasted-nil d 0
 
-module _ {xs : List Segment} {d₀ d : List ℕ} {at i : ℕ} (r : Copying xs d₀ d at i) where
+module _ {xs : List SegmentStruct} {d₀ d : List ℕ} {at i : ℕ} (r : Copying xs d₀ d at i) where
   pub copy-end : copyCount (length xs) (length d₀) ≤ i → d ≡ numbersAfter xs d₀
   copy-end h =
       let n = copyCount (length xs) (length d₀) in
@@ -85,14 +85,14 @@ module _ {xs : List Segment} {d₀ d : List ℕ} {at i : ℕ} (r : Copying xs d�
     pub copy-room : at < segmentCount d
     copy-room = omega (arith, copied-room (length xs) (length d₀), r .place, r .len)
 
-    pub copy-turn : (m : ℕ) (d′ : List ℕ) → m ≡ at + 1 → d′ ≡ pasted d (width * at) (recordOf (getD xs i noRecord)) → Copying xs d₀ d′ m (i + 1)
+    pub copy-turn : (m : ℕ) (d′ : List ℕ) → m ≡ at + 1 → d′ ≡ pasted d (width * at) (recordOf (getD xs i noSegment)) → Copying xs d₀ d′ m (i + 1)
     copy-turn m d′ e f =
         let n = copyCount (length xs) (length d₀) in
-        let x = getD xs i noRecord in
+        let x = getD xs i noSegment in
         let k : width * m ≡ width * at + width = omega (arith, e) in
         let l : i < length (take n xs) = omega (arith, length-take n xs, copied-within (length xs) (length d₀)) in
         let behind : drop i (take n xs) ≡ x ∷ drop (i + 1) (take n xs) =
-        drop-cons (take n xs) i noRecord l ∙ ap₂ (λ (y : Segment) (k : ℕ). y ∷ drop k (take n xs)) (getD-take n xs i noRecord h) (sym (add-one i)) in
+        drop-cons (take n xs) i noSegment l ∙ ap₂ (λ (y : SegmentStruct) (k : ℕ). y ∷ drop k (take n xs)) (getD-take n xs i noSegment h) (sym (add-one i)) in
         record {
           within = omega arith;
           place = omega (arith, r .place, e);
@@ -123,7 +123,7 @@ module _ (s : List ℕ) (count : ℕ) (d : List ℕ) (set : Settings) (l : Lent)
   unfolding copiedOutcome
   copied-made rs h e = ap (λ (ns : List ℕ). outcome s ns set l) e ∙ simp (le-leb count (segmentCount d) h)
 
-module _ (s : List ℕ) (xs : List Segment) (d : List ℕ) (set : Settings) (l : Lent) where
+module _ (s : List ℕ) (xs : List SegmentStruct) (d : List ℕ) (set : Settings) (l : Lent) where
   -- from the numbers as they stand once the segments are copied
   pub copied-is : copiedOutcome s (length xs) (numbersAfter xs d) set l ≡ recordsOutcome s xs d set l
   unfolding copiedOutcome recordsOutcome numbersAfter

@@ -8,26 +8,22 @@ use lib.Dec.{leb, ltb}
 use Rattle.bitio.specs.Limits.{limit}
 use Rattle.bitio.specs.Lent.{pasted}
 use Rattle.blocks.specs.Numbers.{width, recordOf, segmentCount, firstRecords}
-use Rattle.blocks.specs.declared.numbers.Segment.{Segment}
+use Rattle.blocks.specs.declared.numbers.Segment.{Segment as SegmentStruct}
 use Rattle.pictures.specs.Assemble.{Outcome, stopped, Output}
 use Rattle.pictures.specs.declared.settings.Settings.{Settings}
 use Rattle.assemble.specs.Whole.{Lent, outcome}
 
 -- the records of all segments, one after the other
-unfoldable pub numbersOf : List Segment → List ℕ
+unfoldable pub numbersOf : List SegmentStruct → List ℕ
 numbersOf [] = []
 numbersOf (x ∷ xs) = recordOf x ++ numbersOf xs
-
--- what stands for a segment where there is none
-abbrev pub noRecord : Segment
-noRecord = record { «key_start» = 0; «key_end» = 0; «golden_start» = 0; «golden_end» = 0; frames = 0 }
 
 -- room for so many records
 abbrev pub hasRecords : ℕ → List ℕ → Bool
 hasRecords count d = leb count (segmentCount d)
 
 -- what the lent numbers hold afterwards: those of the segments at their head, or, without room, what they held
-unfoldable pub numbersAfter : List Segment → List ℕ → List ℕ
+unfoldable pub numbersAfter : List SegmentStruct → List ℕ → List ℕ
 numbersAfter xs d = pick (hasRecords (length xs) d) (pasted d 0 (numbersOf xs)) d
 
 -- without room for the numbers nothing more can be read: 35, behind 34 alone
@@ -35,7 +31,7 @@ unfoldable pub noRoom : List ℕ → Outcome Output
 noRoom s = pick (ltb limit (length s)) (stopped 34 none) (stopped 35 none)
 
 -- assembly from structs
-unfoldable pub recordsOutcome : (s : List ℕ) (xs : List Segment) (d : List ℕ) → Settings → Lent → Outcome Output
+unfoldable pub recordsOutcome : (s : List ℕ) (xs : List SegmentStruct) (d : List ℕ) → Settings → Lent → Outcome Output
 recordsOutcome s xs d set l =
     pick (hasRecords (length xs) d) (outcome s (numbersOf xs) set l) (noRoom s)
 

@@ -10,13 +10,13 @@ use lib.ListN.{length, set, take, drop, replicate, length-drop, length-map, leng
 use lib.Seq.{sets, sets-eq, take-at, take-length}
 use lib.Dec.{leb}
 use borrow.Author.Tests.{le-leb, lt-leb, eqb-true}
-use Rattle.blocks.specs.Numbers.{width, recordOf, headSegment, rest, segmentCount, isWhole, firstRecords, recordAt, recordsFrom, records, recordsBehind}
+use Rattle.blocks.specs.Numbers.{width, recordOf, headSegment, noSegment, rest, segmentCount, isWhole, firstRecords, recordAt, recordsFrom, records, recordsBehind}
 use Rattle.blocks.specs.declared.numbers.Segment.{Segment}
 use Rattle.blocks.proofs.NumberLaws.{first-more, behind-start, behind-end, behind-more, records-length}
 use Rattle.pictures.specs.Assemble.{stopped}
 use Rattle.pictures.specs.declared.settings.Settings.{Settings}
 use Rattle.assemble.specs.Whole.{Lent, outcome}
-use Rattle.assemble.specs.Records.{numbersOf, noRoom, recordsOutcome, noRecord}
+use Rattle.assemble.specs.Records.{numbersOf, noRoom, recordsOutcome}
 use Rattle.bench.specs.Boards.{boards, boardsIn, boardsOutcome}
 
 -- ---- one after the other
@@ -27,12 +27,12 @@ pub record Filling (rs : List ℕ) (l : List Segment) (i : ℕ) : Type 0 where
   pub within : i ≤ segmentCount rs
   pub rest : sets l i (map headSegment (recordsBehind rs i)) ≡ boardsIn rs
 
-pub fill-start : (rs : List ℕ) → Filling rs (replicate 64 noRecord) 0
-fill-start rs =
+pub fill-start : (rs : List ℕ) (x : Segment) → x ≡ noSegment → Filling rs (replicate 64 x) 0
+fill-start rs x e =
     record {
-      len = length-replicate 64 noRecord;
+      len = length-replicate 64 x;
       within = omega arith;
-      rest = ap (λ (ls : List (List ℕ)). sets (replicate 64 noRecord) 0 (map headSegment ls)) (behind-start rs);
+      rest = ap₂ (λ (y : Segment) (ls : List (List ℕ)). sets (replicate 64 y) 0 (map headSegment ls)) e (behind-start rs);
     }
 
 module _ {rs : List ℕ} {l : List Segment} {i : ℕ} (f : Filling rs l i) where
@@ -70,8 +70,8 @@ boards-length rs = length-map (records rs) headSegment ∙ records-length (segme
 
 front-of : (rs : List ℕ) → segmentCount rs ≤ 64 → take (segmentCount rs) (boardsIn rs) ≡ boards rs
 front-of rs h =
-    ap (take (segmentCount rs)) (sets-eq (boards rs) (replicate 64 noRecord) 0 (omega (arith, boards-length rs, length-replicate 64 noRecord)))
-    ∙ take-at (boards rs) (drop (0 + length (boards rs)) (replicate 64 noRecord)) (segmentCount rs) (boards-length rs)
+    ap (take (segmentCount rs)) (sets-eq (boards rs) (replicate 64 noSegment) 0 (omega (arith, boards-length rs, length-replicate 64 noSegment)))
+    ∙ take-at (boards rs) (drop (0 + length (boards rs)) (replicate 64 noSegment)) (segmentCount rs) (boards-length rs)
 
 -- ---- assembly
 

@@ -8,12 +8,11 @@ use lib.ListN.{replicate}
 use lib.Seq.{sets}
 use lib.Dec.{leb}
 use denote.Triple.Both.{Both}
-use Rattle.blocks.specs.Numbers.{headSegment, records, isWhole, segmentCount}
+use Rattle.blocks.specs.Numbers.{headSegment, noSegment, records, isWhole, segmentCount}
 use Rattle.blocks.specs.declared.numbers.Segment.{Segment}
 use Rattle.pictures.specs.Assemble.{Outcome, stopped, Output}
 use Rattle.pictures.specs.declared.settings.Settings.{Settings}
 use Rattle.assemble.specs.Whole.{Lent, outcome, lentAfter, countsOf, assembledCode}
-use Rattle.assemble.specs.Records.{noRecord}
 
 -- the segments of all records
 abbrev pub boards : List ℕ → List Segment
@@ -21,7 +20,7 @@ boards rs = map headSegment (records rs)
 
 -- the same in an array of 64, behind them empty ones
 abbrev pub boardsIn : List ℕ → List Segment
-boardsIn rs = sets (replicate 64 noRecord) 0 (boards rs)
+boardsIn rs = sets (replicate 64 noSegment) 0 (boards rs)
 
 -- assembly, where the numbers are those of at most 64 segments and no more
 unfoldable pub boardsOutcome : List ℕ → List ℕ → Settings → Lent → Outcome Output

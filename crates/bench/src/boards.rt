@@ -12,6 +12,7 @@ use assemble::segments::assemble_segments;
 use blocks::numbers::Segment;
 use blocks::numbers::WIDTH;
 use blocks::numbers::is_whole;
+use blocks::numbers::no_segment;
 use blocks::numbers::segment_count;
 use blocks::numbers::segment_of;
 use pictures::settings::Settings;
@@ -29,13 +30,7 @@ fn boards_of(segments: &[u64]) -> [Segment; BOARDS]
     requires { ⌜ segmentCount (now segments) ≤ 64 ⌝ }
     ensures { λ r. ⌜ r ≡ boardsIn (now (segments .entry)) ⌝ }
 {
-    let none = Segment {
-        key_start: 0,
-        key_end: 0,
-        golden_start: 0,
-        golden_end: 0,
-        frames: 0,
-    };
+    let none = no_segment();
     let mut boards = [none; BOARDS];
     let count = segment_count(segments);
     let mut i: usize = 0;

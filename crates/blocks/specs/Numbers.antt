@@ -20,6 +20,10 @@ recordOf x = x .«key_start» ∷ x .«key_end» ∷ x .«golden_start» ∷ x .
 abbrev pub headSegment : List ℕ → Segment
 headSegment rs = record { «key_start» = getD rs 0 0; «key_end» = getD rs 1 0; «golden_start» = getD rs 2 0; «golden_end» = getD rs 3 0; frames = getD rs 4 0 }
 
+-- what stands for a segment where there is none
+abbrev pub noSegment : Segment
+noSegment = headSegment []
+
 abbrev pub headKey : List ℕ → List ℕ → List ℕ
 headKey s rs = part s (headSegment rs .«key_start») (headSegment rs .«key_end»)
 

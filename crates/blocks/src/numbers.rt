@@ -2,7 +2,7 @@
 ghost use mathlib.Core.Path.{_≡_};
 ghost use Prim.Native.Nat.{_*_, _<_};
 ghost use Rattle.bitio.specs.Lent.{pasted};
-ghost use Rattle.blocks.specs.Numbers.{width, recordOf, headSegment, inside, headInside, segmentCount, isWhole, recordAt, keyAt, goldenAt, framesAt};
+ghost use Rattle.blocks.specs.Numbers.{width, recordOf, headSegment, noSegment, inside, headInside, segmentCount, isWhole, recordAt, keyAt, goldenAt, framesAt};
 use obu::reader::payload;
 
 // How many numbers a segment needs of lent room.
@@ -15,6 +15,19 @@ pub struct Segment {
     pub golden_start: u64,
     pub golden_end: u64,
     pub frames: u64,
+}
+
+// What stands for a segment where there is none.
+pub fn no_segment() -> Segment
+    ensures { λ r. ⌜ r ≡ noSegment ⌝ }
+{
+    Segment {
+        key_start: 0,
+        key_end: 0,
+        golden_start: 0,
+        golden_end: 0,
+        frames: 0,
+    }
 }
 
 pub fn segment_count(segments: &[u64]) -> usize

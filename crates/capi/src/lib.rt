@@ -33,7 +33,8 @@ pub extern "C" fn magbelo_split_obu_stream(
 }
 
 // Assembly: 0, with all that is handed out in the lent slices and its counts; or document 01's number, with
-// (segment + 1) * 2^32 more where 01 adds the segment, and all is as it was. Segments are five numbers each.
+// (segment + 1) * 2^32 more where 01 adds the segment, and all is as it was. The numbers are whole records of
+// segments, as include/magbelo.h lays them out.
 #[no_mangle]
 pub extern "C" fn magbelo_assemble(
     picture: &[u8],

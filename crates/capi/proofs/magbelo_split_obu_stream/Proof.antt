@@ -16,17 +16,17 @@ returns : tie.Need-returns
 returns c =
     let u = c .before .before .before .before .before .before .before in
     let a = u .before .before .before .before .before .before .args in
-    let w = u .split-obu-stream .ensures in
-    let e = sym (ap splitSays (c .before .k .given .1)) ∙ w .0 in
-    record { code = ap codeOf e; lent = same-lent (w .1 .0) (w .1 .1) (ap (λ x. byteCountAfter x (now (a .bytes))) e) (ap (λ x. unitCountAfter x (now (a .units))) e) }
+    let (says, (out, ends)) = u .split-obu-stream .ensures in
+    let e = sym (ap splitSays (c .before .k .given .1)) ∙ says in
+    record { code = ap codeOf e; lent = same-lent out ends (ap (λ x. byteCountAfter x (now (a .bytes))) e) (ap (λ x. unitCountAfter x (now (a .units))) e) }
 
 returns-2 : tie.Need-returns-2
 returns-2 c =
     let u = c .before .before .before .before .before .before .before in
     let a = u .before .before .before .before .before .before .args in
-    let w = u .split-obu-stream .ensures in
-    let e = sym (ap splitSays (c .before .n .given .1)) ∙ w .0 in
-    record { code = ap codeOf e; lent = same-lent (w .1 .0) (w .1 .1) (ap (λ x. byteCountAfter x (now (a .bytes))) e) (ap (λ x. unitCountAfter x (now (a .units))) e) }
+    let (says, (out, ends)) = u .split-obu-stream .ensures in
+    let e = sym (ap splitSays (c .before .n .given .1)) ∙ says in
+    record { code = ap codeOf e; lent = same-lent out ends (ap (λ x. byteCountAfter x (now (a .bytes))) e) (ap (λ x. unitCountAfter x (now (a .units))) e) }
 
 pub magbelo-split-obu-stream-spec : {M : Type 1} → statement M
 magbelo-split-obu-stream-spec =

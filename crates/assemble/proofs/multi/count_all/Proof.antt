@@ -11,8 +11,9 @@ returns : tie.Need-returns
 returns c =
     let z = c .before .before .before .before .before .before .before .before in
     let a = z .args in
+    let (gop, (_, small)) = z .pre in
     let k = c .before .before .before .before .segment-count .ensures in
-    same-counts (units-are (a .gop) (framesIn (now (a .segments))) _ (z .pre .0) (z .pre .1 .1) (c .before .before .before .total-frames .ensures)) (c .before .before .count-cues .ensures) refl (ap (λ (n : ℕ). 2 * n) k) (ap (λ (n : ℕ). 5 * n) k) (c .before .header-len .ensures) (c .first-slot .ensures)
+    same-counts (units-are (a .gop) (framesIn (now (a .segments))) _ gop small (c .before .before .before .total-frames .ensures)) (c .before .before .count-cues .ensures) refl (ap (λ (n : ℕ). 2 * n) k) (ap (λ (n : ℕ). 5 * n) k) (c .before .header-len .ensures) (c .first-slot .ensures)
 
 pub count-all-spec : {M : Type 1} → statement M
 count-all-spec =

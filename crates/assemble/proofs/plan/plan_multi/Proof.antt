@@ -18,11 +18,11 @@ use Rattle.assemble.proofs.plan.plan_multi.Tie as tie
 fit : (c : tie.After-enum-told) → made tt ≡ checked (now (c .before .before .before .before .before .args .picture)) (now (c .before .before .before .before .before .args .segments)) (c .before .before .before .before .before .args .settings .gop)
 fit c = sym (ap checkedSays (c .enum-told .given .1)) ∙ c .before .before .check-input .ensures
 
-sound : (c : tie.After-enum-told) → Sound (c .before .before .before .before .before .args .settings .gop) (now (c .before .before .before .before .before .args .segments))
-sound c = checked-sound (now (c .before .before .before .before .before .args .picture)) (now (c .before .before .before .before .before .args .segments)) (c .before .before .before .before .before .args .settings .gop) (sym (fit c))
+input-sound : (c : tie.After-enum-told) → Sound (c .before .before .before .before .before .args .settings .gop) (now (c .before .before .before .before .before .args .segments))
+input-sound c = checked-sound (now (c .before .before .before .before .before .args .picture)) (now (c .before .before .before .before .before .args .segments)) (c .before .before .before .before .before .args .settings .gop) (sym (fit c))
 
 key-of-requires : tie.Need-key-of-requires
-key-of-requires c κs = omega (arith, sound c .some-there)
+key-of-requires c κs = omega (arith, input-sound c .some-there)
 
 -- the first key's sequence header
 found : (c : tie.After-obu) → accepted (obuIn (now (c .before .before .before .key-of .result)) (c .obu .given .0 .0)) ≡ firstSequence (now (c .before .before .before .key-of .result))
@@ -30,7 +30,7 @@ unfolding andNext
 found c = let f = c .before .before in first-found (now (f .before .key-of .result)) (f .find-obu .result) (f .find-obu .ensures) _ (c .obu .given .1)
 
 plan-header-requires : tie.Need-plan-header-requires
-plan-header-requires c κs = (omega (arith, sound (c .before .before .before .before .before) .some-there), found-type _ _ (found (c .before)))
+plan-header-requires c κs = (omega (arith, input-sound (c .before .before .before .before .before) .some-there), found-type _ _ (found (c .before)))
 
 returns : tie.Need-returns
 returns c =

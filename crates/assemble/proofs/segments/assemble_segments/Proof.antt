@@ -38,7 +38,7 @@ use denote.Triple.Entry.{Args, Vals, onEntry}
 use denote.Triple.Spec.{Meets, tripleOf}
 use denote.Triple.Table.{entered, cited}
 use denote.Triple.Walked.{Stays, walkOf, Walks, ends-at, walked, walk-meets}
-use Rattle.blocks.specs.declared.numbers.Segment.{Segment}
+use Rattle.blocks.specs.declared.numbers.Segment.{Segment as SegmentStruct}
 use Rattle.pictures.specs.declared.settings.Settings.{Settings}
 use Rattle.pictures.specs.Assemble.{Outcome, Output}
 use Rattle.assemble.specs.Whole.{Lent, six, Handed}
@@ -83,7 +83,7 @@ module _ {M : Type 1} (𝓤 : URA M) (H : Heap 𝓤) (A : Atoms 𝓤) (W : Given
   abbrev picture : RefT (List ℕ)
   picture = a .0
 
-  abbrev segments : RefT (List Segment)
+  abbrev segments : RefT (List SegmentStruct)
   segments = a .1 .0
 
   abbrev numbers : RefT (List ℕ)
@@ -123,7 +123,7 @@ module _ {M : Type 1} (𝓤 : URA M) (H : Heap 𝓤) (A : Atoms 𝓤) (W : Given
     pub for-shows : Room u8 (length (shows .now))
     pub for-header : Room u8 (length (header .now))
 
-  abbrev ys : List Segment
+  abbrev ys : List SegmentStruct
   ys = segments .now
 
   abbrev ws : List ℕ

@@ -52,9 +52,9 @@ use denote.Triple.Table.{entered, cited}
 use denote.Triple.Walked.{says, Stays, stay-none-slice, stay-slice, walkOf, goes-none-slice, goes-slice, Walks, ends-at, walked, walk-meets}
 use denote.Exit.{yes}
 use Rattle.bitio.specs.Lent.{pasted}
-use Rattle.blocks.specs.Numbers.{width, recordOf, segmentCount}
-use Rattle.blocks.specs.declared.numbers.Segment.{Segment}
-use Rattle.assemble.specs.Records.{copyCount, numbersAfter, noRecord}
+use Rattle.blocks.specs.Numbers.{width, recordOf, noSegment, segmentCount}
+use Rattle.blocks.specs.declared.numbers.Segment.{Segment as SegmentStruct}
+use Rattle.assemble.specs.Records.{copyCount, numbersAfter}
 use Rattle.assemble.proofs.RecordLaws.{Copying, copy-start, copy-end, copy-less, copy-room, copy-turn}
 use Rattle.assemble.proofs.Relend.{LentAgain, lends-again, comes-back}
 use Rattle.blocks.proofs.numbers.Segment as T
@@ -74,12 +74,12 @@ use Rattle.assemble.proofs.segments.copy_segments.Code as code
 use Rattle.assemble.proofs.segments.copy_segments.Code.Mir as mir′
 
 abbrev Arg : Type 0
-Arg = RefT (List Segment) × (RefT (List ℕ) × Unit {0})
+Arg = RefT (List SegmentStruct) × (RefT (List ℕ) × Unit {0})
 
 abbrev stayed : Stays (f.ended .signature .params) (f.ended .kept)
 stayed = (stay-none-slice (0 ∷ []) tt (plain (λ _. T.the-row)) yes, (stay-slice (1 ∷ []) tt (plain (λ _. u64)), tt))
 
-abbrev vals : Segment → List Val
+abbrev vals : SegmentStruct → List Val
 vals = LL.vals T.the-type T′.the-laws
 
 abbrev word : Ty
@@ -97,8 +97,12 @@ ref = tyRef erased mut word
 abbrev lent : Ty
 lent = sliceTy ref
 
+-- how many bytes a segment's struct has: eight a number
+abbrev stride : ℕ
+stride = 8 * width
+
 -- the byte offset of a place in a slice fits
-offset-fits : {i n : ℕ} → n * 40 < 2 ^ 63 → i < n → i * 40 < 2 ^ 64
+offset-fits : {i n : ℕ} → n * stride < 2 ^ 63 → i < n → i * stride < 2 ^ 64
 offset-fits room within = omega arith
 
 module _ {M : Type 1} (𝓤 : URA M) (H : Heap 𝓤) (A : Atoms 𝓤) (mem : Memory → SProp 𝓤) (run : Routine → Fun 𝓤) where
@@ -114,14 +118,14 @@ module _ {M : Type 1} (𝓤 : URA M) (H : Heap 𝓤) (A : Atoms 𝓤) (mem : Mem
   count-of m k r = exE 𝓤 _ (λ ws. snd∗ 𝓤 (sem 𝓤 H A (lasts count.ended tt (m, (k, tt)) ws)) (fact 𝓤 (r ≡ copyCount m k)))
 
 module _ {M : Type 1} (𝓤 : URA M) (H : Heap 𝓤) (A : Atoms 𝓤) (W : Given 𝓤 H A) (mem : Memory → SProp 𝓤) (run : Routine → Fun 𝓤) (κ₀ κ₁ : Lft) (bounds : AllOutlive 2 (f.signature .outlives) (κ₀, (κ₁, tt))) (p₀ p₁ : Share)
-    (b o : ℕ) (γ : GName) (ys : List Segment) (b′ o′ : ℕ) (γ′ : GName) (ws : List ℕ) where
+    (b o : ℕ) (γ : GName) (ys : List SegmentStruct) (b′ o′ : ℕ) (γ′ : GName) (ws : List ℕ) where
   abbrev n : ℕ
   n = length ys
 
   abbrev end : ℕ
   end = copyCount n (length ws)
 
-  abbrev x : RefT (List Segment)
+  abbrev x : RefT (List SegmentStruct)
   x = record { ptr = (b, o); name = γ; now = ys }
 
   abbrev x′ : GName → List ℕ → RefT (List ℕ)
@@ -163,17 +167,21 @@ module _ {M : Type 1} (𝓤 : URA M) (H : Heap 𝓤) (A : Atoms 𝓤) (W : Given
       qed W (‵ ftrue ∷ []) ∵ owned ! usize (Is usize) (uint-makes 𝓤 H A W w64) (length ws) _ (refl, f₁) $ fjoin ! $ owned ! usize (Is usize) (uint-makes 𝓤 H A W w64) n _ (refl, f₀) $ fjoin ! $
       nothing ! $ join ! $ frame ! $ done !
 
-  abbrev args : ℕ → Segment → List ℕ → GName → ℕ × (Segment × (RefT (List ℕ) × Unit {0}))
+  abbrev args : ℕ → SegmentStruct → List ℕ → GName → ℕ × (SegmentStruct × (RefT (List ℕ) × Unit {0}))
   args m s zs δ = (m, (s, (x′ δ zs, tt)))
 
-  abbrev to-put : ℕ → Segment → List ℕ → ℕ → GName → Put 𝓤 H A mem run .Ghost
+  abbrev to-put : ℕ → SegmentStruct → List ℕ → ℕ → GName → Put 𝓤 H A mem run .Ghost
   to-put m s zs ν δ = (((ν ∷ [], tt), (fullShare, tt), tt, args m s zs δ, (vint w64 m ∷ [], (vals s, (sv zs, tt)))), tt)
 
-  goes-put : (m : ℕ) (s : Segment) (zs : List ℕ) (ν : ℕ) (δ : GName) → m < 2 ^ 64 → Is T.the-row s (vals s) → m < segmentCount zs
+  goes-put : (m : ℕ) (s : SegmentStruct) (zs : List ℕ) (ν : ℕ) (δ : GName) → m < 2 ^ 64 → Is T.the-row s (vals s) → m < segmentCount zs
       → ent 𝓤 (sep 𝓤 (A .lft (ν ∷ []) fullShare) (sem 𝓤 H A (MutSlice (named 0) (ν ∷ []) u64 .own (x′ δ zs) (sv zs)))) (Put 𝓤 H A mem run .pre (to-put m s zs ν δ))
   goes-put m s zs ν δ fits is fit =
       qed W (‵ (flft (ν ∷ []) fullShare) ∷ ‵ (MutSlice (named 0) (ν ∷ []) u64 .own (x′ δ zs) (sv zs)) ∷ []) ∵ says ! fit $ nothing ! $ move ! (1 ∷ 0 ∷ []) $ join ! $ frame ! $
       nothing ! $ move ! (1 ∷ 0 ∷ []) $ fjoin ! $ owned ! T.the-row (Is T.the-row) ((LL.makes T.the-type T′.the-plain) 𝓤 H A) s _ is $ fjoin ! $ owned ! usize (Is usize) (uint-makes 𝓤 H A W w64) m _ (refl, fits) $ fjoin ! $ done !
+
+  -- the numbers' last list, among what `put_numbers` says of the last values
+  abbrev numbers-last : {X Y Z : Type 0} → X × (Y × (List ℕ × Z)) → List ℕ
+  numbers-last zs = zs .1 .1 .0
 
   -- the loop's state: the index, the next record, the numbers, and what is known of them
   pub record State : Type 0 where
@@ -213,7 +221,7 @@ module _ {M : Type 1} (𝓤 : URA M) (H : Heap 𝓤) (A : Atoms 𝓤) (W : Given
 
     -- what `put_numbers` ensures of its result r and its last list zs
     abbrev Says : State → ℕ → List ℕ → Type 0
-    Says s r zs = (r ≡ s .to + 1) × (zs ≡ pasted (s .zs) (width * s .to) (recordOf (getD ys (s .i) noRecord)))
+    Says s r zs = (r ≡ s .to + 1) × (zs ≡ pasted (s .zs) (width * s .to) (recordOf (getD ys (s .i) noSegment)))
 
     -- the state after one more segment
     abbrev next : (s : State) (r : ℕ) (zs : List ℕ) → s .i < end → r < 2 ^ 64 → Says s r zs → State
@@ -227,11 +235,11 @@ module _ {M : Type 1} (𝓤 : URA M) (H : Heap 𝓤) (A : Atoms 𝓤) (W : Given
         rewrite ! 17 (λ (t : Bool). ‵ (fat fullShare tyBool l₈ 0 (vbool t))) is-less refl $ stays ! (load ! (from ! (stop !)) (look ! 17 refl)) $
         assigns ! (bin ! (load ! (from ! (stop !)) (look ! 23 refl)) (lit ! tt) (record { fits = offset-fits (room .1) less })) (from ! (stop !)) (init ! 15 refl (tt, record { fits = offset-fits (room .1) less })) $
         assigns ! (bin ! (load ! (from ! (fld ! refl (stop !))) (look-in ! 31 (sub ! 0 refl (whole !)))) (load ! (from ! (stop !)) (look ! 15 refl)) tt) (from ! (stop !)) (init ! 13 refl (tt, tt)) $
-        rewrite ! 13 (λ (r : ℕ). ‵ (fat fullShare tyPtr l₁₀ 0 (vptr b r))) (sym (place-is 40 o (s .i))) refl $
-        elem-out ! T.the-row (Is T.the-row) (shows 𝓤 H A T.the-row) vals (LL.tells T.the-type T′.the-laws) q′ ys (s .i) noRecord b o less (λ g.
+        rewrite ! 13 (λ (r : ℕ). ‵ (fat fullShare tyPtr l₁₀ 0 (vptr b r))) (sym (place-is stride o (s .i))) refl $
+        elem-out ! T.the-row (Is T.the-row) (shows 𝓤 H A T.the-row) vals (LL.tells T.the-type T′.the-laws) q′ ys (s .i) noSegment b o less (λ g.
         -- [segments[i]; what it owns; the others; and the rest, 2 further on]: it is copied, and put back
         assigns ! (of-opd ! (load ! (from ! (hop ! (look ! 15 refl) (stop !))) (look-raw ! 0 refl))) (from ! (stop !)) (init ! 13 refl (LL.lawful T.the-type T′.the-laws 𝓤 H A W .typed elem _ g .0)) $
-        elem-back ! T.the-row q′ ys (s .i) noRecord (vals elem) b o less $
+        elem-back ! T.the-row q′ ys (s .i) noSegment (vals elem) b o less $
         assigns ! (addr ! (from ! (fld ! refl (hop ! (look-in ! 29 (sub ! 0 refl (whole !))) (stop !))))) (from ! (stop !)) (init ! 9 refl (tt, tt)) $
         assigns ! (agg ! (and-then ! (load ! (from ! (stop !)) (look ! 9 refl)) (and-then ! (load ! (from ! (fld ! refl (stop !))) (look-in ! 29 (sub ! 1 refl (whole !)))) (no-more !)))) (from ! (stop !)) (init ! 7 refl (tt, (tt, (record { fits = room′ .0 }, tt)))) $
         rewrite ! 7 (λ (m : ℕ). ‵ (fat fullShare lent l₁₃ 0 (sliceVal (b′, o′) m))) (sym (s .copied .len)) refl $
@@ -243,23 +251,23 @@ module _ {M : Type 1} (𝓤 : URA M) (H : Heap 𝓤) (A : Atoms 𝓤) (W : Given
         -- [the callee's pre; what is lent; the segments' share; what shuts; the fractured borrow; res; fact; the locals]
         calls-at ! (fmOf 𝓤 H (W .laws) 𝓣) (Put 𝓤 H A mem run) known (to-put (s .to) elem (s .zs) ν δ) (and-then ! (load ! (from ! (stop !)) (look ! 25 refl)) (and-then ! (load ! (from ! (stop !)) (look ! 11 refl)) (and-then ! (load ! (from ! (stop !)) (look ! 7 refl)) (no-more !)))) (λ w.
         use1 W (later (some (λ (r : ℕ). ((‵ (flft (ν ∷ []) fullShare) ⊛ ‵ ftrue) ⊛ ‵ (usize .own r (w ∷ []))) ⊛ raw (ensured 𝓤 H A put.ended (put.clauses 𝓤 H A mem run) (ν ∷ [], tt) (args (s .to) elem (s .zs) δ) tt r)))) (id⊢ 𝓤 _) $ await ! tt $ pick ! (λ r. split ! $ move ! (1 ∷ []) $
-        use1 W (some (λ (zs : Lasts put.ended (ν ∷ [], tt) (args (s .to) elem (s .zs) δ)). ‵ (lasts put.ended (ν ∷ [], tt) (args (s .to) elem (s .zs) δ) zs) ⊛ raw (fact 𝓤 (Says s r (zs .1 .1 .0))))) (id⊢ 𝓤 _) $ pick ! (λ zs.
-        split ! $ move ! (1 ∷ []) $ heard ! (Says s r (zs .1 .1 .0)) (λ e. fsplit ! $ drops ! $ fsplit ! $ drops ! $ fsplit ! $ fsplit ! $ move ! (1 ∷ []) $ feqL ! (λ l.
+        use1 W (some (λ (zs : Lasts put.ended (ν ∷ [], tt) (args (s .to) elem (s .zs) δ)). ‵ (lasts put.ended (ν ∷ [], tt) (args (s .to) elem (s .zs) δ) zs) ⊛ raw (fact 𝓤 (Says s r (numbers-last zs))))) (id⊢ 𝓤 _) $ pick ! (λ zs.
+        split ! $ move ! (1 ∷ []) $ heard ! (Says s r (numbers-last zs)) (λ e. fsplit ! $ drops ! $ fsplit ! $ drops ! $ fsplit ! $ fsplit ! $ move ! (1 ∷ []) $ feqL ! (λ l.
         -- [the numbers' last list; true; the token and the result; what is lent; the segments' share; …]
         move ! (2 ∷ []) $ split ! $ move ! (1 ∷ []) $ peeks ! usize (Is usize) (shows 𝓤 H A usize) r (w ∷ []) (λ is.
         land ! (from ! (stop !)) (store ! 28 refl (uint-lawful 𝓤 H A W w64 .typed r _ is .0)) $ rewrite ! 28 (λ (u : Val). ‵ (fat fullShare word l₄ 0 u)) (ap only (is .0)) refl $
         -- the lifetime is ended, and the numbers come back
         move ! (1 ∷ []) $ split ! $ lft-end ! tt $ move ! (0 ∷ 5 ∷ 3 ∷ []) $
-        use3 W (later (‵ (MutSlice (named 1) κ₁ u64 .own (x′ γ′ (zs .1 .1 .0)) (sv (s .zs))) ⊛ ‵ (flft κ₁ p₁)))
-        (comes-back u64 κ₁ (ν ∷ []) p₁ γ′ b′ o′ 𝓤 H A W (named 1) (named 0) (s .zs) δ (zs .1 .1 .0) (subst (Room u64) (sym (s .copied .len)) room′) l) $ await ! tt $ split ! $
-        rewrite ! 0 (λ (m : ℕ). ‵ (MutSlice (named 1) κ₁ u64 .own (x′ γ′ (zs .1 .1 .0)) (sliceVal (b′, o′) m ∷ []))) (sym l) refl $
+        use3 W (later (‵ (MutSlice (named 1) κ₁ u64 .own (x′ γ′ (numbers-last zs)) (sv (s .zs))) ⊛ ‵ (flft κ₁ p₁)))
+        (comes-back u64 κ₁ (ν ∷ []) p₁ γ′ b′ o′ 𝓤 H A W (named 1) (named 0) (s .zs) δ (numbers-last zs) (subst (Room u64) (sym (s .copied .len)) room′) l) $ await ! tt $ split ! $
+        rewrite ! 0 (λ (m : ℕ). ‵ (MutSlice (named 1) κ₁ u64 .own (x′ γ′ (numbers-last zs)) (sliceVal (b′, o′) m ∷ []))) (sym l) refl $
         -- [the numbers; their token; true; the result; true; the segments' share; what shuts; the fractured borrow; res; fact; the locals]
         keep ! (5 ∷ 6 ∷ 7 ∷ 8 ∷ 9 ∷ 0 ∷ 1 ∷ 10 ∷ 11 ∷ 12 ∷ 13 ∷ 14 ∷ 15 ∷ 16 ∷ 17 ∷ 18 ∷ 19 ∷ 20 ∷ 21 ∷ 22 ∷ 23 ∷ 24 ∷ 25 ∷ 26 ∷ 27 ∷ 28 ∷ 29 ∷ 30 ∷ 31 ∷ 32 ∷ 33 ∷ 34 ∷ 35 ∷ 36 ∷ 37 ∷ []) $
         assigns-last ! (bin ! (load ! (from ! (stop !)) (look ! 23 refl)) (lit ! tt) (record { fits = next-fits })) (from ! (stop !)) (store ! 23 refl (tt, record { fits = next-fits })) $
-        forget ! 7 refl $ forget ! 9 refl $ forget ! 11 refl $ forget ! 13 refl $ forget ! 15 refl $ forget ! 17 refl $ again ! Nearer At s (next s r (zs .1 .1 .0) sooner (is .1) e) (add-one-dec end (s .i) sooner))))))))))
+        forget ! 7 refl $ forget ! 9 refl $ forget ! 11 refl $ forget ! 13 refl $ forget ! 15 refl $ forget ! 17 refl $ again ! Nearer At s (next s r (numbers-last zs) sooner (is .1) e) (add-one-dec end (s .i) sooner))))))))))
       where
-        elem : Segment
-        elem = getD ys (s .i) noRecord
+        elem : SegmentStruct
+        elem = getD ys (s .i) noSegment
 
         sooner : s .i < end
         sooner = ltb-true (s .i) end is-less

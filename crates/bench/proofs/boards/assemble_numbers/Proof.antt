@@ -1,10 +1,10 @@
 use borrow.Author.Needs.{needs}
 use native.Mathlib.Omega.{arith}
-use Prim.Native.Nat.{ℕ, _<_, _≤_}
+use Prim.Native.Nat.{ℕ, _*_, _<_, _≤_}
 use mathlib.Core.Path.{refl, sym, _∙_}
 use lib.ListN.{replicate, length-replicate}
 use denote.Ref.{now}
-use Rattle.blocks.specs.Numbers.{segmentCount}
+use Rattle.blocks.specs.Numbers.{width, segmentCount}
 use Rattle.pictures.proofs.RangeLaws.{denied, granted}
 use Rattle.assemble.specs.Whole.{six}
 use Rattle.assemble.proofs.AnswerLaws.{kept, retold}
@@ -35,7 +35,7 @@ returns-3 c =
     let q = c .before .before .before .before .before .before .before .before .before .before .before .before .before .before .before .before .before .before .before .before .before .before .before .is-whole in
     let n = c .before .before .before .before .before .before .before .before .before .before .before .before .before .before .before .before .before .before .before .before .before .before .before .before .before .segment-count in
     let e = sym (q .ensures) ∙ granted (q .result) (c .before .before .before .before .before .before .before .before .before .before .before .before .before .before .before .before .before .before .before .before .before .before .if2 .left) in
-    let f = fit (now (a .picture)) (now (a .segments)) (a .settings) (six (a .list) (a .cues) (a .pictures) (a .ends) (a .shows) (a .header)) (n .result) (n .ensures) (c .before .before .before .before .before .before .before .before .before .before .before .before .before .before .before .before .before .before .before .before .before .before .before .before .if1 .left) e (b .result) (b .ensures) (replicate 320 0) (length-replicate {A = ℕ} 320 0) in
+    let f = fit (now (a .picture)) (now (a .segments)) (a .settings) (six (a .list) (a .cues) (a .pictures) (a .ends) (a .shows) (a .header)) (n .result) (n .ensures) (c .before .before .before .before .before .before .before .before .before .before .before .before .before .before .before .before .before .before .before .before .before .before .before .before .if1 .left) e (b .result) (b .ensures) (replicate (width * 64) 0) (length-replicate {A = ℕ} (width * 64) 0) in
     retold f w
 
 pub assemble-numbers-spec : {M : Type 1} → statement M

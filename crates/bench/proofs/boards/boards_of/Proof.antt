@@ -12,7 +12,7 @@ abbrev μ-loop : tie.MeasureT-loop
 μ-loop segments boards₀ count i₀ boards i = count - i
 
 loop-holds : tie.Need-loop-holds Inv-loop μ-loop
-loop-holds c = fill-start _
+loop-holds c = fill-start _ _ (c .before .no-segment .ensures)
 
 segment-of-requires : tie.Need-segment-of-requires Inv-loop μ-loop
 segment-of-requires c κs = search needs
@@ -31,6 +31,7 @@ boards-of-spec =
     (tie.spec
     Inv-loop
     μ-loop
+    (λ c κs. search needs)
     (λ c κs. search needs)
     loop-holds
     segment-of-requires

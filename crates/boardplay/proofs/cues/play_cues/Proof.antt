@@ -44,7 +44,40 @@ put n = n .before .before .before
 abbrev begin : tie.At-loop Inv-loop μ-loop → tie.Start Inv-loop μ-loop
 begin l = l .before .before .before .before .before .before .before .before .before .before .before .before .before .before .before .before
 
--- the lengths that walk keeps stand in the order of its parameters, the list's sixth
+-- The lengths that walk keeps stand in the order of its parameters. By name, those of the slices that it writes:
+record WalkKept (L C P E S H U N O B D W : Type 0) : Type 0 where
+  list : L
+  cues : C
+  pictures : P
+  ends : E
+  shows : S
+  header : H
+  units : U
+  unit-ends : N
+  out : O
+  back : B
+  back-ends : D
+  shown : W
+
+abbrev walk-kept : {X₁ X₂ X₃ X₄ X₅ L C P E S H U N O B D W R : Type 0}
+    → X₁ × (X₂ × (X₃ × (X₄ × (X₅ × (L × (C × (P × (E × (S × (H × (U × (N × (O × (B × (D × (W × R)))))))))))))))) → WalkKept L C P E S H U N O B D W
+walk-kept k =
+    let (_, (_, (_, (_, (_, (list, (cues, (pictures, (ends, (shows, (header, (units, (unit-ends, (out, (back, (back-ends, (shown, _))))))))))))))))) = k in
+    record {
+      list = list;
+      cues = cues;
+      pictures = pictures;
+      ends = ends;
+      shows = shows;
+      header = header;
+      units = units;
+      unit-ends = unit-ends;
+      out = out;
+      back = back;
+      back-ends = back-ends;
+      shown = shown;
+    }
+
 put-walked-requires : tie.Need-put-walked-requires Inv-loop μ-loop
 put-walked-requires c κs =
     let l = inside (walked c) .before in
@@ -53,45 +86,32 @@ put-walked-requires c κs =
 next-turn-requires : tie.Need-next-turn-requires Inv-loop μ-loop
 next-turn-requires c κs =
     let w = walked (put c .before) in
-    let cues = w .walk .kept .1 .1 .1 .1 .1 .1 .0 in
-    omega (arith, inside w .loop-test .taken, cues)
+    omega (arith, inside w .loop-test .taken, walk-kept (w .walk .kept) .cues)
 
 loop-less : tie.Need-loop-less Inv-loop μ-loop
 loop-less c =
     let w = walked (put (c .before) .before) in
-    let cues = w .walk .kept .1 .1 .1 .1 .1 .1 .0 in
-    omega (arith, inside w .loop-test .taken, cues, c .next-turn .ensures)
+    omega (arith, inside w .loop-test .taken, walk-kept (w .walk .kept) .cues, c .next-turn .ensures)
 
 loop-again : tie.Need-loop-again Inv-loop μ-loop
 loop-again c =
     let p = put (c .before) in
     let w = walked (p .before) in
     let i = inside w .before .loop .inv in
-    let list = w .walk .kept .1 .1 .1 .1 .1 in
-    let cues = list .1 in
-    let pictures = cues .1 in
-    let ends = pictures .1 in
-    let shows = ends .1 in
-    let header = shows .1 in
-    let units = header .1 in
-    let unit-ends = units .1 in
-    let out = unit-ends .1 in
-    let back = out .1 in
-    let back-ends = back .1 in
-    let shown = back-ends .1 in
+    let kept = walk-kept (w .walk .kept) in
     record {
-      of-list = omega (arith, i .of-list, list .0);
-      of-cues = omega (arith, i .of-cues, cues .0);
-      of-pictures = omega (arith, i .of-pictures, pictures .0);
-      of-ends = omega (arith, i .of-ends, ends .0);
-      of-shows = omega (arith, i .of-shows, shows .0);
-      of-header = omega (arith, i .of-header, header .0);
-      of-units = omega (arith, i .of-units, units .0);
-      of-unit-ends = omega (arith, i .of-unit-ends, unit-ends .0);
-      of-out = omega (arith, i .of-out, out .0);
-      of-back = omega (arith, i .of-back, back .0);
-      of-back-ends = omega (arith, i .of-back-ends, back-ends .0);
-      of-shown = omega (arith, i .of-shown, shown .0);
+      of-list = omega (arith, i .of-list, kept .list);
+      of-cues = omega (arith, i .of-cues, kept .cues);
+      of-pictures = omega (arith, i .of-pictures, kept .pictures);
+      of-ends = omega (arith, i .of-ends, kept .ends);
+      of-shows = omega (arith, i .of-shows, kept .shows);
+      of-header = omega (arith, i .of-header, kept .header);
+      of-units = omega (arith, i .of-units, kept .units);
+      of-unit-ends = omega (arith, i .of-unit-ends, kept .unit-ends);
+      of-out = omega (arith, i .of-out, kept .out);
+      of-back = omega (arith, i .of-back, kept .back);
+      of-back-ends = omega (arith, i .of-back-ends, kept .back-ends);
+      of-shown = omega (arith, i .of-shown, kept .shown);
       of-text = omega (arith, i .of-text, p .put-walked .kept .0);
     }
 

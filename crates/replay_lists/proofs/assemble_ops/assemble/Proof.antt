@@ -16,7 +16,7 @@ returns c =
     let a = c .before .before .before .before .before .before .before .before .before .before .before .before .before .before .before .before .before .before .before .args in
     let d = slicesLent (a .lent) in
     let n = c .before .before .before .before .before .before .before .before .before .before .before .before .least in
-    let e = zeros-length 54615 (width * n .result) (omega (arith, n .ensures)) ∙ ap (λ k. width * k) (n .ensures) in
+    let e = zeros-length (width * 10923) (width * n .result) (omega (arith, n .ensures)) ∙ ap (λ k. width * k) (n .ensures) in
     c .before .before .before .before .before .before .before .assemble-with .ensures
     ∙ ap (λ x. outcomeTold (outcome (now (a .s)) x (settingsOf (now (a .fields))) d) d (now (a .memory)) (now (a .out-ends)) (now (a .numbers))) (records-whole _ _ _ (segmentsAsked (now (a .ends))) e)
 
