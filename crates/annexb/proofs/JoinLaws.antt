@@ -140,14 +140,14 @@ module _ {s : List ℕ} {at n : ℕ} (c : Counting s at n) where
 
 -- ---- counting units
 
-bytes-append : (a b : List (List ℕ)) {bs : List ℕ} → annexbBytes a ≡ accepted bs → annexbBytes (a ++ b) ≡ ahead bs (annexbBytes b)
+annexb-append : (a b : List (List ℕ)) {bs : List ℕ} → annexbBytes a ≡ accepted bs → annexbBytes (a ++ b) ≡ ahead bs (annexbBytes b)
 unfolding annexbBytes
-bytes-append [] b {bs} e = let z : _≡_ {A = List ℕ} [] bs = cc in rw (← z) (same (annexbBytes b))
+annexb-append [] b {bs} e = let z : _≡_ {A = List ℕ} [] bs = cc in rw (← z) (same (annexbBytes b))
   where
     same : (x : Answer (List ℕ)) → x ≡ ahead [] x
     same (refused k) = refl
     same (accepted l) = refl
-bytes-append (u ∷ a) b {bs} e = go (obus u) (annexbBytes a) refl (λ cs q. bytes-append a b q) e
+annexb-append (u ∷ a) b {bs} e = go (obus u) (annexbBytes a) refl (λ cs q. annexb-append a b q) e
   where
     assoc : (p q : List ℕ) (x : Answer (List ℕ)) → answer (λ l. p ++ l) (ahead q x) ≡ ahead (p ++ q) x
     assoc p q (refused k) = refl
@@ -164,18 +164,18 @@ module _ (done : List (List ℕ)) {bs : List ℕ} (e : annexbBytes done ≡ acce
   -- one unit more
   pub bytes-more : {os : List Obu} → obus u ≡ accepted os → annexbBytes (done ++ (u ∷ [])) ≡ accepted (bs ++ annexbUnit os)
   unfolding annexbBytes
-  bytes-more {os} q = bytes-append done (u ∷ []) e ∙ rw q (ap (λ l. accepted (bs ++ l)) (append-nil (annexbUnit os)))
+  bytes-more {os} q = annexb-append done (u ∷ []) e ∙ rw q (ap (λ l. accepted (bs ++ l)) (append-nil (annexbUnit os)))
 
   -- a unit that is refused
   pub bytes-bad : (ls : List (List ℕ)) {k : ℕ} → obus u ≡ refused k → annexbBytes (done ++ (u ∷ ls)) ≡ refused k
   unfolding annexbBytes
-  bytes-bad ls q = bytes-append done (u ∷ ls) e ∙ rw q
+  bytes-bad ls q = annexb-append done (u ∷ ls) e ∙ rw q
 
   -- a unit of units that are accepted
   pub bytes-part : (ls : List (List ℕ)) {all : List ℕ} → annexbBytes (done ++ (u ∷ ls)) ≡ accepted all
       → (os : List Obu) × (obus u ≡ accepted os) × (r : List ℕ) × (all ≡ bs ++ (annexbUnit os ++ r))
   unfolding annexbBytes
-  bytes-part ls {all} q = go (obus u) (annexbBytes ls) refl (sym (bytes-append done (u ∷ ls) e) ∙ q)
+  bytes-part ls {all} q = go (obus u) (annexbBytes ls) refl (sym (annexb-append done (u ∷ ls) e) ∙ q)
     where
       go : (x : Answer (List Obu)) (y : Answer (List ℕ)) → obus u ≡ x → ahead bs (wrote x y) ≡ accepted all → (os : List Obu) × (obus u ≡ accepted os) × (r : List ℕ) × (all ≡ bs ++ (annexbUnit os ++ r))
       go (refused k) y p q = let z : _≡_ {A = ℕ} 0 1 = cc in absurd (omega arith)

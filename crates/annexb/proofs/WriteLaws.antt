@@ -12,7 +12,7 @@ use denote.Enum.Declared.{tagOf}
 use Rattle.bitio.specs.Parse.{Answer, refused, accepted, andNext}
 use Rattle.container.specs.AnnexB.{annexbBytes}
 use Rattle.bitio.specs.Limits.{limit}
-use Rattle.container.specs.Limits.{Room, fits, fitBytes}
+use Rattle.container.specs.Limits.{Room, bytesRoom, fits, fitBytes}
 use Rattle.container.specs.Container.{annexb, writeAt}
 use Rattle.container.specs.Units.{unitsAt, countOf, outAfter, byteCountSays}
 use Rattle.container.proofs.ListLaws.{units-refused}
@@ -83,7 +83,7 @@ module _ (room : Room) (s es : List ℕ) where
 
 -- with room the units can be written
 pub writing : (s es d : List ℕ) → accepts (unitsAt s es) ≡ true → {n : ℕ} → countOf (annexbBytes (readOf (unitsAt s es))) ≡ accepted n
-    → fits n 0 (record { bytes = length d; ends = 0 }) ≡ true → Writing s es d
+    → fits n 0 (bytesRoom (length d)) ≡ true → Writing s es d
 writing s es d a {n} q f = let (us, p) = accepted-is (unitsAt s es) a in go us p (annexbBytes us) refl (rw p at q)
   where
     go : (us : List (List ℕ)) → unitsAt s es ≡ accepted us → (x : Answer (List ℕ)) → annexbBytes us ≡ x → countOf x ≡ accepted n → Writing s es d

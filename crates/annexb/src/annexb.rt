@@ -1,6 +1,7 @@
 // Units from and to Annex B (document 01, 'Units from and to Annex B').
 ghost use mathlib.Core.Path.{_≡_};
 ghost use lib.ListN.{length};
+ghost use Rattle.container.specs.Limits.{bytesRoom};
 ghost use Rattle.container.specs.Container.{annexb, read, writeAt};
 ghost use Rattle.container.specs.Units.{splitSays, sizesOf, bytesAfter, endsAfter, byteCountSays, countOf, outAfter};
 use bitio::limits::LIMIT;
@@ -40,8 +41,8 @@ pub fn split_annexb(data: &[u8], out: &mut [u8], ends: &mut [u32]) -> Split
 
 // Units, whose bytes and ends are given, as Annex B into out, each in one frame unit; a refusal changes nothing.
 pub fn write_annexb(units: &[u8], unit_ends: &[u32], out: &mut [u8]) -> ByteCount
-    ensures { λ r. ⌜ byteCountSays r ≡ countOf (writeAt annexb (record { bytes = length (now (out .entry)); ends = 0 }) (now (units .entry)) (now («unit_ends» .entry))) ⌝ }
-    ensures { λ _. ⌜ now (out .exit) ≡ outAfter (writeAt annexb (record { bytes = length (now (out .entry)); ends = 0 }) (now (units .entry)) (now («unit_ends» .entry))) (now (out .entry)) ⌝ }
+    ensures { λ r. ⌜ byteCountSays r ≡ countOf (writeAt annexb (bytesRoom (length (now (out .entry)))) (now (units .entry)) (now («unit_ends» .entry))) ⌝ }
+    ensures { λ _. ⌜ now (out .exit) ≡ outAfter (writeAt annexb (bytesRoom (length (now (out .entry)))) (now (units .entry)) (now («unit_ends» .entry))) (now (out .entry)) ⌝ }
 {
     if units.len() > LIMIT {
         return ByteCount::Refused(34);

@@ -7,6 +7,7 @@ ghost use lib.ListN.{length};
 ghost use lib.Dec.{leb};
 ghost use Rattle.bitio.specs.Parse.{answer};
 ghost use Rattle.bitio.specs.Lent.{lent};
+ghost use Rattle.container.specs.Limits.{bytesRoom};
 ghost use Rattle.container.specs.Units.{sizesOf, bytesAfter, endsAfter, countOf, outAfter};
 ghost use Rattle.container.specs.Container.{stream, annexb, read, writeAt};
 ghost use Rattle.packets.specs.Packets.{canonicalAt};
@@ -49,8 +50,8 @@ pub extern "C" fn bench_split_annexb(data: &[u8], out: &mut [u8], ends: &mut [u3
 // A stream of units: how many bytes it has, or 0 after a refusal.
 #[no_mangle]
 pub extern "C" fn bench_write_obu_stream(units: &[u8], unit_ends: &[u32], out: &mut [u8]) -> usize
-    ensures { λ r. ⌜ r ≡ bytesOrNone (countOf (writeAt stream (record { bytes = length (now (out .entry)); ends = 0 }) (now (units .entry)) (now («unit_ends» .entry)))) ⌝ }
-    ensures { λ _. ⌜ now (out .exit) ≡ outAfter (writeAt stream (record { bytes = length (now (out .entry)); ends = 0 }) (now (units .entry)) (now («unit_ends» .entry))) (now (out .entry)) ⌝ }
+    ensures { λ r. ⌜ r ≡ bytesOrNone (countOf (writeAt stream (bytesRoom (length (now (out .entry)))) (now (units .entry)) (now («unit_ends» .entry)))) ⌝ }
+    ensures { λ _. ⌜ now (out .exit) ≡ outAfter (writeAt stream (bytesRoom (length (now (out .entry)))) (now (units .entry)) (now («unit_ends» .entry))) (now (out .entry)) ⌝ }
 {
     match container::stream::write_obu_stream(units, unit_ends, out) {
         ByteCount::Refused(_) => 0,
@@ -61,8 +62,8 @@ pub extern "C" fn bench_write_obu_stream(units: &[u8], unit_ends: &[u32], out: &
 // Annex B of units: how many bytes it has, or 0 after a refusal.
 #[no_mangle]
 pub extern "C" fn bench_write_annexb(units: &[u8], unit_ends: &[u32], out: &mut [u8]) -> usize
-    ensures { λ r. ⌜ r ≡ bytesOrNone (countOf (writeAt annexb (record { bytes = length (now (out .entry)); ends = 0 }) (now (units .entry)) (now («unit_ends» .entry)))) ⌝ }
-    ensures { λ _. ⌜ now (out .exit) ≡ outAfter (writeAt annexb (record { bytes = length (now (out .entry)); ends = 0 }) (now (units .entry)) (now («unit_ends» .entry))) (now (out .entry)) ⌝ }
+    ensures { λ r. ⌜ r ≡ bytesOrNone (countOf (writeAt annexb (bytesRoom (length (now (out .entry)))) (now (units .entry)) (now («unit_ends» .entry)))) ⌝ }
+    ensures { λ _. ⌜ now (out .exit) ≡ outAfter (writeAt annexb (bytesRoom (length (now (out .entry)))) (now (units .entry)) (now («unit_ends» .entry))) (now (out .entry)) ⌝ }
 {
     match annexb::annexb::write_annexb(units, unit_ends, out) {
         ByteCount::Refused(_) => 0,
@@ -101,8 +102,8 @@ pub extern "C" fn bench_merge_packets(
 // A unit without stray delimiters: how many bytes it has, or 0 after a refusal.
 #[no_mangle]
 pub extern "C" fn bench_canonicalize_tu(unit: &[u8], out: &mut [u8]) -> usize
-    ensures { λ r. ⌜ r ≡ bytesOrNone (countOf (canonicalAt (record { bytes = length (now (out .entry)); ends = 0 }) (now (unit .entry)))) ⌝ }
-    ensures { λ _. ⌜ now (out .exit) ≡ outAfter (canonicalAt (record { bytes = length (now (out .entry)); ends = 0 }) (now (unit .entry))) (now (out .entry)) ⌝ }
+    ensures { λ r. ⌜ r ≡ bytesOrNone (countOf (canonicalAt (bytesRoom (length (now (out .entry)))) (now (unit .entry)))) ⌝ }
+    ensures { λ _. ⌜ now (out .exit) ≡ outAfter (canonicalAt (bytesRoom (length (now (out .entry)))) (now (unit .entry))) (now (out .entry)) ⌝ }
 {
     match packets::packets::canonicalize_tu(unit, out) {
         ByteCount::Refused(_) => 0,

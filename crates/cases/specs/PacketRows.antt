@@ -2,6 +2,7 @@
 use Prim.Native.Nat.{ℕ}
 use mathlib.Core.List.{List, [], _∷_, map}
 use Rattle.bitio.specs.Parse.{Answer, refused, accepted, answer}
+use Rattle.container.specs.Limits.{bytesRoom}
 use Rattle.packets.specs.Packets.{canonicalAt}
 use Rattle.packets.specs.PacketLists.{PacketRoom, mergedAt}
 use Rattle.cases.specs.Rows.{Row}
@@ -15,7 +16,7 @@ merged r s ends times = answer (λ ps. map (λ p. p .time ∷ p .bytes) ps) (mer
 
 -- a unit made canonical, with room for n bytes
 abbrev clean : ℕ → List ℕ → Answer (List (List ℕ))
-clean n u = answer (λ bs. bs ∷ []) (canonicalAt (record { bytes = n; ends = 0 }) u)
+clean n u = answer (λ bs. bs ∷ []) (canonicalAt (bytesRoom n) u)
 
 -- ---- the rows
 

@@ -38,16 +38,16 @@ module _ (us : List (List ℕ)) (w : Every Whole us) (some : 0 < length us) wher
   back stream l bs e m = let p : streamBytes us ≡ bs = cc in rw (← p) (stream-back w (omega arith))
   back annexb l bs e m = annexb-round (all-written w) (omega arith) some bs e (omega arith)
 
-  wrote : (c : Container) → length (streamBytes us) ≤ limit → (bs : List ℕ) × (bytesIn c us ≡ accepted bs)
-  wrote stream l = (streamBytes us, refl)
-  wrote annexb l = annexb-wrote (all-written w) (omega arith)
+  bytes-in : (c : Container) → length (streamBytes us) ≤ limit → (bs : List ℕ) × (bytesIn c us ≡ accepted bs)
+  bytes-in stream l = (streamBytes us, refl)
+  bytes-in annexb l = annexb-wrote (all-written w) (omega arith)
 
   pub carried : (c : Container) (room room′ : Room) → Carried c room′ us (write c room us)
   unfolding write read
   carried c room room′ =
       pick-cases (Carried c room′ us) (leb (length (streamBytes us)) limit)
       (λ h. let l = leb-true _ _ h in
-      let x = wrote c l in
+      let x = bytes-in c l in
       rw (x .1) (pick-cases (Carried c room′ us) (fits (length (x .0)) 0 room)
       (λ k. let m : leb (length (x .0)) limit ≡ true = and-both _ _ k .0 in
       rw (m, back c l (x .0) (x .1) (leb-true _ _ m)) (pick-both (CameBack us) (fits (length (streamBytes us)) (length us) room′) refl refl))

@@ -14,7 +14,7 @@ use Rattle.bitio.specs.Lent.{pasted}
 use Rattle.bitio.proofs.ParseLaws.{or-neither, length-none, onto-is}
 use Rattle.container.specs.Stream.{flat, streamBytes}
 use Rattle.bitio.specs.Limits.{limit}
-use Rattle.container.specs.Limits.{Room}
+use Rattle.container.specs.Limits.{Room, bytesRoom}
 use Rattle.container.specs.Units.{endsOf, unitsFrom, unitsAt, countOf, outAfter}
 use Rattle.container.specs.Container.{stream, writeAt}
 use Rattle.container.specs.Lists.{accepts}
@@ -152,7 +152,7 @@ module _ {s es : List ℕ} {at i : ℕ} (c : Checking s es at i) where
 
 module _ (s es d : List ℕ) where
   abbrev room : Room
-  room = record { bytes = length d; ends = 0 }
+  room = bytesRoom (length d)
 
   abbrev result : Answer (List ℕ)
   result = writeAt stream room s es

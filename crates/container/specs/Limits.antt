@@ -13,6 +13,10 @@ pub record Room : Type 0 where
   pub bytes : ℕ
   pub ends : ℕ
 
+-- room for bytes alone
+abbrev pub bytesRoom : ℕ → Room
+bytesRoom n = record { bytes = n; ends = 0 }
+
 -- n bytes and the ends of u units have room
 abbrev pub fits : ℕ → ℕ → Room → Bool
 fits n u room = leb n limit && (leb n (room .bytes) && leb u (room .ends))

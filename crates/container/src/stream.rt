@@ -2,6 +2,7 @@
 ghost use mathlib.Core.Path.{_≡_};
 ghost use lib.ListN.{length};
 ghost use Rattle.bitio.specs.Parse.{accepted};
+ghost use Rattle.container.specs.Limits.{bytesRoom};
 ghost use Rattle.container.specs.Stream.{streamUnits};
 ghost use Rattle.container.specs.Units.{sizesOf, bytesAfter, endsAfter, splitSays, countOf, outAfter, byteCountSays};
 ghost use Rattle.container.specs.Container.{stream, read, writeAt};
@@ -131,8 +132,8 @@ pub fn split_obu_stream(data: &[u8], out: &mut [u8], ends: &mut [u32]) -> Split
 
 // A stream of units: their bytes as they are. A refusal changes nothing.
 pub fn write_obu_stream(units: &[u8], unit_ends: &[u32], out: &mut [u8]) -> ByteCount
-    ensures { λ r. ⌜ byteCountSays r ≡ countOf (writeAt stream (record { bytes = length (now (out .entry)); ends = 0 }) (now (units .entry)) (now («unit_ends» .entry))) ⌝ }
-    ensures { λ _. ⌜ now (out .exit) ≡ outAfter (writeAt stream (record { bytes = length (now (out .entry)); ends = 0 }) (now (units .entry)) (now («unit_ends» .entry))) (now (out .entry)) ⌝ }
+    ensures { λ r. ⌜ byteCountSays r ≡ countOf (writeAt stream (bytesRoom (length (now (out .entry)))) (now (units .entry)) (now («unit_ends» .entry))) ⌝ }
+    ensures { λ _. ⌜ now (out .exit) ≡ outAfter (writeAt stream (bytesRoom (length (now (out .entry)))) (now (units .entry)) (now («unit_ends» .entry))) (now (out .entry)) ⌝ }
 {
     let len = units.len();
     if len > LIMIT {

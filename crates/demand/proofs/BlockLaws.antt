@@ -76,17 +76,17 @@ ordered-map : (i : ℕ) (ks : List Kind) (b : Option Kind) (b′ : Option Entry)
 unfolding proper Ordered
 ordered-map i [] b b′ rest l p h = h b′
 ordered-map i (k ∷ ks) b b′ rest l p h =
-    (behind k (p .0), ordered-map i ks (some k) (some (entry i k)) rest (λ k′ e. ap (λ (x : Option Kind). lift x) e) (p .1) h)
+    (entry-behind k (p .0), ordered-map i ks (some k) (some (entry i k)) rest (λ k′ e. ap (λ (x : Option Kind). lift x) e) (p .1) h)
   where
     lift : Option Kind → Option Entry
     lift none = none
     lift (some k) = some (entry i k)
 
-    behind : (k : Kind) → Next b k → Behind b′ i k
-    behind Key n = tt
-    behind Golden n = l Key n
-    behind Show (inl n) = inl (l Golden n)
-    behind Show (inr n) = inr (l Show n)
+    entry-behind : (k : Kind) → Next b k → Behind b′ i k
+    entry-behind Key n = tt
+    entry-behind Golden n = l Key n
+    entry-behind Show (inl n) = inl (l Golden n)
+    entry-behind Show (inr n) = inr (l Show n)
 
 ordered-stacked : (i : ℕ) (kss : List (List Kind)) → Every (proper none) kss → (b : Option Entry) → Ordered b (stacked i kss)
 unfolding stacked Ordered

@@ -13,7 +13,7 @@ use Rattle.pictures.specs.Segments.{Segment}
 use Rattle.pictures.specs.declared.settings.Settings.{Settings}
 use Rattle.player.specs.Player.{State, start, Played, play, stateAfter}
 use Rattle.player.specs.Values.{shows, keptBehind, stateSays, startState, playedOn, playedBy}
-use Rattle.player.specs.declared.slots.Answer.the-variants.{Shown, Refused}
+use Rattle.player.specs.declared.slots.Answer.the-variants.{Shown as ShowsOne, Refused}
 use Rattle.player.specs.declared.step.State.{State as CodeState}
 use Rattle.player.proofs.StepLaws.{leaves-so}
 use Rattle.demand.specs.Kinds.{unitAt}
@@ -60,10 +60,10 @@ course-of s i (other {st} q v n e k) = let r : play s q v ≡ refused n = ap (λ
 
 -- ---- what the calls answer
 
--- the call with the unit u under position p, handed the state st, plays right, and answers the position that demand 3 names: Shown, never a refusal
+-- the call with the unit u under position p, handed the state st, plays right, and answers the position that demand 3 names, never a refusal
 pub record AnswersRight (set : Settings) (q : Sequence) (xs : List Segment) (us : List (List ℕ)) (cue p : ℕ) (st : CodeState) (u : List ℕ) : Type 0 where
   pub right : PlaysRight set q xs us cue p (stateSays st)
-  pub answer : playedBy st p u .answer ≡ Shown (right .shown)
+  pub answer : playedBy st p u .answer ≡ ShowsOne (right .shown)
 
 module _ (set : Settings) (q : Sequence) (xs : List Segment) (us : List (List ℕ)) (cue : ℕ) where
   answers-right : {p : ℕ} (st : CodeState) (u : List ℕ) → u ≡ unitAt us p → PlaysRight set q xs us cue p (stateSays st) → AnswersRight set q xs us cue p st u

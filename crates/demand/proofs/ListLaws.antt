@@ -12,6 +12,7 @@ use Rattle.bitio.specs.Every.Every.{nothing, also}
 use Rattle.blocks.proofs.BlockLaws.{code-small}
 use Rattle.blocks.specs.Blocks.{Kind, Key, Golden, Show, Entry, code, number, positions, isKeyEntry, cuesOf}
 use Rattle.demand.specs.Demand.{Rising}
+use Rattle.demand.proofs.Following.{first}
 
 -- ---- maps
 
@@ -126,9 +127,6 @@ key-number e = rw (number-kind e) (go (e .kind))
 
 pub cues-are : (es : List Entry) → cuesOf (map number es) ≡ positions (λ e. isKey (e .kind)) 1 es
 cues-are es = positions-map isKeyEntry number 1 es ∙ positions-ext _ _ 1 es first (λ k w. key-number (getD es k first))
-  where
-    first : Entry
-    first = record { segment = 0; kind = Key }
 
 -- ---- every
 

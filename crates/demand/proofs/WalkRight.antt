@@ -10,7 +10,7 @@ use denote.Triple.Both.{Both}
 use Rattle.bitio.specs.Parse.{Answer, refused, accepted}
 use Rattle.bitio.specs.Lent.{pasted}
 use Rattle.bitio.proofs.LentLaws.{pasted-take-end}
-use Rattle.container.specs.Limits.{Room, fits}
+use Rattle.container.specs.Limits.{Room, bytesRoom, fits}
 use Rattle.container.specs.Stream.{streamBytes}
 use Rattle.container.specs.Container.{Container}
 use Rattle.blocks.specs.Blocks.{total}
@@ -25,7 +25,7 @@ use Rattle.demand.specs.Demand.{PlaysRight, ReadBack, Demand3}
 use Rattle.playback.specs.Lent.{storeRoom}
 use Rattle.playback.specs.Gather.{gathered}
 use Rattle.playback.specs.Shown.{shownBy, fromCue}
-use Rattle.playback.specs.Way.{bytesRoom, PlayLent, written, carriedUnits, shown}
+use Rattle.playback.specs.Way.{PlayLent, written, carriedUnits, shown}
 use Rattle.playback.specs.Walk.{walk, walkedSays, Walks}
 use Rattle.playback.specs.declared.walk.Walked.{Walked}
 use Rattle.playback.specs.declared.walk.Walked.the-variants.{Positions}

@@ -1,5 +1,5 @@
 -- What a frame header that was read says of itself, under any sequence header and whichever removal times there are.
-use Prim.Native.Nat.{ℕ, _^_, _<_}
+use Prim.Native.Nat.{ℕ, _<_}
 use native.Mathlib.Omega.{arith}
 use mathlib.Core.Path.{_≡_, refl, sym, subst, ap, _∙_}
 use mathlib.Core.List.{List}
@@ -12,7 +12,7 @@ use Rattle.bitio.proofs.ParseLaws.{pick-both}
 use Rattle.header.specs.Fields.{readFlag, readOr, flagOr, answerOf}
 use Rattle.header.specs.Sequence.{Sequence}
 use Rattle.header.specs.Support.{hasPointInfo}
-use Rattle.frame.specs.Frame.{keyFrame, switchFrame, allSlots, showExisting, frameStart, orderHint, bufferRemoval, frameInfo, frameBits, frameHeader, modelled, parseFrame}
+use Rattle.frame.specs.Frame.{keyFrame, allSlots, showExisting, frameStart, orderHint, bufferRemoval, frameInfo, frameBits, frameHeader, modelled, parseFrame}
 use Rattle.header.specs.declared.seq_header.OperatingPoint.{OperatingPoint}
 use Rattle.frame.specs.declared.frame_header.FrameStart.{FrameStart}
 use Rattle.frame.specs.declared.frame_header.FrameInfo.{FrameInfo}
@@ -39,14 +39,10 @@ module _ (s : List ℕ) (p : ℕ) where
       go (reads v q) = λ e. absurd (true≢false (sym e))
 
   -- eight bits, or 255 without a bit
-  pub flags-off : (off : Bool) → Holds (λ v. (v < 256) × (off ≡ true → v ≡ 255)) (readOr s p (not off) 8 255)
+  pub flags-off : (off : Bool) → Holds (λ v. v < 256) (readOr s p (not off) 8 255)
   unfolding readOr
-  flags-off true = (omega arith, λ e. refl)
-  flags-off false = go (readBits s p 8) (bits-lt s p 8)
-    where
-      go : (x : Reading ℕ) → Holds (λ v. v < 2 ^ 8) x → Holds (λ v. (v < 256) × (false ≡ true → v ≡ 255)) x
-      go (fails k) h = tt
-      go (reads v q) h = (h, λ e. absurd (true≢false (sym e)))
+  flags-off true = omega arith
+  flags-off false = bits-lt s p 8
 
 -- ---- the sections
 
@@ -60,7 +56,6 @@ pub record FrameIs (f : FrameInfo) : Type 0 where
   pub type : f .«frame_type» < 4
   pub showable : f .«show_frame» ≡ true → f .«showable_frame» ≡ not (eqb (f .«frame_type») keyFrame)
   pub flags : f .«refresh_frame_flags» < 256
-  pub all : allSlots (f .«frame_type») (f .«show_frame») ≡ true → f .«refresh_frame_flags» ≡ 255
 
 -- either kind of frame header
 abbrev pub HeaderIs : FrameHeaderInfo → Type 0
@@ -93,8 +88,8 @@ module _ (has : OperatingPoint → Bool) (s : List ℕ) (q : Sequence) where
       then-holds StartIs FrameIs (frameStart s p (hasPointInfo (q .header .opening))) _ (start-holds s p (hasPointInfo (q .header .opening))) (λ f p i.
       then-any FrameIs (orderHint s p (q .header .coding) f) _ (λ hint p.
       then-any FrameIs (bufferRemoval has s p (q .header .opening .model) (q .points)) _ (λ u p.
-      then-holds (λ v. (v < 256) × (allSlots (f .«frame_type») (f .«show_frame») ≡ true → v ≡ 255)) FrameIs (readOr s p (not (allSlots (f .«frame_type») (f .«show_frame»))) 8 255) _ (flags-off s p (allSlots (f .«frame_type») (f .«show_frame»))) (λ flags p l.
-      record { type = i .type; showable = i .showable; flags = l .0; all = l .1 }))))
+      then-holds (λ v. v < 256) FrameIs (readOr s p (not (allSlots (f .«frame_type») (f .«show_frame»))) 8 255) _ (flags-off s p (allSlots (f .«frame_type») (f .«show_frame»))) (λ flags p l.
+      record { type = i .type; showable = i .showable; flags = l }))))
 
   -- and a frame header of either kind
   pub header-holds : (p : ℕ) → Holds HeaderIs (frameHeader has s p q)
@@ -122,10 +117,6 @@ module _ (q : Sequence) (s : List ℕ) where
     -- refresh flags are below 256
     pub flags-lt : f .«refresh_frame_flags» < 256
     flags-lt = is .flags
-
-    -- a switch frame refreshes all slots, without bits: what must-fail/switch_flags_from_bits would have otherwise
-    pub switch-flags : f .«frame_type» ≡ switchFrame → f .«refresh_frame_flags» ≡ 255
-    switch-flags t = is .all (rw t)
 
     -- a shown frame that is no key is showable
     pub shown-showable : f .«show_frame» ≡ true → (f .«frame_type» ≡ keyFrame → ⊥) → f .«showable_frame» ≡ true

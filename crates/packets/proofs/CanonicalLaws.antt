@@ -16,7 +16,7 @@ use Rattle.obu.proofs.PlaceLaws.{Placed, is-placed, walk-start, walk-end, walk-
 use Rattle.container.specs.Stream.{others}
 use Rattle.packets.specs.Packets.{canonical, canonicalOf}
 use Rattle.bitio.specs.Limits.{limit}
-use Rattle.container.specs.Limits.{Room, fits}
+use Rattle.container.specs.Limits.{bytesRoom, fits}
 use Rattle.container.specs.Units.{countOf, outAfter}
 use Rattle.packets.specs.Packets.{canonicalAt}
 use Rattle.container.specs.code.Ranges.{keptBytes, Range}
@@ -80,25 +80,22 @@ stray u e = go (obus u) refl e
 
 -- ---- the outcomes
 
-abbrev pub outRoom : List ℕ → Room
-outRoom d = record { bytes = length d; ends = 0 }
-
 module _ (u d : List ℕ) where
-  pub canon-long : limit < length u → (refused 34 ≡ countOf (canonicalAt (outRoom d) u)) × (d ≡ outAfter (canonicalAt (outRoom d) u) d)
+  pub canon-long : limit < length u → (refused 34 ≡ countOf (canonicalAt (bytesRoom (length d)) u)) × (d ≡ outAfter (canonicalAt (bytesRoom (length d)) u) d)
   unfolding canonicalAt
   canon-long l = let e = lt-leb (length u) limit l in (rw e, rw e)
 
   module _ (short : length u ≤ limit) (bs : List ℕ) (same : canonical u ≡ bs) where
-    pub canon-roomless : fits (length bs) 0 (outRoom d) ≡ false → (refused 35 ≡ countOf (canonicalAt (outRoom d) u)) × (d ≡ outAfter (canonicalAt (outRoom d) u) d)
+    pub canon-roomless : fits (length bs) 0 (bytesRoom (length d)) ≡ false → (refused 35 ≡ countOf (canonicalAt (bytesRoom (length d)) u)) × (d ≡ outAfter (canonicalAt (bytesRoom (length d)) u) d)
     unfolding canonicalAt
     canon-roomless f = let e = le-leb (length u) limit short in (rw (e, same, f), rw (e, same, f))
 
     module _ (fit : length bs ≤ limit) where
-      pub canon-full : length d < length bs → (refused 35 ≡ countOf (canonicalAt (outRoom d) u)) × (d ≡ outAfter (canonicalAt (outRoom d) u) d)
+      pub canon-full : length d < length bs → (refused 35 ≡ countOf (canonicalAt (bytesRoom (length d)) u)) × (d ≡ outAfter (canonicalAt (bytesRoom (length d)) u) d)
       canon-full l = canon-roomless (rw (le-leb (length bs) limit fit, lt-leb (length bs) (length d) l))
 
       pub canon-there : length bs ≤ length d → {n : ℕ} {o : List ℕ} → n ≡ length bs → o ≡ pasted d 0 bs
-          → (accepted n ≡ countOf (canonicalAt (outRoom d) u)) × (o ≡ outAfter (canonicalAt (outRoom d) u) d)
+          → (accepted n ≡ countOf (canonicalAt (bytesRoom (length d)) u)) × (o ≡ outAfter (canonicalAt (bytesRoom (length d)) u) d)
       unfolding canonicalAt
       canon-there l q r =
           let e = le-leb (length u) limit short in

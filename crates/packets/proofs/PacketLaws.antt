@@ -117,9 +117,9 @@ unfolding allParsed bytesOf
 parsed-allowed nothing nothing = nothing
 parsed-allowed (also {a = q} h hs) (also l ls) = rw (h .reads) (every-append (obus-allowed (q .bytes) (h .os) l (h .reads)) (parsed-allowed hs ls))
 
-fits : (q : Packet) → Short q → (x : Answer (List Obu)) → obus (q .bytes) ≡ x → AllAllowed x
-fits q l (refused k) e = tt
-fits q l (accepted os) e = obus-allowed (q .bytes) os l e
+packet-allowed : (q : Packet) → Short q → (x : Answer (List Obu)) → obus (q .bytes) ≡ x → AllAllowed x
+packet-allowed q l (refused k) e = tt
+packet-allowed q l (accepted os) e = obus-allowed (q .bytes) os l e
 
 module _ {ws : List Packet} (w : Waiting ws) (q : Packet) (c : closes (q .bytes) ≡ true) where
   merge-close : (qs : List Packet) → mergePackets (ws ++ (q ∷ qs)) ≡ behindP (gone (allParsed (bytesOf ws)) q (obus (q .bytes))) [] qs
@@ -140,4 +140,4 @@ module _ {ws : List Packet} (w : Waiting ws) (q : Packet) (c : closes (q .bytes)
   merge-last l k {vs} v =
       merge-close vs
       ∙ behind-last v (gone (allParsed (bytesOf ws)) q (obus (q .bytes)))
-      ∙ ap (λ p. p ∷ []) (gone-last q (allParsed (bytesOf ws)) (allParsed (bytesOf vs)) (obus (q .bytes)) refl (parsed-allowed w l) (fits q k (obus (q .bytes)) refl))
+      ∙ ap (λ p. p ∷ []) (gone-last q (allParsed (bytesOf ws)) (allParsed (bytesOf vs)) (obus (q .bytes)) refl (parsed-allowed w l) (packet-allowed q k (obus (q .bytes)) refl))

@@ -128,21 +128,21 @@ module _ {s es : List ℕ} {a b : ℕ} (r : Run s es a b) (i : ℕ) (h : a ≤ i
     run-turn keep {n} {m} {k} p f e = omega (arith, more-length keep, f (run-parses .os) range)
 
     module _ (keep : Bool) {d o : List ℕ} {to w : ℕ} (room : to + length (runBytes keep us a b) ≤ length d) (x : Wrote d to (runBytes keep us a i) w o) where
-      fits : to + length (runBytes keep us a (i + 1)) ≤ length d
-      fits =
+      run-fits : to + length (runBytes keep us a (i + 1)) ≤ length d
+      run-fits =
           let e = run-join keep us a (i + 1) b (omega arith) (omega arith) inside in
           omega (arith, ap length e, length-append (runBytes keep us a (i + 1)) (runBytes keep us (i + 1) b))
 
       pub run-long : length o ≡ length d
-      run-long = ap length (x .out) ∙ pasted-length d to (runBytes keep us a i) (omega (arith, fits, more-length keep))
+      run-long = ap length (x .out) ∙ pasted-length d to (runBytes keep us a i) (omega (arith, run-fits, more-length keep))
 
       pub run-roomy : Roomy u 0 (length u) keep o w
-      run-roomy = record { os = run-parses .os; range = range; room = omega (arith, fits, run-long, more-length keep, x .next) }
+      run-roomy = record { os = run-parses .os; range = range; room = omega (arith, run-fits, run-long, more-length keep, x .next) }
 
       pub run-same : {v : ℕ} {p : List ℕ} → WroteKept u 0 (length u) keep o w v p → length p ≡ length d
       run-same f =
           let y = f (run-parses .os) range in
-          ap length (y .out) ∙ pasted-length o w (keptBytes keep (run-parses .os)) (omega (arith, fits, run-long, more-length keep, x .next)) ∙ run-long
+          ap length (y .out) ∙ pasted-length o w (keptBytes keep (run-parses .os)) (omega (arith, run-fits, run-long, more-length keep, x .next)) ∙ run-long
 
       pub run-wrote : {v : ℕ} {p : List ℕ} → WroteKept u 0 (length u) keep o w v p → Wrote d to (runBytes keep us a (i + 1)) v p
       run-wrote {v} {p} f =
@@ -151,7 +151,7 @@ module _ {s es : List ℕ} {a b : ℕ} (r : Run s es a b) (i : ℕ) (h : a ≤ i
             next = omega (arith, y .next, x .next, more-length keep);
             out =
                 y .out ∙ ap₂ (λ g j. pasted g j (keptBytes keep (run-parses .os))) (x .out) (x .next)
-                ∙ pasted-more d to (runBytes keep us a i) (omega (arith, fits)) (keptBytes keep (run-parses .os)) ∙ ap (pasted d to) (sym (more-bytes keep));
+                ∙ pasted-more d to (runBytes keep us a i) (omega (arith, run-fits)) (keptBytes keep (run-parses .os)) ∙ ap (pasted d to) (sym (more-bytes keep));
           }
 
 -- nothing is written yet

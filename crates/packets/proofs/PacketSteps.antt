@@ -86,9 +86,9 @@ module _ (qs : List Packet) where
   unfolding bytesOf
   bytes-slice a b = map-slice (λ p. p .bytes) a b qs
 
-  waiting : (a b : ℕ) → Every Waits (slice a b (bytesOf qs)) → Waiting (slice a b qs)
+  slice-waits : (a b : ℕ) → Every Waits (slice a b (bytesOf qs)) → Waiting (slice a b qs)
   unfolding bytesOf
-  waiting a b e = every-map Waits (λ p. p .bytes) (slice a b qs) (rw (bytes-slice a b) e)
+  slice-waits a b e = every-map Waits (λ p. p .bytes) (slice a b qs) (rw (bytes-slice a b) e)
 
   -- what closes next
   split : (a c : ℕ) → Next (bytesOf qs) a c → c < length qs → drop a qs ≡ slice a c qs ++ (getD qs c nil ∷ drop (c + 1) qs)
@@ -107,16 +107,16 @@ module _ (qs : List Packet) where
     step-more d m k =
         let e = split (c + 1) d m k in
         rw (split a c n l, e, times-at c, bytes-at c, slice-empty (c + 1) (bytesOf qs), ← bytes-slice a c)
-        (merge-more (waiting a c (n .wait)) (getD qs c nil) (closes-at a c n l) (waiting (c + 1) d (m .wait)) (getD qs d nil) (drop (d + 1) qs) (closes-at (c + 1) d m k))
+        (merge-more (slice-waits a c (n .wait)) (getD qs c nil) (closes-at a c n l) (slice-waits (c + 1) d (m .wait)) (getD qs d nil) (drop (d + 1) qs) (closes-at (c + 1) d m k))
 
     pub step-last : Every Short qs → Next (bytesOf qs) (c + 1) (length (bytesOf qs)) → mergePackets (drop a qs) ≡ made a c (length (bytesOf qs)) ∷ []
     unfolding piece
     step-last sh m =
         let w : Every Waits (slice (c + 1) (length qs) (bytesOf qs)) = rw (← size) (m .wait) in
-        let v = waiting (c + 1) (length qs) w in
+        let v = slice-waits (c + 1) (length qs) w in
         let r = slice-rest (c + 1) qs in
         rw (split a c n l, ← r, times-at c, bytes-at c, size, ← bytes-slice a c, ← bytes-slice (c + 1) (length qs))
-        (merge-last (waiting a c (n .wait)) (getD qs c nil) (closes-at a c n l) (every-slice Short a c qs sh) (every-at Short c qs nil l sh) v)
+        (merge-last (slice-waits a c (n .wait)) (getD qs c nil) (closes-at a c n l) (every-slice Short a c qs sh) (every-at Short c qs nil l sh) v)
 
 -- ---- frameless packets alone
 

@@ -2,6 +2,7 @@
 ghost use mathlib.Core.Path.{_≡_};
 ghost use lib.ListN.{length};
 ghost use Rattle.bitio.specs.Parse.{answer};
+ghost use Rattle.container.specs.Limits.{bytesRoom};
 ghost use Rattle.container.specs.Units.{sizesOf, bytesAfter, endsAfter, countOf, outAfter, byteCountSays};
 ghost use Rattle.packets.specs.Packets.{canonicalAt};
 ghost use Rattle.packets.specs.PacketLists.{bytesOf, lentRoom, mergedAt, timesAfter, mergedSays};
@@ -62,8 +63,8 @@ pub fn merge_frameless_packets(
 // A unit without the delimiters behind its first place: written anew if there is one, else copied, as is a unit that
 // does not parse. A refusal changes nothing.
 pub fn canonicalize_tu(unit: &[u8], out: &mut [u8]) -> ByteCount
-    ensures answer { λ r. ⌜ byteCountSays r ≡ countOf (canonicalAt (record { bytes = length (now (out .entry)); ends = 0 }) (now (unit .entry))) ⌝ }
-    ensures out { λ _. ⌜ now (out .exit) ≡ outAfter (canonicalAt (record { bytes = length (now (out .entry)); ends = 0 }) (now (unit .entry))) (now (out .entry)) ⌝ }
+    ensures answer { λ r. ⌜ byteCountSays r ≡ countOf (canonicalAt (bytesRoom (length (now (out .entry)))) (now (unit .entry))) ⌝ }
+    ensures out { λ _. ⌜ now (out .exit) ≡ outAfter (canonicalAt (bytesRoom (length (now (out .entry)))) (now (unit .entry))) (now (out .entry)) ⌝ }
 {
     if unit.len() > LIMIT {
         return ByteCount::Refused(34);

@@ -175,8 +175,8 @@ module _ (l p e s d m : List ℕ) where
   abbrev result : Answer (List (List ℕ))
   result = gathered us room
 
-  abbrev Tells : Answer Sizes → (o f : List ℕ) → Type 0
-  Tells a o f = Does (λ d. sizesOf (gathered us (storeRoom d))) (λ d. storeAfter (gathered us (storeRoom d)) d) a (record { entry = record { bytes = d; ends = m }; exit = record { bytes = o; ends = f } })
+  abbrev Gathers : Answer Sizes → (o f : List ℕ) → Type 0
+  Gathers a o f = Does (λ d. sizesOf (gathered us (storeRoom d))) (λ d. storeAfter (gathered us (storeRoom d)) d) a (record { entry = record { bytes = d; ends = m }; exit = record { bytes = o; ends = f } })
 
   abbrev size : ℕ
   size = length (streamBytes us)
@@ -196,7 +196,7 @@ module _ (l p e s d m : List ℕ) where
             ap (λ (x : ℕ). fits x (length l) room) i ∙ ap (λ (x : ℕ). fits size x room) (sym (named-length l p e s))
         go false t = rw (t, lt-leb size limit (omega (arith, k, leb-false n limit t)))
 
-    pub gather-full : fits n (length l) room ≡ false → Tells (refused 35) d m
+    pub gather-full : fits n (length l) room ≡ false → Gathers (refused 35) d m
     gather-full t = stores (gathered us) (says-refused d m (gathered-is ∙ ap (λ b. pick b (accepted us) (refused 35)) (sym fits-same ∙ t)))
 
     module _ (t : fits n (length l) room ≡ true) where
@@ -207,7 +207,7 @@ module _ (l p e s d m : List ℕ) where
       gathered-all = gathered-is ∙ ap (λ b. pick b (accepted us) (refused 35)) (sym fits-same ∙ t)
 
       pub gather-done : {o f : List ℕ} → o ≡ pasted d 0 (streamBytes us) → f ≡ pasted m 0 (endsOf 0 us)
-          → Tells (accepted (record { bytes = n; units = length l })) o f
+          → Gathers (accepted (record { bytes = n; units = length l })) o f
       gather-done x y =
           let q = gathered-all in
           let r = gather-room in

@@ -12,7 +12,7 @@ use Rattle.bitio.specs.Parse.{Answer, refused, accepted, andNext}
 use Rattle.bitio.specs.Lent.{pasted}
 use Rattle.bitio.proofs.LentLaws.{pasted-take-end, pasted-length}
 use Rattle.container.specs.Stream.{streamBytes}
-use Rattle.container.specs.Limits.{Room, fits, fitBytes, fitUnits}
+use Rattle.container.specs.Limits.{Room, bytesRoom, fits, fitBytes, fitUnits}
 use Rattle.container.specs.Units.{endsOf, Sizes, sizesOf, bytesAfter, endsAfter, splitSays, countOf, outAfter, byteCountSays}
 use Rattle.container.specs.Container.{Container, unitsIn, bytesIn, read, write, writeAt}
 use Rattle.container.specs.declared.units.Split.{Split}
@@ -26,7 +26,7 @@ use Rattle.playback.specs.declared.play.Shows.the-variants.{Refused as S
 use Rattle.playback.specs.Lent.{Fills, Store, storeRoom, storeAfter, Stores}
 use Rattle.playback.specs.Gather.{gathered, HasRoom}
 use Rattle.playback.specs.Shown.{fromCue, playFrom, showsSay}
-use Rattle.playback.specs.Way.{WriteLent, CarryLent, bytesRoom, written, Writes, carriedUnits, Carries, shown, Plays}
+use Rattle.playback.specs.Way.{WriteLent, CarryLent, written, Writes, carriedUnits, Carries, shown, Plays}
 use Rattle.playback.proofs.GatherLaws.{has-room, stores}
 use Rattle.playback.proofs.ShownLaws.{none-cut}
 use Rattle.container.proofs.LentLaws.{units-there, lent-write}

@@ -6,7 +6,7 @@ use lib.ListN.{length}
 use denote.Ref.{RefT, now}
 use denote.Triple.Both.{Both}
 use Rattle.bitio.specs.Parse.{Answer, andNext}
-use Rattle.container.specs.Limits.{Room}
+use Rattle.container.specs.Limits.{bytesRoom}
 use Rattle.container.specs.Container.{Container, stream, annexb, read, write}
 use Rattle.container.specs.Units.{sizesOf, splitSays, countOf, outAfter, byteCountSays}
 use Rattle.container.specs.declared.units.Split.{Split}
@@ -47,10 +47,6 @@ abbrev pub playLent : (units unit-ends out back back-ends shown : RefT (List ℕ
 playLent units unit-ends out back back-ends shown = record { carried = carryLent units unit-ends out back back-ends; shown = now shown }
 
 -- ---- what each stage answers, and what it leaves
-
--- room for bytes alone
-abbrev pub bytesRoom : ℕ → Room
-bytesRoom n = record { bytes = n; ends = 0 }
 
 module _ (c : Container) (us : List (List ℕ)) where
   -- gathered and written

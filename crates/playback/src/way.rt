@@ -1,9 +1,10 @@
 // The way of a list's units: gathered, written in a container, read back, and played. Every buffer is the caller's.
+ghost use Rattle.container.specs.Limits.{bytesRoom};
 ghost use Rattle.container.specs.Units.{byteCountSays};
 ghost use Rattle.container.specs.Container.{read, writeAt};
 ghost use Rattle.playback.specs.Lent.{Fills, store, Stores};
 ghost use Rattle.playback.specs.Gather.{unitsNamed};
-ghost use Rattle.playback.specs.Way.{formSays, bytesRoom, writeLent, carryLent, playLent, Writes, Carries, Plays};
+ghost use Rattle.playback.specs.Way.{formSays, writeLent, carryLent, playLent, Writes, Carries, Plays};
 use crate::gather::gather_units;
 use crate::play::Shows;
 use crate::play::play_from;

@@ -11,7 +11,7 @@ use Rattle.bitio.specs.Parse.{refused}
 use Rattle.player.specs.Player.{empty, refresh, showSlot}
 use Rattle.player.specs.Values.{actedOn}
 use Rattle.player.specs.declared.slots.Slot.{Slot}
-use Rattle.player.specs.declared.slots.Answer.the-variants.{Shown}
+use Rattle.player.specs.declared.slots.Answer.the-variants.{Shown as ShowsOne}
 use Rattle.player.specs.declared.slots.Acted.{Acted}
 
 -- the slots where those from i on are still to be refreshed by what is left of the flags
@@ -74,8 +74,8 @@ module _ (l : List Slot) (i : ℕ) where
     pub show-hidden : held .showable ≡ false → actedOn l (refused 38) ≡ acts
     show-hidden e = rw (full, e)
 
-    pub show-key : held .showable ≡ true → held .key ≡ true → record { answer = Shown (held .position); slots = replicate 8 held } ≡ acts
+    pub show-key : held .showable ≡ true → held .key ≡ true → record { answer = ShowsOne (held .position); slots = replicate 8 held } ≡ acts
     show-key e k = rw (full, e, k)
 
-    pub show-other : held .showable ≡ true → held .key ≡ false → record { answer = Shown (held .position); slots = l } ≡ acts
+    pub show-other : held .showable ≡ true → held .key ≡ false → record { answer = ShowsOne (held .position); slots = l } ≡ acts
     show-other e k = rw (full, e, k)

@@ -8,4 +8,3 @@ pub mod TypedLaws
 pub mod LineLaws
 pub mod PrintLaws
 pub mod AnswerLaws
-pub mod RoundTrip

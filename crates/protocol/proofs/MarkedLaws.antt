@@ -24,7 +24,7 @@ module _ (m : ℕ) (s : List ℕ) (i : ℕ) where
   marked-not h e = rw (drop-cons s i 0 h, ne-eqb (getD s i 0) m e)
 
 -- d after i marks, all that there is room for
-pub filled : (m : ℕ) (d : List ℕ) (i : ℕ) {e : List ℕ} → i ≤ length d → length d ≤ i → e ≡ replicate i m ++ drop i d → e ≡ replicate (length d) m
-filled m d i h k e =
+pub all-marked : (m : ℕ) (d : List ℕ) (i : ℕ) {e : List ℕ} → i ≤ length d → length d ≤ i → e ≡ replicate i m ++ drop i d → e ≡ replicate (length d) m
+all-marked m d i h k e =
     let n : i ≡ length d = omega arith in
     e ∙ rw (drop-of-length-le d {i = i} k, append-nil {A = ℕ} (replicate i m), n)

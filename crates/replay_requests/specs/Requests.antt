@@ -11,7 +11,7 @@ use Rattle.protocol.specs.Lines.{isLine}
 use Rattle.protocol.specs.declared.input.Input.{Input}
 use Rattle.protocol.specs.declared.lent.Room.{Room}
 use Rattle.protocol.specs.declared.lent.Lent.{Lent}
-use Rattle.replay_requests.specs.Rows.{asked, answered, rowOf}
+use Rattle.replay_requests.specs.Rows.{asked, answered, lends, rowOf}
 use Rattle.replay_requests.specs.declared.Row.{Row}
 use Rattle.replay_requests.specs.declared.Request.{Request}
 
@@ -55,7 +55,7 @@ readingIn s d es ns = fieldsOf s (nameFrom s + length (nameIn s) + 1) (asked (ro
 
 unfoldable pub requestIn : List ℕ → (decoded ends numbers : List ℕ) → Requested
 requestIn s d es ns =
-    requestWith s (roomPrefix s) (nameFrom s) (wordKey (nameIn s)) (rowIn s) (lentBy (roomPrefix s) (rowIn s .4)) (readingIn s d es ns)
+    requestWith s (roomPrefix s) (nameFrom s) (wordKey (nameIn s)) (rowIn s) (lentBy (roomPrefix s) (lends (rowIn s))) (readingIn s d es ns)
 
 -- ---- what was kept of a line: of one that was too long, not all
 

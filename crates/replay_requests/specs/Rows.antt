@@ -9,13 +9,16 @@ use Rattle.replay_requests.specs.declared.Row.{Row}
 use Rattle.replay_requests.specs.Table.{found}
 
 abbrev pub row : (asks answers : Format) → ℕ → Row
-row f g lends = (f .kinds, f .repeated, g .kinds, g .repeated, lends)
+row f g lent = (f .kinds, f .repeated, g .kinds, g .repeated, lent)
 
 abbrev pub asked : Row → Format
 asked r = record { kinds = r .0; repeated = r .1 }
 
 abbrev pub answered : Row → Format
 answered r = record { kinds = r .2; repeated = r .3 }
+
+abbrev pub lends : Row → ℕ
+lends r = r .4
 
 -- DATA into units, and UNIT .. into bytes, of either container
 abbrev pub splitRow : Row

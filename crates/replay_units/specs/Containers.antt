@@ -5,7 +5,7 @@ use mathlib.Core.List.{List}
 use lib.ListN.{length}
 use Rattle.bitio.specs.Parse.{Answer, answer}
 use Rattle.container.specs.Container.{stream, annexb, read, writeAt}
-use Rattle.container.specs.Limits.{Room}
+use Rattle.container.specs.Limits.{Room, bytesRoom}
 use Rattle.container.specs.Units.{Sizes, sizesOf, bytesAfter, endsAfter, countOf, outAfter}
 use Rattle.packets.specs.Packets.{Packet, canonicalAt}
 use Rattle.packets.specs.PacketLists.{lentRoom, bytesOf, timesAfter, mergedAt}
@@ -33,23 +33,20 @@ abbrev pub annexbTold : List ℕ → (m es : List ℕ) → Parted
 annexbTold s m es = unitsTold (read annexb (roomIn m es) s) m es
 
 -- bytes at the head of lent memory, which is all their room
-abbrev pub bytesRoom : List ℕ → Room
-bytesRoom m = record { bytes = length m; ends = 0 }
-
 abbrev pub writtenTold : Answer (List ℕ) → List ℕ → Filled
 writtenTold x m = filled (countTold (countOf x)) (outAfter x m)
 
 -- wstream UNIT ..
 abbrev pub wstreamTold : (s es m : List ℕ) → Filled
-wstreamTold s es m = writtenTold (writeAt stream (bytesRoom m) s es) m
+wstreamTold s es m = writtenTold (writeAt stream (bytesRoom (length m)) s es) m
 
 -- wannexb UNIT ..
 abbrev pub wannexbTold : (s es m : List ℕ) → Filled
-wannexbTold s es m = writtenTold (writeAt annexb (bytesRoom m) s es) m
+wannexbTold s es m = writtenTold (writeAt annexb (bytesRoom (length m)) s es) m
 
 -- canon UNIT
 abbrev pub canonTold : (s m : List ℕ) → Filled
-canonTold s m = writtenTold (canonicalAt (bytesRoom m) s) m
+canonTold s m = writtenTold (canonicalAt (bytesRoom (length m)) s) m
 
 -- packets: their times are numbers
 abbrev pub stampedTold : Answer Sizes → Line

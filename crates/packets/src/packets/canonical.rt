@@ -7,6 +7,7 @@ ghost use Rattle.obu.specs.Obu.{obus};
 ghost use Rattle.obu.specs.Place.{obuPlace};
 ghost use Rattle.obu.specs.Unit.{strayIn, ofUnit};
 ghost use Rattle.bitio.specs.Limits.{limit};
+ghost use Rattle.container.specs.Limits.{bytesRoom};
 ghost use Rattle.container.specs.Units.{countOf, outAfter, byteCountSays};
 ghost use Rattle.packets.specs.Packets.{canonicalAt};
 ghost use Rattle.packets.specs.code.Canonical.{endOf, Clean};
@@ -33,8 +34,8 @@ fn first_end(s: &[u8]) -> usize
 // The unit as it is, if it has room.
 pub(crate) fn copy_unit(unit: &[u8], out: &mut [u8]) -> ByteCount
     requires { ⌜ Clean (now unit) ⌝ }
-    ensures answer { λ r. ⌜ byteCountSays r ≡ countOf (canonicalAt (record { bytes = length (now (out .entry)); ends = 0 }) (now (unit .entry))) ⌝ }
-    ensures out { λ _. ⌜ now (out .exit) ≡ outAfter (canonicalAt (record { bytes = length (now (out .entry)); ends = 0 }) (now (unit .entry))) (now (out .entry)) ⌝ }
+    ensures answer { λ r. ⌜ byteCountSays r ≡ countOf (canonicalAt (bytesRoom (length (now (out .entry)))) (now (unit .entry))) ⌝ }
+    ensures out { λ _. ⌜ now (out .exit) ≡ outAfter (canonicalAt (bytesRoom (length (now (out .entry)))) (now (unit .entry))) (now (out .entry)) ⌝ }
 {
     if unit.len() > out.len() {
         return ByteCount::Refused(35);
@@ -45,8 +46,8 @@ pub(crate) fn copy_unit(unit: &[u8], out: &mut [u8]) -> ByteCount
 // The unit written anew, if it has room.
 pub(crate) fn clean_unit(unit: &[u8], out: &mut [u8]) -> ByteCount
     requires { ⌜ (length (now unit) ≤ limit) × (ofUnit false strayIn (obus (now unit)) ≡ true) ⌝ }
-    ensures answer { λ r. ⌜ byteCountSays r ≡ countOf (canonicalAt (record { bytes = length (now (out .entry)); ends = 0 }) (now (unit .entry))) ⌝ }
-    ensures out { λ _. ⌜ now (out .exit) ≡ outAfter (canonicalAt (record { bytes = length (now (out .entry)); ends = 0 }) (now (unit .entry))) (now (out .entry)) ⌝ }
+    ensures answer { λ r. ⌜ byteCountSays r ≡ countOf (canonicalAt (bytesRoom (length (now (out .entry)))) (now (unit .entry))) ⌝ }
+    ensures out { λ _. ⌜ now (out .exit) ≡ outAfter (canonicalAt (bytesRoom (length (now (out .entry)))) (now (unit .entry))) (now (out .entry)) ⌝ }
 {
     let mid = first_end(unit);
     let end = unit.len();

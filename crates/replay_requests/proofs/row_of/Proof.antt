@@ -78,10 +78,8 @@ returns-17 c = ap rowOf (sym (c .match .keys17))
 returns-18 : tie.Need-returns-18
 unfolding rowOf rows wordKey keyFrom
 returns-18 c =
-    let r = c .match .rest in
-    let split = r .0 .0 .0 .0 .0 .1 in
-    let write = r .0 .0 .0 .0 .1 in
-    found-none _ _ rows _ ((((((((r .0 .0 .0 .0 .0 .0, λ h. split (inr h)), λ h. split (inl h)), λ h. write (inr h)), λ h. write (inl h)), r .0 .0 .0 .1), r .0 .0 .1), r .0 .1), r .1)
+    let ((((((before, split), write), canon), packets), assemble), play) = c .match .rest in
+    found-none _ _ rows _ ((((((((before, λ h. split (inr h)), λ h. split (inl h)), λ h. write (inr h)), λ h. write (inl h)), canon), packets), assemble), play)
 
 pub row-of-spec : {M : Type 1} → statement M
 row-of-spec =

@@ -8,15 +8,15 @@ use Rattle.replay_units.proofs.container_ops.packets.Tie as tie
 
 returns : tie.Need-returns
 returns c =
-    let w = c .before .before .before .before .before .before .before .before .before .before .merge-frameless-packets .ensures in
-    let e = ap stampedTold (sym (ap mergedSays (c .before .before .n .given .1)) ∙ w .0) in
-    same-told (rw (c .parts .ensures) e) (w .1 .0) (w .1 .1 .0) (w .1 .1 .1)
+    let (merged, (bytes, (ends, times))) = c .before .before .before .before .before .before .before .before .before .before .merge-frameless-packets .ensures in
+    let e = ap stampedTold (sym (ap mergedSays (c .before .before .n .given .1)) ∙ merged) in
+    same-told (rw (c .parts .ensures) e) bytes ends times
 
 returns-2 : tie.Need-returns-2
 returns-2 c =
-    let w = c .before .before .before .before .before .before .before .before .before .before .merge-frameless-packets .ensures in
-    let e = ap stampedTold (sym (ap mergedSays (c .before .before .k .given .1)) ∙ w .0) in
-    same-told (c .refused .ensures ∙ e) (w .1 .0) (w .1 .1 .0) (w .1 .1 .1)
+    let (merged, (bytes, (ends, times))) = c .before .before .before .before .before .before .before .before .before .before .merge-frameless-packets .ensures in
+    let e = ap stampedTold (sym (ap mergedSays (c .before .before .k .given .1)) ∙ merged) in
+    same-told (c .refused .ensures ∙ e) bytes ends times
 
 pub packets-spec : {M : Type 1} → statement M
 packets-spec =

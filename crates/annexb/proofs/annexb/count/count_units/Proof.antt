@@ -38,9 +38,9 @@ abbrev bytes-of : tie.In-loop Inv-loop μ-loop → List ℕ
 bytes-of c = span (now (begin (c .before) .args .units)) (c .before .loop .at) (end-of (c .before))
 
 -- what was counted of it
-counted : (c : tie.After-found Inv-loop μ-loop) → counts (bytes-of (turn (c .before .before))) ≡ accepted (c .found .given .0 .0)
+inner-counted : (c : tie.After-found Inv-loop μ-loop) → counts (bytes-of (turn (c .before .before))) ≡ accepted (c .found .given .0 .0)
 unfolding span
-counted c = sym (c .before .before .count-inner .ensures .0) ∙ ap byteCountSays (c .found .given .1)
+inner-counted c = sym (c .before .before .count-inner .ensures .0) ∙ ap byteCountSays (c .found .given .1)
 
 few : (c : tie.After-found Inv-loop μ-loop) → (let l = turn (c .before .before) .before in c .found .given .0 .0 ≤ 12 * (end-of l - l .loop .at))
 unfolding span
@@ -58,7 +58,7 @@ next : (c : tie.After-framed-len2 Inv-loop μ-loop)
 next c =
     let f = c .before .before .before in
     let t = turn (f .before .before) in
-    totalling-next _ _ (begin (t .before) .pre .1) (t .before .loop .inv) (t .loop-test .taken) (begin (t .before) .pre .0) (counted f) (few f) (c .framed-len2 .ensures ∙ ap framedLength (c .before .framed-len .ensures))
+    totalling-next _ _ (begin (t .before) .pre .1) (t .before .loop .inv) (t .loop-test .taken) (begin (t .before) .pre .0) (inner-counted f) (few f) (c .framed-len2 .ensures ∙ ap framedLength (c .before .framed-len .ensures))
 
 loop-holds : tie.Need-loop-holds Inv-loop μ-loop
 loop-holds c = totalling-start _ _

@@ -42,31 +42,31 @@ got c =
     is-part 6 7 _ _ _ (omega arith) (omega arith) (sym (c .before .before .part-at .ensures) ∙ ap partSays (c .start .given .1))
 
 -- its OBUs
-obus : (c : tie.After-start Inv-loop μ-loop)
+unit-obus : (c : tie.After-start Inv-loop μ-loop)
     → (let s = bytes-of (at-loop c) in
     let b = c .start .given .0 .1 .0 in
     (os : List Obu) × (answer flat (many frameUnit (span s (c .start .given .0 .0) b)) ≡ accepted os) × (temporalUnit (span s (at-loop c .loop .at) (length s)) ≡ item os (span s b (length s))))
-obus c =
+unit-obus c =
     let l = at-loop c in
     walk-held _ _ temporal-shrinks _ _ _ _ _ (whole-all (begin l .pre)) (l .loop .inv .walk) (c .before .before .before .loop-test .taken) (omega arith) _ _ (unit-at (got c))
 
-abbrev found : tie.After-slice-known3 Inv-loop μ-loop → tie.After-start Inv-loop μ-loop
-found c = c .before .before .before .before .before
+abbrev found-at : tie.After-slice-known3 Inv-loop μ-loop → tie.After-start Inv-loop μ-loop
+found-at c = c .before .before .before .before .before
 
 -- what fill_unit left
-wrote : (c : tie.After-slice-known3 Inv-loop μ-loop)
-    → (let l = at-loop (found c) in
-    Wrote (l .loop .out) (l .loop .w) (unitBytes (obus (found c) .0)) (c .before .before .fill-unit .result) (c .before .before .fill-unit .last .1 .1 .1 .0))
-wrote c = held-is (obus (found c) .1) (c .before .before .fill-unit .ensures)
+unit-filled : (c : tie.After-slice-known3 Inv-loop μ-loop)
+    → (let l = at-loop (found-at c) in
+    Wrote (l .loop .out) (l .loop .w) (unitBytes (unit-obus (found-at c) .0)) (c .before .before .fill-unit .result) (c .before .before .fill-unit .last .1 .1 .1 .0))
+unit-filled c = held-is (unit-obus (found-at c) .1) (c .before .before .fill-unit .ensures)
 
 small : (c : tie.After-slice-known3 Inv-loop μ-loop) → c .before .before .fill-unit .result ≤ limit
 small c =
-    let f = found c in
+    let f = found-at c in
     let l = at-loop f in
-    omega (arith, wrote c .next, all-small (begin l .pre) (l .loop .inv) _ _ (obus f .2))
+    omega (arith, unit-filled c .next, all-small (begin l .pre) (l .loop .inv) _ _ (unit-obus f .2))
 
-slot : (c : tie.After-slice-known3 Inv-loop μ-loop) → (let l = at-loop (found c) in l .loop .u < length (l .loop .ends))
-slot c = let f = found c in let l = at-loop f in all-slot (begin l .pre) (l .loop .inv) _ _ (obus f .2)
+slot : (c : tie.After-slice-known3 Inv-loop μ-loop) → (let l = at-loop (found-at c) in l .loop .u < length (l .loop .ends))
+slot c = let f = found-at c in let l = at-loop f in all-slot (begin l .pre) (l .loop .inv) _ _ (unit-obus f .2)
 
 loop-holds : tie.Need-loop-holds Inv-loop μ-loop
 loop-holds c = all-start _ _ _
@@ -88,29 +88,29 @@ fill-unit-requires c κs =
     let f = c .before .before in
     let l = at-loop f in
     let g = got f in
-    let h = obus f in
+    let h = unit-obus f in
     ((g .ends, g .within), record { obus = h .0; reads = h .1; room = walk-room _ _ temporal-shrinks _ _ _ _ _ (whole-all (begin l .pre)) (l .loop .inv .walk) (h .2) })
 
 cast-ends : tie.Need-cast-ends Inv-loop μ-loop
 cast-ends c = let s = small c in omega arith
 
 mul-ends : tie.Need-mul-ends Inv-loop μ-loop
-mul-ends c = let s = slot c in let i = at-loop (found c) .loop .inv .kept in omega arith
+mul-ends c = let s = slot c in let i = at-loop (found-at c) .loop .inv .kept in omega arith
 
 slice-write-ends : tie.Need-slice-write-ends Inv-loop μ-loop
 slice-write-ends c = slot c
 
 add-u : tie.Need-add-u Inv-loop μ-loop
-add-u c = let s = slot c in let i = at-loop (found c) .loop .inv .kept in omega arith
+add-u c = let s = slot c in let i = at-loop (found-at c) .loop .inv .kept in omega arith
 
 loop-less : tie.Need-loop-less Inv-loop μ-loop
-loop-less c = let g = got (found c) in omega (arith, g .after, g .ends, g .within)
+loop-less c = let g = got (found-at c) in omega (arith, g .after, g .ends, g .within)
 
 loop-again : tie.Need-loop-again Inv-loop μ-loop
 loop-again c =
-    let f = found c in
+    let f = found-at c in
     let l = at-loop f in
-    all-next (begin l .pre) (l .loop .inv) _ _ (obus f .2) (got f .within) (wrote c)
+    all-next (begin l .pre) (l .loop .inv) _ _ (unit-obus f .2) (got f .within) (unit-filled c)
 
 same-length-3 : tie.Need-same-length-3 Inv-loop μ-loop
 same-length-3 c = c .before .loop .inv .walk .kept

@@ -40,12 +40,12 @@ got c =
     is-part 8 9 _ _ _ (omega arith) (begin (at-loop c) .pre .0 .1) (sym (c .before .before .part-at .ensures) ∙ ap partSays (c .first .given .1))
 
 -- its OBUs
-obus : (c : tie.After-first Inv-loop μ-loop)
+frame-obus : (c : tie.After-first Inv-loop μ-loop)
     → (let s = now (begin (at-loop c) .args .«data») in
     let e = begin (at-loop c) .args .end in
     let b = c .first .given .0 .1 .0 in
     (os : List Obu) × (many lengthObu (span s (c .first .given .0 .0) b) ≡ accepted os) × (frameUnit (span s (at-loop c .loop .at) e) ≡ item os (span s b e)))
-obus c =
+frame-obus c =
     let l = at-loop c in
     walk-held _ _ frame-shrinks _ _ _ _ _ (whole l) (l .loop .inv) (c .before .before .before .loop-test .taken) (begin l .pre .0 .1) _ _ (frame-at (got c))
 
@@ -66,7 +66,7 @@ fill-frame-requires c κs =
     let f = c .before .before in
     let l = at-loop f in
     let g = got f in
-    let h = obus f in
+    let h = frame-obus f in
     let p = begin l .pre .0 .1 in
     ((g .ends, omega (arith, g .within)), record { obus = h .0; reads = h .1; room = walk-room _ _ frame-shrinks _ _ _ _ _ (whole l) (l .loop .inv) (h .2) })
 
@@ -78,7 +78,7 @@ loop-again c =
     let f = c .before .before .before .before .before in
     let l = at-loop f in
     let g = got f in
-    let h = obus f in
+    let h = frame-obus f in
     walk-next _ _ frame-shrinks _ _ _ _ _ (whole l) (l .loop .inv) (h .2) (g .within) (held-is (h .1) (c .before .before .fill-frame .ensures))
 
 same-length-2 : tie.Need-same-length-2 Inv-loop μ-loop

@@ -20,11 +20,11 @@ size : (c : tie.Start) → (let o = c .args .o in length (span (now (c .args .u)
 size c = span-length (now (c .args .u)) (c .args .o .start) (c .args .o .end) (c .pre .0 .2)
 
 -- the length that was written
-wrote : (c : tie.After-put-leb128)
+length-written : (c : tie.After-put-leb128)
     → (let b = c .before .before .before .before .before in
     let o = b .args .o in
     Wrote (now (b .args .out)) (b .args .w) (lebBytes (innerLength (extensionSays (o .extension)) (length (span (now (b .args .u)) (o .start) (o .end))))) (c .put-leb128 .result) (c .put-leb128 .last .0))
-wrote c =
+length-written c =
     let b = c .before .before .before .before .before in
     let o = b .args .o in
     let n : c .before .inner-len .result ≡ innerLength (extensionSays (o .extension)) (length (span (now (b .args .u)) (o .start) (o .end))) =
@@ -73,7 +73,7 @@ returns c =
     let e = p .put-bytes .ensures in
     let k = h .put-header .ensures in
     let o = b .args .o in
-    inner-laid (omega (arith, b .pre .1 .1)) (o .«obu_type») (extensionSays (o .extension)) (span (now (b .args .u)) (o .start) (o .end)) (wrote l) (record { next = omega (arith, k .0); out = k .1 }) (record { next = e .0; out = e .1 })
+    inner-laid (omega (arith, b .pre .1 .1)) (o .«obu_type») (extensionSays (o .extension)) (span (now (b .args .u)) (o .start) (o .end)) (length-written l) (record { next = omega (arith, k .0); out = k .1 }) (record { next = e .0; out = e .1 })
 
 pub put-length-obu-spec : {M : Type 1} → statement M
 put-length-obu-spec =

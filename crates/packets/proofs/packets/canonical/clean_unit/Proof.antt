@@ -12,10 +12,10 @@ use Rattle.bitio.proofs.LentLaws.{pasted-more, pasted-length}
 use Rattle.container.specs.code.Ranges.{Range, keptBytes}
 use Rattle.bitio.proofs.ParseLaws.{and-both}
 use Rattle.bitio.specs.Limits.{limit}
-use Rattle.container.specs.Limits.{fits}
+use Rattle.container.specs.Limits.{bytesRoom, fits}
 use Rattle.packets.specs.code.PacketRuns.{most}
 use Rattle.packets.proofs.RoomLaws.{fits-most}
-use Rattle.packets.proofs.CanonicalLaws.{split-first, Stray, stray, outRoom, canon-roomless, canon-there}
+use Rattle.packets.proofs.CanonicalLaws.{split-first, Stray, stray, canon-roomless, canon-there}
 use Rattle.packets.proofs.packets.canonical.clean_unit.Statement.{statement}
 use Rattle.packets.proofs.packets.canonical.clean_unit.Tie as tie
 
@@ -56,10 +56,10 @@ written-len-requires-2 : tie.Need-written-len-requires-2
 written-len-requires-2 c κs = let p = parted (c .before) in record { short = c .before .before .before .before .pre .0; os = p .it .os; range = p .back }
 
 -- it has room where the code finds that its count has
-room-is : (c : tie.After-has-room) → (let s = c .before .before .before .before .before .before .before .args in fits (length (clean (sized (c .before) .parts))) 0 (outRoom (now (s .out))) ≡ c .has-room .result)
+room-is : (c : tie.After-has-room) → (let s = c .before .before .before .before .before .before .before .args in fits (length (clean (sized (c .before) .parts))) 0 (bytesRoom (length (now (s .out)))) ≡ c .has-room .result)
 room-is c =
     let z = sized (c .before) in
-    let room = outRoom (now (c .before .before .before .before .before .before .before .args .out)) in
+    let room = bytesRoom (length (now (c .before .before .before .before .before .before .before .args .out))) in
     sym (fits-most (length (clean (z .parts))) 0 room) ∙ ap (λ n. fits n 0 room) (sym (z .size)) ∙ sym (c .has-room .ensures)
 
 -- and then it is short enough, and not longer than lent memory

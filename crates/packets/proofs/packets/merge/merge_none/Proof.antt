@@ -23,14 +23,14 @@ totals c =
     one-totals (now (a .packets)) (now (a .ends)) (now (a .times)) (s .pre) _ (c .before .before .first-full .ensures) (some (c .before)) (c .run-len .ensures)
 
 -- it has room
-fits : (c : tie.Else2) → (let a = c .before .before .before .before .before .before .before .before .before .before .before .args in fitsPackets (c .before .before .run-len .result) 1 (lentRoom (now (a .out)) (now (a .out-ends)) (now (a .out-times))) ≡ true)
-fits c = sym (c .before .has-packet-room .ensures) ∙ not-false _ (c .if2 .left)
+one-fits : (c : tie.Else2) → (let a = c .before .before .before .before .before .before .before .before .before .before .before .args in fitsPackets (c .before .before .run-len .result) 1 (lentRoom (now (a .out)) (now (a .out-ends)) (now (a .out-times))) ≡ true)
+one-fits c = sym (c .before .has-packet-room .ensures) ∙ not-false _ (c .if2 .left)
 
 room : (c : tie.Else2) → (let a = c .before .before .before .before .before .before .before .before .before .before .before .args in MergeRoom (now (a .packets)) (now (a .ends)) (now (a .times)) (now (a .out)) (now (a .out-ends)) (now (a .out-times)))
 room c =
     let s = c .before .before .before .before .before .before .before .before .before .before .before in
     let a = s .args in
-    out-room (now (a .packets)) (now (a .ends)) (now (a .times)) (now (a .out)) (now (a .out-ends)) (now (a .out-times)) (s .pre .given) _ _ (totals (c .before .before)) (fits c)
+    out-room (now (a .packets)) (now (a .ends)) (now (a .times)) (now (a .out)) (now (a .out-ends)) (now (a .out-times)) (s .pre .given) _ _ (totals (c .before .before)) (one-fits c)
 
 first-full-requires : tie.Need-first-full-requires
 first-full-requires c κs = let s = c .before .before .before .before .before .before in (omega arith, omega (arith, s .pre .given .match))
@@ -62,7 +62,7 @@ cast-out-ends c =
     let k = c .before .before .before .before in
     let s = k .before .before .before .before .before .before .before .before .before .before .before in
     let a = s .args in
-    omega (arith, room k .small, out-size (now (a .packets)) (now (a .ends)) (now (a .times)) (now (a .out)) (now (a .out-ends)) (now (a .out-times)) (s .pre .given) _ _ (totals (k .before .before)) (fits k))
+    omega (arith, room k .small, out-size (now (a .packets)) (now (a .ends)) (now (a .times)) (now (a .out)) (now (a .out-ends)) (now (a .out-times)) (s .pre .given) _ _ (totals (k .before .before)) (one-fits k))
 
 slice-write-out-ends : tie.Need-slice-write-out-ends
 slice-write-out-ends c =
@@ -84,8 +84,8 @@ returns-3 c =
     let s = k .before .before .before .before .before .before .before .before .before .before .before in
     let a = s .args in
     let z = totals (k .before .before) in
-    out-there (now (a .packets)) (now (a .ends)) (now (a .times)) (now (a .out)) (now (a .out-ends)) (now (a .out-times)) (s .pre .given) _ _ z (fits k)
-    (one-written (now (a .packets)) (now (a .ends)) (now (a .times)) (s .pre) _ (k .before .before .before .before .first-full .ensures) (some (k .before .before .before)) (room k) (out-size (now (a .packets)) (now (a .ends)) (now (a .times)) (now (a .out)) (now (a .out-ends)) (now (a .out-times)) (s .pre .given) _ _ z (fits k)) (c .before .before .before .put-run .ensures))
+    out-there (now (a .packets)) (now (a .ends)) (now (a .times)) (now (a .out)) (now (a .out-ends)) (now (a .out-times)) (s .pre .given) _ _ z (one-fits k)
+    (one-written (now (a .packets)) (now (a .ends)) (now (a .times)) (s .pre) _ (k .before .before .before .before .first-full .ensures) (some (k .before .before .before)) (room k) (out-size (now (a .packets)) (now (a .ends)) (now (a .times)) (now (a .out)) (now (a .out-ends)) (now (a .out-times)) (s .pre .given) _ _ z (one-fits k)) (c .before .before .before .put-run .ensures))
 
 pub merge-none-spec : {M : Type 1} → statement M
 merge-none-spec =
