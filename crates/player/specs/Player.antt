@@ -1,4 +1,4 @@
--- The player (01, 'Player'): eight slots, a kept sequence header, and what playing one unit does.
+-- The player (01, 'Player (added)'): eight slots, a kept sequence header, and what playing one unit does.
 use Prim.Native.Nat.{ℕ, _/_, _%_}
 use mathlib.Core.List.{List, [], _∷_}
 use mathlib.Core.Bool.{Bool, true, false, cond as pick}
