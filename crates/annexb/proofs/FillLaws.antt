@@ -5,7 +5,7 @@ use mathlib.Core.Path.{_≡_, refl, sym, ap, _∙_}
 use mathlib.Core.List.{List, [], _∷_, _++_, map, flatMap, append-assoc, append-nil, map-append}
 use mathlib.Core.Option.{Option}
 use lib.ListN.{length, set, length-append, length-map, length-set}
-use Rattle.bitio.specs.Parse.{Answer, refused, accepted, answer, Head, stop, item, before, many}
+use Rattle.bitio.specs.Parse.{Answer, refused, accepted, answer, Head, stop, item, before, many, acceptedList}
 use Rattle.bitio.specs.Lent.{pasted}
 use Rattle.bitio.specs.Leb.{sized}
 use Rattle.bitio.proofs.LentLaws.{pasted-one, wrote-none, wrote-length, wrote-more}
@@ -17,7 +17,7 @@ use Rattle.container.specs.AnnexB.{lengthObu, frameUnitOf, frameUnit, temporalU
 use Rattle.bitio.specs.Limits.{limit}
 use Rattle.container.specs.Units.{endsOf}
 use Rattle.annexb.specs.code.Spans.{span}
-use Rattle.annexb.specs.code.Fill.{readOf, Filling, UnitsRoom, Filled}
+use Rattle.annexb.specs.code.Fill.{Filling, UnitsRoom, Filled}
 use Rattle.bitio.specs.Lent.{Wrote}
 use Rattle.container.proofs.StreamLaws.{bytes-flat}
 use Rattle.container.proofs.AnnexBLaws.{temporal-shrinks}
@@ -122,10 +122,10 @@ flat-units [] = refl
 flat-units (u ∷ us) = ap (λ l. unitBytes u ++ l) (flat-units us)
 
 -- OBUs that are held are those that are read
-pub held-is : {d : List ℕ} {w : ℕ} {x : Answer (List Obu)} {os : List Obu} {d′ : List ℕ} {w′ : ℕ} → x ≡ accepted os → Wrote d w (unitBytes (readOf x)) w′ d′ → Wrote d w (unitBytes os) w′ d′
+pub held-is : {d : List ℕ} {w : ℕ} {x : Answer (List Obu)} {os : List Obu} {d′ : List ℕ} {w′ : ℕ} → x ≡ accepted os → Wrote d w (unitBytes (acceptedList x)) w′ d′ → Wrote d w (unitBytes os) w′ d′
 held-is q l = rw q at l
 
-is-held : {d : List ℕ} {w : ℕ} {x : Answer (List Obu)} {os : List Obu} {d′ : List ℕ} {w′ : ℕ} → x ≡ accepted os → Wrote d w (unitBytes os) w′ d′ → Wrote d w (unitBytes (readOf x)) w′ d′
+is-held : {d : List ℕ} {w : ℕ} {x : Answer (List Obu)} {os : List Obu} {d′ : List ℕ} {w′ : ℕ} → x ≡ accepted os → Wrote d w (unitBytes os) w′ d′ → Wrote d w (unitBytes (acceptedList x)) w′ d′
 is-held q l = rw q l
 
 module _ (s : List ℕ) (a e : ℕ) (d : List ℕ) (w : ℕ) where
@@ -144,11 +144,11 @@ module _ (s : List ℕ) (a e : ℕ) (d : List ℕ) (w : ℕ) where
           record { all = fs; reads = q; room = rw n (f .room) }
 
   -- the whole frame unit, the whole unit
-  pub frame-held : (x : Whole lengthObu obuBytes s a e d w) {d′ : List ℕ} {w′ : ℕ} → Wrote d w (flatMap obuBytes (x .all)) w′ d′ → Wrote d w (unitBytes (readOf (many lengthObu (span s a e)))) w′ d′
+  pub frame-held : (x : Whole lengthObu obuBytes s a e d w) {d′ : List ℕ} {w′ : ℕ} → Wrote d w (flatMap obuBytes (x .all)) w′ d′ → Wrote d w (unitBytes (acceptedList (many lengthObu (span s a e)))) w′ d′
   unfolding unitBytes
   frame-held x l = is-held (x .reads) l
 
-  pub unit-held : (x : Whole frameUnit unitBytes s a e d w) {d′ : List ℕ} {w′ : ℕ} → Wrote d w (flatMap unitBytes (x .all)) w′ d′ → Wrote d w (unitBytes (readOf (answer flat (many frameUnit (span s a e))))) w′ d′
+  pub unit-held : (x : Whole frameUnit unitBytes s a e d w) {d′ : List ℕ} {w′ : ℕ} → Wrote d w (flatMap unitBytes (x .all)) w′ d′ → Wrote d w (unitBytes (acceptedList (answer flat (many frameUnit (span s a e))))) w′ d′
   unit-held x l = is-held (ap (answer flat) (x .reads)) (rw (flat-units (x .all) ∙ bytes-flat (x .all)) at l)
 
 -- ---- the ends of units

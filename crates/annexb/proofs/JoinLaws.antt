@@ -9,7 +9,7 @@ use lib.ListN.{length, getD, drop, length-append, length-drop}
 use lib.Seq.{take-all}
 use native.Mathlib.Decide.{decLt}
 use borrow.Author.Tests.{lt-ltb}
-use Rattle.bitio.specs.Parse.{Answer, refused, accepted, answer, Head, stop, item, many}
+use Rattle.bitio.specs.Parse.{Answer, refused, accepted, answer, Head, stop, item, many, acceptedList}
 use Rattle.bitio.specs.Leb.{lebBytes, framed}
 use Rattle.bitio.proofs.LebLaws.{bytes-most}
 use Rattle.bitio.proofs.LentLaws.{wrote-none, wrote-more, wrote-length}
@@ -22,7 +22,6 @@ use Rattle.container.specs.AnnexB.{innerBytes, annexbUnit, wrote, annexbBytes}
 use Rattle.bitio.specs.Limits.{limit}
 use Rattle.container.specs.Units.{unitsAt, countOf, outAfter}
 use Rattle.annexb.specs.code.Spans.{span}
-use Rattle.annexb.specs.code.Fill.{readOf}
 use Rattle.bitio.specs.Lent.{Wrote}
 use Rattle.container.specs.Lists.{accepts}
 use Rattle.annexb.specs.code.Join.{innerLength, framedLength, Putting, Writing}
@@ -214,7 +213,7 @@ counts-refused u {k} q = go (obus u) q
 
 module _ (s es : List ℕ) (a : accepts (unitsAt s es) ≡ true) {at i n : ℕ} (t : Totalling s es at i n) where
   abbrev all : Answer ℕ
-  all = countOf (annexbBytes (readOf (unitsAt s es)))
+  all = countOf (annexbBytes (acceptedList (unitsAt s es)))
 
   module _ (l : i < length es) where
     abbrev end : ℕ
@@ -273,7 +272,7 @@ module _ {d : List ℕ} {w : ℕ} (l : w ≤ length d) {d₁ d₂ d₃ : List �
 pub whole-obus : {u d : List ℕ} {w : ℕ} → Putting u (flatMap innerBytes) d w → Whole headObu innerBytes u 0 (length u) d w
 whole-obus {u} p = record { all = p .held; reads = sym (obus-are u) ∙ p .reads; room = p .room }
 
-pub obus-laid : {u d : List ℕ} {w : ℕ} (x : Whole headObu innerBytes u 0 (length u) d w) {d′ : List ℕ} {w′ : ℕ} → Wrote d w (flatMap innerBytes (x .all)) w′ d′ → Wrote d w (flatMap innerBytes (readOf (obus u))) w′ d′
+pub obus-laid : {u d : List ℕ} {w : ℕ} (x : Whole headObu innerBytes u 0 (length u) d w) {d′ : List ℕ} {w′ : ℕ} → Wrote d w (flatMap innerBytes (x .all)) w′ d′ → Wrote d w (flatMap innerBytes (acceptedList (obus u))) w′ d′
 obus-laid {u} x l = rw (obus-are u ∙ x .reads) l
 
 -- ---- writing units
@@ -314,7 +313,7 @@ module _ {s es d : List ℕ} (x : Writing s es d) {at i : ℕ} {d′ : List ℕ}
         let n = ap length y ∙ length-append (t .bytes) (annexbUnit os ++ r) in
         record { held = os; reads = p; room = omega (arith, length-append (annexbUnit os) r, t .laid .next, t .kept, x .room) }
 
-    pub putted-next : {d″ : List ℕ} {w″ : ℕ} → Wrote d′ w (annexbUnit (readOf (obus (span s at upto)))) w″ d″ → Putted s es d upto (i + 1) d″ w″
+    pub putted-next : {d″ : List ℕ} {w″ : ℕ} → Wrote d′ w (annexbUnit (acceptedList (obus (span s at upto)))) w″ d″ → Putted s es d upto (i + 1) d″ w″
     putted-next m =
         let g = putted-good in
         let u = putted-unit in
@@ -328,5 +327,5 @@ module _ {s es d : List ℕ} (x : Writing s es d) {at i : ℕ} {d′ : List ℕ}
           kept = wrote-length k (u .room) ∙ t .kept;
         }
 
-  pub putted-end : length es ≤ i → d′ ≡ outAfter (annexbBytes (readOf (unitsAt s es))) d
+  pub putted-end : length es ≤ i → d′ ≡ outAfter (annexbBytes (acceptedList (unitsAt s es))) d
   putted-end l = rw (cut-done s es (t .cut) l good, t .made) (t .laid .out)

@@ -9,14 +9,13 @@ use lib.Dec.{leb}
 use borrow.Author.Tests.{le-leb, lt-leb, leb-true}
 use types.Run.{OneOf}
 use denote.Enum.Declared.{tagOf}
-use Rattle.bitio.specs.Parse.{Answer, refused, accepted, andNext}
+use Rattle.bitio.specs.Parse.{Answer, refused, accepted, andNext, acceptedList}
 use Rattle.container.specs.AnnexB.{annexbBytes}
 use Rattle.bitio.specs.Limits.{limit}
 use Rattle.container.specs.Limits.{Room, bytesRoom, fits, fitBytes}
 use Rattle.container.specs.Container.{annexb, writeAt}
 use Rattle.container.specs.Units.{unitsAt, countOf, outAfter, byteCountSays}
 use Rattle.container.proofs.ListLaws.{units-refused}
-use Rattle.annexb.specs.code.Fill.{readOf}
 use Rattle.container.specs.Lists.{accepts}
 use Rattle.annexb.specs.code.Join.{Writing}
 use Rattle.container.specs.declared.units.ByteCount.{ByteCount}
@@ -53,7 +52,7 @@ module _ (room : Room) (s es : List ℕ) where
 
     -- the units' bytes
     abbrev made : Answer (List ℕ)
-    made = annexbBytes (readOf (unitsAt s es))
+    made = annexbBytes (acceptedList (unitsAt s es))
 
     module _ (a : accepts (unitsAt s es) ≡ true) where
       write-made : writeAt annexb room s es ≡ fitBytes room made
@@ -82,7 +81,7 @@ module _ (room : Room) (s es : List ℕ) where
         write-whole f = write-fits ∙ rw f
 
 -- with room the units can be written
-pub writing : (s es d : List ℕ) → accepts (unitsAt s es) ≡ true → {n : ℕ} → countOf (annexbBytes (readOf (unitsAt s es))) ≡ accepted n
+pub writing : (s es d : List ℕ) → accepts (unitsAt s es) ≡ true → {n : ℕ} → countOf (annexbBytes (acceptedList (unitsAt s es))) ≡ accepted n
     → fits n 0 (bytesRoom (length d)) ≡ true → Writing s es d
 writing s es d a {n} q f = let (us, p) = accepted-is (unitsAt s es) a in go us p (annexbBytes us) refl (rw p at q)
   where

@@ -8,7 +8,7 @@ use mathlib.Core.Option.{none, some}
 use lib.ListN.{getD, drop, List·getD-map}
 use lib.Dec.{ltb}
 use borrow.Author.Tests.{ltb-true, ltb-false}
-use Rattle.bitio.specs.Parse.{Answer, refused, accepted, answer, many, manyF, andNext}
+use Rattle.bitio.specs.Parse.{Answer, refused, accepted, acceptedList, answer, many, manyF, andNext}
 use Rattle.bitio.specs.Bits.{bitAt, bitsAt, bitsWithin, readBits}
 use Rattle.bitio.specs.Uvlc.{leadingZeros, uvlcSuffix, uvlc}
 use Rattle.bitio.specs.Leb.{lebRead, readLeb, sized, lebWrite, lebBytes, framed}
@@ -261,14 +261,10 @@ shownTimed = shown-from settingsKG segmentsTimed outputTwo demandedTimed kindsTw
 
 -- ---- such units and such a course
 
-abbrev acceptedBytes : Answer (List ℕ) → List ℕ
-acceptedBytes (refused n) = []
-acceptedBytes (accepted bs) = bs
-
 -- with room for 96 bytes and seven ends either container carries the list's own
 abbrev CarriedOwn : Container → Type 0
-CarriedOwn c = (write c (record { bytes = 96; ends = 7 }) (unitsOf outputTwo) ≡ accepted (acceptedBytes (write c (record { bytes = 96; ends = 7 }) (unitsOf outputTwo))))
-    × (read c (record { bytes = 96; ends = 7 }) (acceptedBytes (write c (record { bytes = 96; ends = 7 }) (unitsOf outputTwo))) ≡ accepted (unitsOf outputTwo))
+CarriedOwn c = (write c (record { bytes = 96; ends = 7 }) (unitsOf outputTwo) ≡ accepted (acceptedList (write c (record { bytes = 96; ends = 7 }) (unitsOf outputTwo))))
+    × (read c (record { bytes = 96; ends = 7 }) (acceptedList (write c (record { bytes = 96; ends = 7 }) (unitsOf outputTwo))) ≡ accepted (unitsOf outputTwo))
 
 carried-both : (CarriedOwn stream) × (CarriedOwn annexb)
 unfolding many manyF lebRead readLeb sized lebWrite lebBytes framed passes headObuOf obusOf obuBytes unitBytes flatMap isType count has part named unitsOf cut group others join behind joined units streamUnits flat streamBytes innerObuOf lengthObuOf frameUnitOf temporalUnitOf annexbUnitsOf annexbUnit annexbBytes read write

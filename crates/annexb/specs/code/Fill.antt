@@ -1,19 +1,14 @@
 -- What the writing pass of Annex B is given, and what it leaves.
 use Prim.Native.Nat.{ℕ, _+_, _≤_}
 use mathlib.Core.Path.{_≡_}
-use mathlib.Core.List.{List, [], map}
+use mathlib.Core.List.{List, map}
 use lib.ListN.{length}
-use Rattle.bitio.specs.Parse.{Answer, refused, accepted, answer, many}
+use Rattle.bitio.specs.Parse.{Answer, accepted, answer, many}
 use Rattle.obu.specs.Obu.{Obu, unitBytes}
 use Rattle.container.specs.Stream.{streamBytes}
 use Rattle.container.specs.AnnexB.{temporalUnit}
 use Rattle.bitio.specs.Limits.{limit}
 use Rattle.container.specs.Units.{bytesAfter, endsAfter}
-
--- what was read, nothing where it is refused
-abbrev pub readOf : {A : Type 0} → Answer (List A) → List A
-readOf (refused k) = []
-readOf (accepted l) = l
 
 -- OBUs that are read, and have room in d at w in written form
 pub record Filling (x : Answer (List Obu)) (d : List ℕ) (w : ℕ) : Type 0 where

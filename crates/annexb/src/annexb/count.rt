@@ -4,13 +4,12 @@ ghost use mathlib.Core.Bool.{true};
 ghost use mathlib.Core.List.{flatMap};
 ghost use Prim.Native.Nat.{_*_, _≤_};
 ghost use lib.ListN.{length};
-ghost use Rattle.bitio.specs.Parse.{answer};
+ghost use Rattle.bitio.specs.Parse.{answer, acceptedList};
 ghost use Rattle.obu.specs.Obu.{obus};
 ghost use Rattle.obu.specs.Place.{extensionSays};
 ghost use Rattle.container.specs.AnnexB.{innerBytes, annexbBytes};
 ghost use Rattle.bitio.specs.Limits.{limit};
 ghost use Rattle.container.specs.Units.{unitsAt, countOf, byteCountSays};
-ghost use Rattle.annexb.specs.code.Fill.{readOf};
 ghost use Rattle.container.specs.Lists.{accepts};
 ghost use Rattle.annexb.specs.code.Join.{atMost, innerLength, framedLength};
 use container::units::ByteCount;
@@ -56,7 +55,7 @@ pub(crate) fn count_inner(u: &[u8]) -> ByteCount
 // How many bytes all units have in Annex B, or the refusal of the first that does not parse.
 pub(crate) fn count_units(units: &[u8], unit_ends: &[u32]) -> ByteCount
     requires { ⌜ (length (now units) ≤ limit) × (accepts (unitsAt (now units) (now «unit_ends»)) ≡ true) ⌝ }
-    ensures { λ r. ⌜ byteCountSays r ≡ countOf (annexbBytes (readOf (unitsAt (now (units .entry)) (now («unit_ends» .entry))))) ⌝ }
+    ensures { λ r. ⌜ byteCountSays r ≡ countOf (annexbBytes (acceptedList (unitsAt (now (units .entry)) (now («unit_ends» .entry))))) ⌝ }
 {
     let mut at: usize = 0;
     let mut i: usize = 0;

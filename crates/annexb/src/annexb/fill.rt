@@ -3,14 +3,14 @@ ghost use mathlib.Core.Path.{_≡_};
 ghost use mathlib.Core.Bool.{true};
 ghost use Prim.Native.Nat.{_+_, _-_, _≤_};
 ghost use lib.ListN.{length};
-ghost use Rattle.bitio.specs.Parse.{answer, many};
+ghost use Rattle.bitio.specs.Parse.{answer, many, acceptedList};
 ghost use Rattle.obu.specs.Obu.{passes, obuBytes, unitBytes};
 ghost use Rattle.obu.specs.Place.{extensionSays};
 ghost use Rattle.obu.specs.Write.{obuLength, obu};
 ghost use Rattle.container.specs.Stream.{flat};
 ghost use Rattle.container.specs.AnnexB.{lengthObu, frameUnit};
 ghost use Rattle.annexb.specs.code.Spans.{span};
-ghost use Rattle.annexb.specs.code.Fill.{readOf, Filling, UnitsRoom, Filled};
+ghost use Rattle.annexb.specs.code.Fill.{Filling, UnitsRoom, Filled};
 ghost use Rattle.bitio.specs.Lent.{Wrote};
 use crate::annexb::part::InnerAt;
 use crate::annexb::part::PartAt;
@@ -34,7 +34,7 @@ fn put_inner(data: &[u8], o: Obu, out: &mut [u8], w: usize) -> usize
 fn fill_frame(data: &[u8], start: usize, end: usize, out: &mut [u8], place: usize) -> usize
     requires { ⌜ (start ≤ end) × (end ≤ length (now «data»)) ⌝ }
     requires { ⌜ Filling (many lengthObu (span (now «data») start end)) (now out) place ⌝ }
-    ensures { λ r. ⌜ Wrote (now (out .entry)) place (unitBytes (readOf (many lengthObu (span (now («data» .entry)) start end)))) r (now (out .exit)) ⌝ }
+    ensures { λ r. ⌜ Wrote (now (out .entry)) place (unitBytes (acceptedList (many lengthObu (span (now («data» .entry)) start end)))) r (now (out .exit)) ⌝ }
 {
     let mut at = start;
     let mut w = place;
@@ -52,7 +52,7 @@ fn fill_frame(data: &[u8], start: usize, end: usize, out: &mut [u8], place: usiz
 fn fill_unit(data: &[u8], start: usize, end: usize, out: &mut [u8], place: usize) -> usize
     requires { ⌜ (start ≤ end) × (end ≤ length (now «data»)) ⌝ }
     requires { ⌜ Filling (answer flat (many frameUnit (span (now «data») start end))) (now out) place ⌝ }
-    ensures { λ r. ⌜ Wrote (now (out .entry)) place (unitBytes (readOf (answer flat (many frameUnit (span (now («data» .entry)) start end))))) r (now (out .exit)) ⌝ }
+    ensures { λ r. ⌜ Wrote (now (out .entry)) place (unitBytes (acceptedList (answer flat (many frameUnit (span (now («data» .entry)) start end))))) r (now (out .exit)) ⌝ }
 {
     let mut at = start;
     let mut w = place;

@@ -11,7 +11,7 @@ ghost use Rattle.container.specs.AnnexB.{innerBytes, annexbUnit, annexbBytes};
 ghost use Rattle.bitio.specs.Limits.{limit};
 ghost use Rattle.container.specs.Units.{unitsAt, outAfter};
 ghost use Rattle.annexb.specs.code.Spans.{span};
-ghost use Rattle.annexb.specs.code.Fill.{readOf};
+ghost use Rattle.bitio.specs.Parse.{acceptedList};
 ghost use Rattle.bitio.specs.Lent.{Wrote};
 ghost use Rattle.annexb.specs.code.Join.{innerLength, framedLength, Putting, Writing};
 use crate::annexb::count::count_inner;
@@ -43,7 +43,7 @@ fn put_length_obu(u: &[u8], o: Obu, out: &mut [u8], w: usize) -> usize
 fn put_inner_obus(u: &[u8], out: &mut [u8], place: usize) -> usize
     requires { ⌜ length (now u) ≤ limit ⌝ }
     requires { ⌜ Putting (now u) (flatMap innerBytes) (now out) place ⌝ }
-    ensures { λ r. ⌜ Wrote (now (out .entry)) place (flatMap innerBytes (readOf (obus (now (u .entry))))) r (now (out .exit)) ⌝ }
+    ensures { λ r. ⌜ Wrote (now (out .entry)) place (flatMap innerBytes (acceptedList (obus (now (u .entry))))) r (now (out .exit)) ⌝ }
 {
     let mut at: usize = 0;
     let mut w = place;
@@ -61,7 +61,7 @@ fn put_inner_obus(u: &[u8], out: &mut [u8], place: usize) -> usize
 fn put_unit(u: &[u8], out: &mut [u8], w: usize) -> usize
     requires { ⌜ length (now u) ≤ limit ⌝ }
     requires { ⌜ Putting (now u) annexbUnit (now out) w ⌝ }
-    ensures { λ r. ⌜ Wrote (now (out .entry)) w (annexbUnit (readOf (obus (now (u .entry))))) r (now (out .exit)) ⌝ }
+    ensures { λ r. ⌜ Wrote (now (out .entry)) w (annexbUnit (acceptedList (obus (now (u .entry))))) r (now (out .exit)) ⌝ }
 {
     let ByteCount::Bytes(n) = count_inner(u) else {
         return w;
@@ -75,7 +75,7 @@ fn put_unit(u: &[u8], out: &mut [u8], w: usize) -> usize
 pub(crate) fn put_units(units: &[u8], unit_ends: &[u32], out: &mut [u8])
     requires { ⌜ length (now units) ≤ limit ⌝ }
     requires { ⌜ Writing (now units) (now «unit_ends») (now out) ⌝ }
-    ensures { λ _. ⌜ now (out .exit) ≡ outAfter (annexbBytes (readOf (unitsAt (now (units .entry)) (now («unit_ends» .entry))))) (now (out .entry)) ⌝ }
+    ensures { λ _. ⌜ now (out .exit) ≡ outAfter (annexbBytes (acceptedList (unitsAt (now (units .entry)) (now («unit_ends» .entry))))) (now (out .entry)) ⌝ }
 {
     let mut at: usize = 0;
     let mut i: usize = 0;

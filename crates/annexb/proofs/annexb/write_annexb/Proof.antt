@@ -3,10 +3,9 @@ use borrow.Author.Tests.{not-true, not-false}
 use mathlib.Core.Path.{_≡_, sym, ap, _∙_}
 use mathlib.Core.Bool.{true}
 use denote.Ref.{now}
-use Rattle.bitio.specs.Parse.{accepted}
+use Rattle.bitio.specs.Parse.{accepted, acceptedList}
 use Rattle.container.specs.AnnexB.{annexbBytes}
 use Rattle.container.specs.Units.{unitsAt, countOf, byteCountSays}
-use Rattle.annexb.specs.code.Fill.{readOf}
 use Rattle.container.specs.Lists.{accepts}
 use Rattle.annexb.proofs.WriteLaws.{writes-refused, writes-whole, not-bytes, write-long, write-bad, write-refused, write-full, write-whole, writing}
 use Rattle.annexb.proofs.annexb.write_annexb.Statement.{statement}
@@ -19,7 +18,7 @@ good c = sym (c .before .check-ends .ensures) ∙ not-false _ (c .if2 .left)
 -- what was counted
 size : (c : tie.After-found)
     → (let a = c .before .before .before .before .before .before .before .before .before .args in
-    countOf (annexbBytes (readOf (unitsAt (now (a .units)) (now (a .unit-ends))))) ≡ accepted (c .found .given .0 .0))
+    countOf (annexbBytes (acceptedList (unitsAt (now (a .units)) (now (a .unit-ends))))) ≡ accepted (c .found .given .0 .0))
 size c = sym (c .before .before .count-units .ensures) ∙ ap byteCountSays (c .found .given .1)
 
 returns : tie.Need-returns
