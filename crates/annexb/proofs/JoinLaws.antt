@@ -5,8 +5,7 @@ use mathlib.Core.Path.{_≡_, refl, sym, ap, _∙_}
 use mathlib.Core.List.{List, [], _∷_, _++_, flatMap, append-assoc, append-nil}
 use mathlib.Core.Option.{Option}
 use mathlib.Core.Bool.{true}
-use lib.ListN.{length, getD, drop, length-append, length-drop}
-use lib.Seq.{take-all}
+use lib.ListN.{length, getD, drop, length-append}
 use native.Mathlib.Decide.{decLt}
 use borrow.Author.Tests.{lt-ltb}
 use Rattle.bitio.specs.Parse.{Answer, refused, accepted, answer, Head, stop, item, many, acceptedList}
@@ -17,7 +16,7 @@ use Rattle.obu.specs.Obu.{Obu, passes, extBytes, header, headObu, obusOf, obus}
 use Rattle.obu.specs.Place.{wrong, placeOf, obuPlace}
 use Rattle.obu.specs.Write.{obu}
 use Rattle.obu.proofs.ObuLaws.{obu-shrinks}
-use Rattle.obu.proofs.PlaceLaws.{Placed, IsPlaced}
+use Rattle.obu.proofs.PlaceLaws.{slice-to-end, Placed, IsPlaced}
 use Rattle.container.specs.AnnexB.{innerBytes, annexbUnit, wrote, annexbBytes}
 use Rattle.bitio.specs.Limits.{limit}
 use Rattle.container.specs.Units.{unitsAt, countOf, outAfter}
@@ -70,13 +69,10 @@ unit-few n l =
 
 -- ---- an OBU of a unit
 
-rest-is : (s : List ℕ) (at : ℕ) → span s at (length s) ≡ drop at s
-unfolding span
-rest-is s at = take-all (length s - at) (drop at s) (omega (arith, length-drop at s))
-
 module _ {s : List ℕ} {at : ℕ} {o : Obu} {a b : ℕ} (p : Placed s at o a b) where
   pub head-at : headObu (span s at (length s)) ≡ item o (span s b (length s))
-  head-at = rw (rest-is s at, rest-is s b) (p .head)
+  unfolding span
+  head-at = rw (slice-to-end s at, slice-to-end s b) (p .head)
 
 pub placed-is : {s : List ℕ} {at t : ℕ} {x : Option ℕ} {a b : ℕ} (i : IsPlaced s at t x a b) → obu t x (span s a b) ≡ i .obu
 unfolding span
@@ -86,8 +82,8 @@ pub placed-size : {s : List ℕ} {at t : ℕ} {x : Option ℕ} {a b : ℕ} (i : 
 placed-size i = rw (← i .ext, i .placed .size) (inner-size (i .obu))
 
 pub stop-at : (s : List ℕ) (at k : ℕ) → at < length s → obuPlace s at ≡ wrong k → headObu (span s at (length s)) ≡ stop k
-unfolding obuPlace
-stop-at s at k l q = rw (rest-is s at) (go (headObu (drop at s)) (rw (lt-ltb at (length s) l) at q))
+unfolding obuPlace span
+stop-at s at k l q = rw (slice-to-end s at) (go (headObu (drop at s)) (rw (lt-ltb at (length s) l) at q))
   where
     go : (x : Head Obu) → placeOf s x ≡ wrong k → x ≡ stop k
     go (stop j) q = let z : j ≡ k = cc in rw z

@@ -7,7 +7,7 @@ use mathlib.Core.List.{List, [], _∷_, _++_, append-nil}
 use mathlib.Core.Option.{Option, none, some}
 use mathlib.Core.Bool.{true, false}
 use lib.ListN.{length, getD, take, drop, length-drop, length-take, drop-of-length-le}
-use lib.Seq.{length-take-le, drop-cons, drop-drop, take-append-seam, drop-append-seam}
+use lib.Seq.{length-take-le, take-all, drop-cons, drop-drop, take-append-seam, drop-append-seam}
 use lib.Dec.{leb, ltb}
 use borrow.Author.Tests.{lt-ltb, le-ltb, ltb-true, ltb-false, lt-leb, le-leb, ne-eqb}
 use Rattle.bitio.specs.Parse.{refused, accepted, Head, stop, item}
@@ -23,6 +23,10 @@ use Rattle.obu.specs.declared.reader.ObuAt.the-variants.{Found, End, Ref
 use Rattle.obu.specs.Place.{Place, noMore, wrong, lies, placeOf, obuPlace, placeRefusal, obuSays, part}
 use Rattle.obu.specs.Write.{obu as obuOf}
 use Rattle.obu.proofs.ObuLaws.{is-obu, obus-item, obus-stop, obus-nil, infront, infront-next, infront-nil}
+
+-- the slice from p to the end is all that stands behind p
+pub slice-to-end : (s : List ℕ) (p : ℕ) → take (length s - p) (drop p s) ≡ drop p s
+slice-to-end s p = take-all (length s - p) (drop p s) (omega (arith, length-drop p s))
 
 -- ---- the outcomes of a body: the header byte h and the extension e are read, and the rest starts at p
 

@@ -2,20 +2,16 @@ use borrow.Author.Needs.{needs}
 use native.Mathlib.Omega.{arith}
 use mathlib.Core.Path.{_≡_, sym, _∙_, ap}
 use mathlib.Core.List.{List}
-use Prim.Native.Nat.{ℕ, _+_, _-_, _≤_}
+use Prim.Native.Nat.{ℕ, _+_, _≤_}
 use denote.Ref.{now}
-use lib.ListN.{length, take, drop, length-drop}
-use lib.Seq.{take-all, drop-drop}
+use lib.ListN.{length, drop, length-drop}
+use lib.Seq.{drop-drop}
 use Rattle.bitio.specs.Leb.{readLeb, lebThen, lebAnswer}
 use Rattle.bitio.specs.declared.leb128.Leb.the-variants.{Value}
 use Rattle.bitio.proofs.LebLaws.{is-number, is-bad}
-use Rattle.obu.proofs.PlaceLaws.{body-rest, body-none, body-over, body-got}
+use Rattle.obu.proofs.PlaceLaws.{slice-to-end, body-rest, body-none, body-over, body-got}
 use Rattle.obu.proofs.reader.body_at.Statement.{statement}
 use Rattle.obu.proofs.reader.body_at.Tie as tie
-
--- the part from p on is all that stands there
-rest : (s : List ℕ) (p : ℕ) → take (length s - p) (drop p s) ≡ drop p s
-rest s p = take-all (length s - p) (drop p s) (omega (arith, length-drop p s))
 
 -- a number in the part from p on
 number-at : (s : List ℕ) (p v n : ℕ) → p ≤ length s → lebAnswer (drop p s) (readLeb (drop p s)) ≡ Value v n → (readLeb (drop p s) ≡ lebThen v (drop (p + n) s)) × (p + n ≤ length s)
@@ -29,7 +25,7 @@ got : (c : tie.After-size)
 got c =
     let b = c .before .before .before .before .before .before in
     let a = b .args in
-    number-at (now (a .s)) (a .p) _ _ (b .pre) (rw (rest (now (a .s)) (a .p)) at (sym (c .before .before .leb128 .ensures) ∙ c .size .given .1))
+    number-at (now (a .s)) (a .p) _ _ (b .pre) (rw (slice-to-end (now (a .s)) (a .p)) at (sym (c .before .before .leb128 .ensures) ∙ c .size .given .1))
 
 returns : tie.Need-returns
 returns c =
@@ -42,7 +38,7 @@ returns-2 c =
     let b = c .before .before .before .before .before .before in
     let a = b .args in
     body-none (now (a .s)) (a .h) _ (a .p) (b .pre) (c .before .before .before .before .if1 .left)
-    (is-bad (drop (a .p) (now (a .s))) (rw (rest (now (a .s)) (a .p)) at (sym (c .before .before .leb128 .ensures) ∙ c .enum-told .given .1)))
+    (is-bad (drop (a .p) (now (a .s))) (rw (slice-to-end (now (a .s)) (a .p)) at (sym (c .before .before .leb128 .ensures) ∙ c .enum-told .given .1)))
 
 add-start : tie.Need-add-start
 add-start c = omega (arith, got (c .before) .1)
