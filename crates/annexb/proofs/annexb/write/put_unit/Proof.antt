@@ -47,20 +47,20 @@ room-2 : (c : tie.After-put-leb1282)
 room-2 c = omega (arith, room (c .before .before .before .before), c .put-leb1282 .ensures .0, c .put-leb1282 .kept)
 
 -- the two sizes that were written
-unit-written : (c : tie.After-put-leb128)
+unit-size-written : (c : tie.After-put-leb128)
     → (let b = begin (c .before .before .before .before) in
     Wrote (now (b .args .out)) (b .args .w) (lebBytes (framedLength (length (flatMap innerBytes (b .pre .1 .held))))) (c .put-leb128 .result) (c .put-leb128 .last .0))
-unit-written c =
+unit-size-written c =
     let f = c .before .before .before .before in
     let n : c .before .framed-len .result ≡ framedLength (length (flatMap innerBytes (begin f .pre .1 .held))) = c .before .framed-len .ensures ∙ ap framedLength (inner f) in
     let e = c .put-leb128 .ensures in
     rw (← n) (record { next = e .0; out = e .1 })
 
-frame-written : (c : tie.After-put-leb1282)
+frame-size-written : (c : tie.After-put-leb1282)
     → (let l = c .before .before .before .before in
     let b = begin (l .before .before .before .before) in
     Wrote (l .put-leb128 .last .0) (l .put-leb128 .result) (lebBytes (length (flatMap innerBytes (b .pre .1 .held)))) (c .put-leb1282 .result) (c .put-leb1282 .last .0))
-frame-written c =
+frame-size-written c =
     let f = c .before .before .before .before .before .before .before .before in
     let e = c .put-leb1282 .ensures in
     rw (← inner f) (record { next = e .0; out = e .1 })
@@ -104,7 +104,7 @@ returns-2 c =
     let l = m .before .before .before .before in
     let f = l .before .before .before .before in
     let p = begin f .pre .1 in
-    rw (p .reads) (unit-laid (omega (arith, p .room)) (p .held) (unit-written l) (frame-written m) (rw (p .reads) at (o .put-inner-obus .ensures)))
+    rw (p .reads) (unit-laid (omega (arith, p .room)) (p .held) (unit-size-written l) (frame-size-written m) (rw (p .reads) at (o .put-inner-obus .ensures)))
 
 pub put-unit-spec : {M : Type 1} → statement M
 put-unit-spec =
