@@ -1,5 +1,5 @@
 -- Laws of the measuring pass of Annex B: what each of its three loops has behind it.
-use Prim.Native.Nat.{ℕ, _+_, _-_, _*_, _^_, _≤_, _<_, min}
+use Prim.Native.Nat.{ℕ, _+_, _-_, _*_, _≤_, _<_}
 use native.Mathlib.Omega.{arith}
 use mathlib.Core.Path.{_≡_, refl, sym, ap, _∙_}
 use mathlib.Core.List.{List, [], _∷_, _++_, map, flatMap, append-nil}
@@ -16,7 +16,7 @@ use Rattle.obu.specs.Write.{obuLength}
 use Rattle.obu.proofs.LengthLaws.{obu-length}
 use Rattle.container.specs.Stream.{flat, streamBytes}
 use Rattle.container.specs.AnnexB.{lengthObu, frameUnitOf, frameUnit, temporalUnitOf, temporalUnit}
-use Rattle.bitio.specs.Limits.{limit}
+use Rattle.bitio.specs.Limits.{limit, capped}
 use Rattle.annexb.specs.code.Spans.{span}
 use Rattle.container.specs.Units.{sizesOf}
 use Rattle.container.proofs.StreamLaws.{bytes-append, bytes-flat, flat-append}
@@ -49,7 +49,7 @@ module _ {s : List ℕ} {at e t : ℕ} {x : Option ℕ} {a b : ℕ} (i : IsObuAt
   obu-size = rw (← i .ext, i .size) (obu-length (i .obu))
 
   -- as many bytes as were measured, and at most twelve for each byte read
-  pub obu-measured : e ≤ limit → {n : ℕ} → n ≡ min (obuLength x (b - a)) (2 ^ 64 - 1) → (n ≡ length (obuBytes (i .obu))) × (at + 1 ≤ b) × (n + 12 * at ≤ 12 * b)
+  pub obu-measured : e ≤ limit → {n : ℕ} → n ≡ capped (obuLength x (b - a)) → (n ≡ length (obuBytes (i .obu))) × (at + 1 ≤ b) × (n + 12 * at ≤ 12 * b)
   obu-measured l {n} q =
       let m = i .within in
       let u = i .after in
@@ -199,7 +199,7 @@ module _ {s : List ℕ} {at start end p first last q bytes units : ℕ} (b : Obu
   pub obus-stop : {k : ℕ} → q < last → lengthObu (span s q last) ≡ stop k → many temporalUnit s ≡ refused k
   obus-stop {k} l e = frames-fault (b .behind) in-frame (frame-is (passed-stop lengthObu length-shrinks s first last (b .passed) l last-in k e))
 
-  pub obus-next : length s ≤ limit → {t : ℕ} {x : Option ℕ} {a c n : ℕ} → IsObuAt s q last t x a c → n ≡ min (obuLength x (c - a)) (2 ^ 64 - 1)
+  pub obus-next : length s ≤ limit → {t : ℕ} {x : Option ℕ} {a c n : ℕ} → IsObuAt s q last t x a c → n ≡ capped (obuLength x (c - a))
       → Obus s at start end p first last c (bytes + n) units
   obus-next l {c = c} {n} i m =
       let k = last-in in

@@ -1,5 +1,5 @@
 -- Laws of what is written: how much there is, that it outputFits, and that it is what assembly hands out.
-use Prim.Native.Nat.{ℕ, _+_, _≤_, _<_, min}
+use Prim.Native.Nat.{ℕ, _+_, _≤_, _<_}
 use native.Mathlib.Omega.{arith}
 use mathlib.Core.Path.{_≡_, refl, sym, ap, _∙_}
 use mathlib.Core.List.{List}
@@ -7,7 +7,7 @@ use mathlib.Core.Bool.{Bool, true, false, cond as pick, _&&_}
 use lib.ListN.{length, length-map}
 use lib.Dec.{leb}
 use borrow.Author.Tests.{lt-leb, leb-true, leb-false}
-use Rattle.bitio.specs.Limits.{limit}
+use Rattle.bitio.specs.Limits.{limit, capped}
 use Rattle.obu.specs.Obu.{passes, obuBytes}
 use Rattle.obu.specs.Place.{extensionSays}
 use Rattle.obu.specs.Write.{obuLength, obu}
@@ -15,7 +15,6 @@ use Rattle.obu.proofs.LengthLaws.{obu-length}
 use Rattle.bitio.proofs.ParseLaws.{and-both}
 use Rattle.blocks.specs.Blocks.{layout, number, listOf, total}
 use Rattle.pictures.specs.Assemble.{Output, OutputRoom, outputFits}
-use Rattle.pictures.specs.Flat.{capped}
 use Rattle.assemble.specs.code.Stages.{headerIn, ownIn, fitsIn}
 use Rattle.assemble.specs.declared.multi.Counts.{Counts}
 use Rattle.assemble.specs.declared.plan.Basis.{Basis}
@@ -51,7 +50,7 @@ module _ (s rs new : List ℕ) (b : Basis) where
 pub length-list : (gop : ℕ) (ns : List ℕ) → 1 ≤ gop → length (listOf gop ns) ≡ total ns
 length-list gop ns g = length-map (layout gop 0 ns) number ∙ length-layout gop 0 ns g
 
-pub units-are : (gop : ℕ) (ns : List ℕ) (r : ℕ) → 1 ≤ gop → total ns ≤ 5000000 → r ≡ min (total ns) 18446744073709551615 → r ≡ length (listOf gop ns)
+pub units-are : (gop : ℕ) (ns : List ℕ) (r : ℕ) → 1 ≤ gop → total ns ≤ 5000000 → r ≡ capped (total ns) → r ≡ length (listOf gop ns)
 units-are gop ns r g t e = let l = length-list gop ns g in omega arith
 
 -- counts that agree in each number

@@ -9,7 +9,7 @@ use lib.ListN.{length, take, replicate}
 use lib.Dec.{eqb}
 use borrow.Author.Tests.{lt-ltb, le-ltb, le-leb, eqb-true}
 use Rattle.bitio.specs.Parse.{Answer, refused, accepted, answer, andNext}
-use Rattle.bitio.specs.Limits.{limit}
+use Rattle.bitio.specs.Limits.{limit, capped}
 use Rattle.bitio.specs.Lent.{pasted}
 use Rattle.bitio.proofs.LentLaws.{placed-room, lent-room, pasted-length, pasted-take-end}
 use Rattle.obu.specs.Obu.{Obu, obus, obuBytes}
@@ -31,7 +31,7 @@ use Rattle.pictures.specs.Prepare.{isSequence, firstOf, timedSequence, Prepared
 use Rattle.pictures.specs.declared.settings.Settings.{Settings}
 use Rattle.pictures.specs.Assemble.{Outcome, stopped, made, andAlso, inSegment, sameHeaders, headerObu, prepareAll, pictureOf}
 use Rattle.pictures.specs.Sizes.{sizedAll, ranged}
-use Rattle.pictures.specs.Flat.{allSegments, laterSegments, firstSequence, renewing, answerOr, allPrepared, capped, measured}
+use Rattle.pictures.specs.Flat.{allSegments, laterSegments, firstSequence, renewing, answerOr, allPrepared, measured}
 use Rattle.assemble.specs.code.Stages.{Going, going, WasRead, fromPictures, fromTiming, fromHeader, fromKey, checked, planned, headerIn, planSays, noPlan}
 use Rattle.pictures.specs.code.Rewrite.{obuIn}
 use Rattle.assemble.specs.declared.plan.Basis.{Basis}

@@ -11,7 +11,7 @@ use borrow.Author.Tests.{ltb-false, eqb-false}
 use Rattle.header.specs.Support.{supportedSequence}
 use Rattle.blocks.proofs.NumberLaws.{frames-length}
 use Rattle.bitio.specs.Parse.{Answer, refused, accepted, andNext, onto}
-use Rattle.bitio.specs.Limits.{limit}
+use Rattle.bitio.specs.Limits.{limit, capped}
 use Rattle.obu.specs.Obu.{obus}
 use Rattle.blocks.specs.Blocks.{total}
 use Rattle.blocks.specs.Numbers.{headKey, headFrames, headInside, rest, segmentCount, isWhole, recordsFrom, framesIn}
@@ -20,7 +20,7 @@ use Rattle.pictures.specs.Prepare.{effective, renewal}
 use Rattle.pictures.specs.declared.settings.Settings.{Settings}
 use Rattle.pictures.specs.Assemble.{Outcome, stopped, made, andAlso, verdict, inSegment, overall, noneEmpty, sizes, sameHeaders, headerObu, prepareAll, pictureOf, Output, outputOf, OutputRoom, assembled, fitted, assemble}
 use Rattle.pictures.specs.Sizes.{sizedAll, ranged}
-use Rattle.pictures.specs.Flat.{allSegments, laterSegments, firstSequence, capped}
+use Rattle.pictures.specs.Flat.{allSegments, laterSegments, firstSequence}
 use Rattle.assemble.specs.code.Stages.{Going, going, fromTiming, fromHeader, fromKey, checked, planned}
 
 -- ---- accepted segments are those of the flat numbers

@@ -6,7 +6,7 @@ use mathlib.Core.List.{List, map, flatMap}
 use mathlib.Core.Bool.{Bool, true, false, cond as pick}
 use mathlib.Core.Option.{Option, none, some}
 use lib.ListN.{length}
-use Rattle.bitio.specs.Limits.{limit}
+use Rattle.bitio.specs.Limits.{limit, capped}
 use Rattle.bitio.specs.Lent.{pasted}
 use Rattle.header.specs.Sequence.{Sequence, sequenceOf}
 use Rattle.header.specs.declared.seq_header.OperatingPoint.{OperatingPoint}
@@ -17,7 +17,7 @@ use Rattle.pictures.specs.Segments.{segmentIn}
 use Rattle.pictures.specs.Prepare.{Prepared, showUnit}
 use Rattle.pictures.specs.declared.settings.Settings.{Settings}
 use Rattle.pictures.specs.Assemble.{Outcome, stopped, made, andAlso, pictureOf, endsFrom, showsOf, firstSlot, Output, outputOf, OutputRoom, outputFits, fitted}
-use Rattle.pictures.specs.Flat.{allSegments, judged, answerOr, allPrepared, allSent, slotsOf, capped}
+use Rattle.pictures.specs.Flat.{allSegments, judged, answerOr, allPrepared, allSent, slotsOf}
 use Rattle.assemble.specs.Whole.{counts, countsOf, assembledSays, Lent, outcome, lentAfter, Handed}
 use Rattle.assemble.specs.code.Stages.{Going, planned, headerIn, newIn, basisSays, answerSays, planSays, needed, fitsIn, roomFor}
 use Rattle.assemble.specs.declared.multi.Counts.{Counts}

@@ -1,6 +1,7 @@
 // The lesser of two numbers, and their sum as far as a usize counts.
 ghost use mathlib.Core.Path.{_≡_};
-ghost use Prim.Native.Nat.{_+_, _-_, _^_, min};
+ghost use Prim.Native.Nat.{_+_, min};
+ghost use Rattle.bitio.specs.Limits.{capped};
 
 pub fn least(a: usize, b: usize) -> usize
     ensures { λ r. ⌜ r ≡ min a b ⌝ }
@@ -10,7 +11,7 @@ pub fn least(a: usize, b: usize) -> usize
 
 // The sum, or the greatest usize where it is more.
 pub fn plus(a: usize, b: usize) -> usize
-    ensures { λ r. ⌜ r ≡ min (a + b) (2 ^ 64 - 1) ⌝ }
+    ensures { λ r. ⌜ r ≡ capped (a + b) ⌝ }
 {
     if 0xffff_ffff_ffff_ffff - a < b {
         return 0xffff_ffff_ffff_ffff;

@@ -1,10 +1,11 @@
 // One OBU in document 01's written form.
 ghost use mathlib.Core.Path.{_≡_};
-ghost use Prim.Native.Nat.{_+_, _-_, _^_, _≤_, _<_, min};
+ghost use Prim.Native.Nat.{_+_, _≤_, _<_};
 ghost use lib.ListN.{length};
 ghost use mathlib.Core.Bool.{true};
 ghost use Rattle.bitio.specs.Leb.{lebBytes};
 ghost use Rattle.bitio.specs.Lent.{pasted};
+ghost use Rattle.bitio.specs.Limits.{capped};
 ghost use Rattle.obu.specs.Obu.{passes, header, extBytes, obuBytes};
 ghost use Rattle.obu.specs.Place.{extensionSays};
 ghost use Rattle.obu.specs.Write.{obuLength, obu, obuPlaced, obuLent, obuPutSays};
@@ -40,7 +41,7 @@ fn head_len(extension: Extension, size: usize) -> usize
 
 // How many bytes an OBU with a payload of size bytes has, as far as a usize counts them.
 pub fn obu_len(extension: Extension, size: usize) -> usize
-    ensures { λ r. ⌜ r ≡ min (obuLength (extensionSays extension) size) (2 ^ 64 - 1) ⌝ }
+    ensures { λ r. ⌜ r ≡ capped (obuLength (extensionSays extension) size) ⌝ }
 {
     plus(head_len(extension, size), size)
 }

@@ -1,5 +1,5 @@
 -- Laws of all output packets, measured and written.
-use Prim.Native.Nat.{ℕ, _+_, _≤_, _<_, min}
+use Prim.Native.Nat.{ℕ, _+_, _≤_, _<_}
 use native.Mathlib.Omega.{arith}
 use mathlib.Core.Path.{_≡_, refl, sym, ap, ap₂, _∙_}
 use mathlib.Core.List.{List, [], _∷_, _++_, append-assoc, append-nil, map-append}
@@ -11,7 +11,7 @@ use borrow.Author.Tests.{lt-ltb, le-ltb, ltb-true, ltb-false}
 use Rattle.bitio.specs.Lent.{pasted, Wrote}
 use Rattle.bitio.proofs.LentLaws.{pasted-nil, pasted-set, wrote-length, wrote-more}
 use Rattle.bitio.specs.Every.Every.{nothing, also}
-use Rattle.bitio.specs.Limits.{limit}
+use Rattle.bitio.specs.Limits.{limit, capped}
 use Rattle.container.specs.Stream.{flat, streamBytes}
 use Rattle.container.proofs.StreamLaws.{flat-append}
 use Rattle.container.proofs.ListLaws.{ends-length, ends-more}
@@ -19,7 +19,7 @@ use Rattle.packets.specs.Packets.{Packet, alone, mergePackets}
 use Rattle.container.specs.Units.{endsOf}
 use Rattle.packets.specs.PacketLists.{bytesOf, timesOf}
 use Rattle.bitio.specs.Every.{Every}
-use Rattle.packets.specs.code.PacketRuns.{listed, piece, most, Parses, Waits, Next, Piece, PieceRoom, packetsOf, mergedOf, Totals, Closing, MergeRoom, Ready, WroteMerged}
+use Rattle.packets.specs.code.PacketRuns.{listed, piece, Parses, Waits, Next, Piece, PieceRoom, packetsOf, mergedOf, Totals, Closing, MergeRoom, Ready, WroteMerged}
 use Rattle.packets.proofs.PacketListLaws.{listed-length, packets-bytes, packets-times, packets-short}
 use Rattle.packets.proofs.PacketSteps.{size, step-more, step-last}
 
@@ -198,7 +198,7 @@ module _ {s es ts : List ℕ} {first at : ℕ} {done : List Packet} (m : Done s 
 pub record Measuring (s es ts : List ℕ) (first at n u : ℕ) : Type 0 where
   pub done : List Packet
   pub state : Done s es ts first at done
-  pub sum : n ≡ min (length (streamBytes (bytesOf done))) most
+  pub sum : n ≡ capped (length (streamBytes (bytesOf done)))
   pub count : u ≡ length done
 
 pub measure-start : {s es ts : List ℕ} {c : ℕ} → Closing s es ts c → Measuring s es ts 0 c 0 0
@@ -212,7 +212,7 @@ module _ {s es ts : List ℕ} {first at n u : ℕ} (m : Measuring s es ts first 
       record { bytes = rw e (m .sum); count = rw e (m .count) }
 
   module _ (l : first < length ts) {d b : ℕ} (x : Next (listed s es) (at + 1) d) (e : b ≡ pick (ltb d (length ts)) (at + 1) (length ts)) where
-    pub measure-next : {k r : ℕ} → k ≡ min (length (piece (listed s es) first at b)) most → r ≡ min (n + k) most → Measuring s es ts b d r (u + 1)
+    pub measure-next : {k r : ℕ} → k ≡ capped (length (piece (listed s es) first at b)) → r ≡ capped (n + k) → Measuring s es ts b d r (u + 1)
     measure-next p q =
         let y = sent (m .state) l x e in
         record {

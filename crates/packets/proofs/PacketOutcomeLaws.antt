@@ -1,5 +1,5 @@
 -- Laws of merge_frameless_packets: its outcomes.
-use Prim.Native.Nat.{ℕ, _+_, _≤_, _<_, min}
+use Prim.Native.Nat.{ℕ, _+_, _≤_, _<_}
 use native.Mathlib.Omega.{arith}
 use mathlib.Core.Path.{_≡_, sym, ap, ap₂, _∙_}
 use mathlib.Core.List.{List, [], _∷_, append-nil}
@@ -11,7 +11,7 @@ use Rattle.bitio.specs.Parse.{refused, accepted, answer, andNext}
 use Rattle.bitio.proofs.LentLaws.{pasted-nil, pasted-one}
 use Rattle.bitio.proofs.ParseLaws.{and-both}
 use Rattle.obu.specs.Obu.{unitBytes}
-use Rattle.bitio.specs.Limits.{limit}
+use Rattle.bitio.specs.Limits.{limit, capped}
 use Rattle.container.specs.Lists.{accepts}
 use Rattle.container.specs.Stream.{flat, streamBytes}
 use Rattle.packets.specs.Packets.{Packet}
@@ -20,8 +20,8 @@ use Rattle.container.specs.Units.{unitsAt, endsOf, sizesOf, bytesAfter, endsAft
 use Rattle.packets.specs.declared.packets.Merged.{Merged}
 use Rattle.packets.specs.declared.packets.Merged.the-variants.{Packets, Refused}
 use Rattle.packets.specs.PacketLists.{packetsAt, bytesOf, timesOf, PacketRoom, lentRoom, fitsPackets, fitPackets, mergedAt, timesAfter, mergedSays}
-use Rattle.packets.specs.code.PacketRuns.{listed, allParsed, most, Next, Full, Run, RunRoom, packetsOf, mergedOf, Totals, Closing, MergeRoom, WroteMerged, Given, None, Some, Outcome}
-use Rattle.packets.proofs.RoomLaws.{fits-most}
+use Rattle.packets.specs.code.PacketRuns.{listed, allParsed, Next, Full, Run, RunRoom, packetsOf, mergedOf, Totals, Closing, MergeRoom, WroteMerged, Given, None, Some, Outcome}
+use Rattle.packets.proofs.RoomLaws.{fits-capped}
 use Rattle.packets.proofs.SliceLaws.{slice-rest}
 use Rattle.packets.proofs.PacketListLaws.{listed-length, packets-bytes, packets-times, packets-unmatched, packets-wrong, packets-there}
 use Rattle.packets.proofs.PacketSteps.{size, alone-some, alone-none}
@@ -30,8 +30,8 @@ use Rattle.packets.proofs.PacketMergeLaws.{bytes-length, all-parse}
 
 -- ---- room
 
-packets-most : (x u : ℕ) (room : PacketRoom) → fitsPackets (min x most) u room ≡ fitsPackets x u room
-packets-most x u room = ap (λ b. b && leb u (room .times)) (fits-most x u (record { bytes = room .bytes; ends = room .ends }))
+packets-capped : (x u : ℕ) (room : PacketRoom) → fitsPackets (capped x) u room ≡ fitsPackets x u room
+packets-capped x u room = ap (λ b. b && leb u (room .times)) (fits-capped x u (record { bytes = room .bytes; ends = room .ends }))
 
 record Fits (n u : ℕ) (room : PacketRoom) : Type 0 where
   small : n ≤ limit
@@ -84,7 +84,7 @@ module _ (s es ts o e t : List ℕ) where
       total = length (streamBytes (bytesOf (mergedOf s es ts)))
 
       same-fit : fitsPackets n u (lentRoom o e t) ≡ fitsPackets total (length (mergedOf s es ts)) (lentRoom o e t)
-      same-fit = ap₂ (λ x y. fitsPackets x y (lentRoom o e t)) (z .bytes) (z .count) ∙ packets-most total (length (mergedOf s es ts)) (lentRoom o e t)
+      same-fit = ap₂ (λ x y. fitsPackets x y (lentRoom o e t)) (z .bytes) (z .count) ∙ packets-capped total (length (mergedOf s es ts)) (lentRoom o e t)
 
       pub out-full : fitsPackets n u (lentRoom o e t) ≡ false → Outcome s es ts o e t (Refused 35) o e t
       out-full f = refuse 35 (at-fit ∙ rw (sym same-fit ∙ f))
@@ -175,7 +175,7 @@ module _ (s es ts : List ℕ) (g : None s es ts) where
       unfolding bytesOf streamBytes flat
       one-bytes = ap (λ x. streamBytes (bytesOf x)) merged-one ∙ append-nil (unitBytes (allParsed (listed s es))) ∙ sym whole
 
-      pub one-totals : {n : ℕ} → n ≡ min (length (runBytes true (listed s es) 0 (length ts))) most → Totals s es ts n 1
+      pub one-totals : {n : ℕ} → n ≡ capped (length (runBytes true (listed s es) 0 (length ts))) → Totals s es ts n 1
       one-totals p = record { bytes = rw one-bytes p; count = rw merged-one }
 
       pub one-room : {o e t : List ℕ} → MergeRoom s es ts o e t → RunRoom s es 0 (length ts) true o 0

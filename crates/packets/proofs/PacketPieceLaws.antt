@@ -1,5 +1,5 @@
 -- Laws of one output packet, measured and written.
-use Prim.Native.Nat.{ℕ, _+_, _≤_, _<_, min}
+use Prim.Native.Nat.{ℕ, _+_, _≤_, _<_}
 use native.Mathlib.Omega.{arith}
 use mathlib.Core.Path.{_≡_, refl, ap, _∙_}
 use mathlib.Core.List.{List, [], _∷_, _++_}
@@ -14,12 +14,12 @@ use Rattle.bitio.proofs.LentLaws.{wrote-length, wrote-more}
 use Rattle.obu.specs.Obu.{Obu, obus}
 use Rattle.obu.specs.Unit.{count, ofUnit}
 use Rattle.obu.proofs.ObuLaws.{obus-nil}
-use Rattle.bitio.specs.Limits.{limit}
+use Rattle.bitio.specs.Limits.{limit, capped}
 use Rattle.container.specs.Stream.{lead, others, either}
 use Rattle.container.specs.code.Ranges.{Range, here, more, keptBytes, Ranged, Measured, Roomy, WroteKept}
 use Rattle.container.proofs.StreamLaws.{bytes-append}
 use Rattle.container.proofs.RangeLaws.{range-end}
-use Rattle.packets.specs.code.PacketRuns.{listed, unitOf, allParsed, parsed, leadOf, piece, most, Parses, Full, Run, RunRoom, HeadAt, found, missing, LeadAt, waiting, closing, behind, parsesUnit, Piece, Joins}
+use Rattle.packets.specs.code.PacketRuns.{listed, unitOf, allParsed, parsed, leadOf, piece, Parses, Full, Run, RunRoom, HeadAt, found, missing, LeadAt, waiting, closing, behind, parsesUnit, Piece, Joins}
 use Rattle.packets.proofs.SliceLaws.{slice-at, every-or}
 use Rattle.packets.proofs.PacketListLaws.{listed-length, listed-out, listed-short}
 use Rattle.packets.proofs.PacketSteps.{first-obu, lead-found, lead-missing}
@@ -180,8 +180,8 @@ module _ (s es : List ℕ) (a c b : ℕ) (j : Joins s es a c b) where
     split-length : length (piece (listed s es) a c b) ≡ length (keptBytes true (leadOf (unitOf s es i))) + length (runBytes false (listed s es) a b)
     split-length = ap length split ∙ length-append (keptBytes true (leadOf (unitOf s es i))) (runBytes false (listed s es) a b)
 
-    pub joined-size : {m n k : ℕ} → m ≡ length (keptBytes true (leadOf (unitOf s es i))) → n ≡ min (length (runBytes false (listed s es) a b)) most → k ≡ min (m + n) most
-        → k ≡ min (length (piece (listed s es) a c b)) most
+    pub joined-size : {m n k : ℕ} → m ≡ length (keptBytes true (leadOf (unitOf s es i))) → n ≡ capped (length (runBytes false (listed s es) a b)) → k ≡ capped (m + n)
+        → k ≡ capped (length (piece (listed s es) a c b))
     joined-size p q r = omega (arith, split-length)
 
     pub joined-head : (d : List ℕ) (to : ℕ) → to + length (piece (listed s es) a c b) ≤ length d → to + length (keptBytes true (leadOf (unitOf s es i))) ≤ length d
@@ -214,8 +214,8 @@ module _ (s es : List ℕ) (a c b : ℕ) (j : Piece s es a c b) (k : ℕ) (bad :
   apart-length : length (piece (listed s es) a c b) ≡ length front + (length (unitOf s es c) + length back)
   apart-length = ap length apart ∙ length-append front (unitOf s es c ++ back) ∙ ap (λ n. length front + n) (length-append (unitOf s es c) back)
 
-  pub apart-size : {m n x y r : ℕ} → m ≡ min (length front) most → n ≡ length (unitOf s es c) → x ≡ min (m + n) most → y ≡ min (length back) most → r ≡ min (x + y) most
-      → r ≡ min (length (piece (listed s es) a c b)) most
+  pub apart-size : {m n x y r : ℕ} → m ≡ capped (length front) → n ≡ length (unitOf s es c) → x ≡ capped (m + n) → y ≡ capped (length back) → r ≡ capped (x + y)
+      → r ≡ capped (length (piece (listed s es) a c b))
   apart-size p q u v w = omega (arith, apart-length)
 
   module _ {d : List ℕ} {to : ℕ} (room : to + length (piece (listed s es) a c b) ≤ length d) where

@@ -1,5 +1,5 @@
 -- Laws of runs of packets, measured and written.
-use Prim.Native.Nat.{ℕ, _+_, _≤_, _<_, min}
+use Prim.Native.Nat.{ℕ, _+_, _≤_, _<_}
 use native.Mathlib.Omega.{arith}
 use mathlib.Core.Path.{_≡_, refl, sym, ap, ap₂, _∙_}
 use mathlib.Core.List.{List, [], _∷_, _++_, append-assoc, append-nil}
@@ -19,13 +19,13 @@ use Rattle.obu.proofs.reader.ObuAt.{the-type}
 use Rattle.obu.specs.declared.reader.ObuAt.{ObuAt}
 use Rattle.obu.specs.declared.reader.ObuAt.the-variants.{Found, End, Refused}
 use Rattle.obu.proofs.PlaceLaws.{Placed}
-use Rattle.bitio.specs.Limits.{limit}
+use Rattle.bitio.specs.Limits.{limit, capped}
 use Rattle.obu.specs.Unit.{isDelimiter}
 use Rattle.container.specs.Stream.{others}
 use Rattle.container.specs.code.Ranges.{Range, here, keptBytes, Ranged, Measured, Roomy, WroteKept}
 use Rattle.container.proofs.StreamLaws.{bytes-append}
 use Rattle.container.proofs.RangeLaws.{placed-step, range-one, range-whole, kept-nil}
-use Rattle.packets.specs.code.PacketRuns.{listed, unitOf, allParsed, parsed, leadAt, leadOf, most, Parses, Run}
+use Rattle.packets.specs.code.PacketRuns.{listed, unitOf, allParsed, parsed, leadAt, leadOf, Parses, Run}
 use Rattle.packets.proofs.SliceLaws.{slice-more, slice-join, slice-at, every-at, every-seam}
 use Rattle.container.proofs.LeadLaws.{others-append}
 use Rattle.packets.proofs.PacketListLaws.{listed-length, listed-short}
@@ -123,8 +123,8 @@ module _ {s es : List ℕ} {a b : ℕ} (r : Run s es a b) (i : ℕ) (h : a ≤ i
     more-length : (keep : Bool) → length (runBytes keep us a (i + 1)) ≡ length (runBytes keep us a i) + length (keptBytes keep (run-parses .os))
     more-length keep = ap length (more-bytes keep) ∙ length-append (runBytes keep us a i) (keptBytes keep (run-parses .os))
 
-    pub run-turn : (keep : Bool) {n m k : ℕ} → n ≡ min (length (runBytes keep us a i)) most → Measured u 0 (length u) keep m → k ≡ min (n + m) most
-        → k ≡ min (length (runBytes keep us a (i + 1))) most
+    pub run-turn : (keep : Bool) {n m k : ℕ} → n ≡ capped (length (runBytes keep us a i)) → Measured u 0 (length u) keep m → k ≡ capped (n + m)
+        → k ≡ capped (length (runBytes keep us a (i + 1)))
     run-turn keep {n} {m} {k} p f e = omega (arith, more-length keep, f (run-parses .os) range)
 
     module _ (keep : Bool) {d o : List ℕ} {to w : ℕ} (room : to + length (runBytes keep us a b) ≤ length d) (x : Wrote d to (runBytes keep us a i) w o) where
@@ -160,7 +160,7 @@ run-start keep us a d to =
     rw (run-none keep us a) (record { next = omega arith; out = sym (pasted-nil d to) })
 
 -- all is measured, all is written
-pub run-done : (keep : Bool) (us : List (List ℕ)) (a i b : ℕ) {n : ℕ} → i ≡ b → n ≡ min (length (runBytes keep us a i)) most → n ≡ min (length (runBytes keep us a b)) most
+pub run-done : (keep : Bool) (us : List (List ℕ)) (a i b : ℕ) {n : ℕ} → i ≡ b → n ≡ capped (length (runBytes keep us a i)) → n ≡ capped (length (runBytes keep us a b))
 run-done keep us a i b e p = rw (← e) p
 
 pub run-wrote-all : (keep : Bool) (us : List (List ℕ)) (a i b : ℕ) {to w : ℕ} {d o : List ℕ} → i ≡ b → Wrote d to (runBytes keep us a i) w o → Wrote d to (runBytes keep us a b) w o

@@ -1,5 +1,5 @@
 -- Laws of the picture bytes measured one segment after the other.
-use Prim.Native.Nat.{ℕ, suc, _+_, _≤_, _<_, min}
+use Prim.Native.Nat.{ℕ, suc, _+_, _-_, _^_, _≤_, _<_}
 use native.Mathlib.Omega.{arith}
 use native.Mathlib.Numerals.{add-one}
 use mathlib.Core.Path.{_≡_, refl, sym, ap, _∙_}
@@ -8,17 +8,17 @@ use mathlib.Core.Bool.{Bool}
 use mathlib.Core.Option.{some}
 use lib.ListN.{length, length-append}
 use Rattle.bitio.specs.Parse.{Answer, refused, accepted, answer, andNext}
+use Rattle.bitio.specs.Limits.{capped}
 use Rattle.header.specs.Sequence.{Sequence}
 use Rattle.blocks.specs.Numbers.{segmentCount, keyAt, goldenAt, framesAt}
 use Rattle.pictures.specs.Segments.{Segment}
 use Rattle.pictures.specs.Prepare.{Prepared}
 use Rattle.pictures.specs.Assemble.{Outcome, stopped, made, andAlso, inSegment, prepareAll, pictureOf}
-use Rattle.pictures.specs.Flat.{allSegments, judged, renewing, sentBytes, capped, measured, measuredUnits}
+use Rattle.pictures.specs.Flat.{allSegments, judged, renewing, sentBytes, measured, measuredUnits}
 use Rattle.pictures.specs.Says.{measuredSays}
 use Rattle.pictures.specs.declared.pictures.Measured.{Measured}
 use Rattle.pictures.specs.declared.pictures.Measured.the-variants.{Bytes, RefusedIn}
 use Rattle.pictures.proofs.JudgeLaws.{prepare-judged}
-use Rattle.pictures.proofs.SizeLaws.{most}
 use Rattle.pictures.proofs.SegmentLaws.{segmentsBehind, segments-start, segments-end, segments-next}
 
 also-same : {A B : Type 0} (o : Outcome A) (f g : A → Outcome B) → ((a : A) → f a ≡ g a) → andAlso o f ≡ andAlso o g
@@ -65,10 +65,10 @@ unfolding inSegment
 units-refused q rewriting new k g i n e = rw e
 
 pub units-counted : (q : Sequence) (rewriting : Bool) (new k g : List ℕ) (i slot : ℕ) {x y r : ℕ} → judged q rewriting k g ≡ accepted slot
-    → x ≡ capped (length (sentBytes rewriting new k)) → y ≡ capped (length (sentBytes rewriting new g)) → r ≡ min (x + y) most → made r ≡ inSegment i (measuredUnits q rewriting new k g)
+    → x ≡ capped (length (sentBytes rewriting new k)) → y ≡ capped (length (sentBytes rewriting new g)) → r ≡ capped (x + y) → made r ≡ inSegment i (measuredUnits q rewriting new k g)
 unfolding inSegment
 units-counted q rewriting new k g i slot {x} {y} e a b c =
-    let w : capped (length (sentBytes rewriting new k) + length (sentBytes rewriting new g)) ≡ min (x + y) most = omega arith in
+    let w : capped (length (sentBytes rewriting new k) + length (sentBytes rewriting new g)) ≡ capped (x + y) = omega arith in
     rw e (ap made (c ∙ sym w))
 
 -- what an answer says of the segment's own
@@ -93,7 +93,7 @@ goes i unitsSize (accepted k) o m n w e =
 -- `sum` is the saturated sum of i segments
 pub record Measuring (q : Sequence) (rewriting : Bool) (new s rs : List ℕ) (i sum : ℕ) : Type 0 where
   pub within : i ≤ segmentCount rs
-  pub small : sum ≤ most
+  pub small : sum ≤ 2 ^ 64 - 1
   pub whole : measured q rewriting new (allSegments s rs) ≡ countedFrom q rewriting new i (segmentsBehind s rs i) sum
 
 pub measure-start : (q : Sequence) (rewriting : Bool) (new s rs : List ℕ) → Measuring q rewriting new s rs 0 0
@@ -126,7 +126,7 @@ module _ {q : Sequence} {rewriting : Bool} {new s rs : List ℕ} {i sum : ℕ} (
     pub measure-stop : (k j : ℕ) → m ≡ RefusedIn k j → measuredSays m ≡ measured q rewriting new (allSegments s rs)
     measure-stop k j w = stays i (λ _. capped unitsSize) (judged q rewriting key golden) _ m k j w says ∙ sym measure-here
 
-    pub measure-turn : (n sum′ : ℕ) → m ≡ Bytes n → sum′ ≡ min (sum + n) most → Measuring q rewriting new s rs (i + 1) sum′
+    pub measure-turn : (n sum′ : ℕ) → m ≡ Bytes n → sum′ ≡ capped (sum + n) → Measuring q rewriting new s rs (i + 1) sum′
     measure-turn n sum′ w e =
         let t = goes i (capped unitsSize) (judged q rewriting key golden) (countedFrom q rewriting new (suc i) (segmentsBehind s rs (i + 1)) (sum + unitsSize)) m n w says in
         let c : (bs : List Prepared) → made (capped (sum + unitsSize + length (pictureOf bs))) ≡ made (capped (sum′ + length (pictureOf bs))) = λ bs. ap made (omega (arith, t .0, e, r .small)) in

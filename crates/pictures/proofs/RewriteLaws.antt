@@ -1,5 +1,5 @@
 -- Laws of units with their sequence headers replaced, measured and written: one OBU more.
-use Prim.Native.Nat.{ℕ, _+_, _≤_, min}
+use Prim.Native.Nat.{ℕ, _+_, _≤_}
 use native.Mathlib.Omega.{arith}
 use mathlib.Core.Path.{_≡_, refl, sym, ap, ap₂, _∙_}
 use mathlib.Core.List.{List, [], _∷_, _++_, flatMap, append-nil, append-assoc}
@@ -9,6 +9,7 @@ use lib.ListN.{length, drop, length-append}
 use Rattle.bitio.specs.Parse.{Answer, refused, accepted}
 use Rattle.bitio.specs.Lent.{pasted}
 use Rattle.bitio.proofs.LentLaws.{pasted-nil, pasted-more, pasted-length}
+use Rattle.bitio.specs.Limits.{capped}
 use Rattle.obu.specs.Obu.{Obu, passes, obus, obuBytes, unitBytes}
 use Rattle.obu.specs.Place.{wrong, noMore, obuPlace, part}
 use Rattle.obu.specs.Write.{obu}
@@ -16,7 +17,7 @@ use Rattle.obu.proofs.ObuLaws.{infront}
 use Rattle.obu.proofs.PlaceLaws.{IsPlaced, Walked, walk-start, walk-next, walk-end, walk-stop, part-placed}
 use Rattle.pictures.specs.Prepare.{isSequence, renewed}
 use Rattle.pictures.specs.Assemble.{verdict}
-use Rattle.pictures.specs.Flat.{readable, capped}
+use Rattle.pictures.specs.Flat.{readable}
 use Rattle.pictures.specs.code.Rewrite.{renewedBytes, rewritten}
 
 -- ---- the bytes of one OBU after the other
@@ -69,7 +70,7 @@ size-start s new = record { front = []; walked = walk-start s; size = ap (λ (l 
 
 module _ {s new : List ℕ} {at n : ℕ} (m : Sizing s new at n) where
   pub size-next : {t : ℕ} {e : Option ℕ} {a b : ℕ} (g : IsPlaced s at t e a b) (k r : ℕ) → k ≡ capped (length (obuBytes (renewed new (record { type = t; ext = e; payload = part s a b }))))
-      → r ≡ min (n + k) 18446744073709551615 → Sizing s new b r
+      → r ≡ capped (n + k) → Sizing s new b r
   size-next g k r h e =
       let h′ : k ≡ capped (length (obuBytes (renewed new (g .obu)))) = h ∙ ap (λ (o : Obu). capped (length (obuBytes (renewed new o)))) (found-is g) in
       record {

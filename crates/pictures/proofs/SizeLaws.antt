@@ -1,5 +1,5 @@
 -- Laws of the frames ordered: their saturated total, the first segment without frames, and the refusals in their order.
-use Prim.Native.Nat.{ℕ, suc, _+_, _≤_, _<_, min}
+use Prim.Native.Nat.{ℕ, suc, _+_, _-_, _^_, _≤_, _<_}
 use native.Mathlib.Omega.{arith}
 use mathlib.Core.Path.{_≡_, refl, sym, ap, _∙_}
 use mathlib.Core.List.{List, [], _∷_, map}
@@ -8,6 +8,7 @@ use mathlib.Core.Option.{none, some}
 use lib.ListN.{length}
 use lib.Dec.{eqb}
 use borrow.Author.Tests.{lt-ltb, le-ltb, eq-eqb, ne-eqb}
+use Rattle.bitio.specs.Limits.{capped}
 use Rattle.blocks.specs.Blocks.{total}
 use Rattle.blocks.specs.Numbers.{headFrames, segmentCount, recordsBehind, framesAt, framesIn}
 use Rattle.pictures.specs.Assemble.{stopped, made, andAlso, noneEmpty, sizes}
@@ -26,9 +27,6 @@ more-behind rs i h = ap (map headFrames) (behind-more rs i h)
 
 -- ---- the total
 
-abbrev pub most : ℕ
-most = 18446744073709551615
-
 total-none : total [] ≡ 0
 unfolding total
 total-none = refl
@@ -40,18 +38,18 @@ total-more n ns = refl
 -- `sum` is the saturated sum of i segments
 pub record Summing (rs : List ℕ) (i sum : ℕ) : Type 0 where
   pub within : i ≤ segmentCount rs
-  pub small : sum ≤ most
-  pub whole : min (sum + total (framesBehind rs i)) most ≡ min (total (framesIn rs)) most
+  pub small : sum ≤ 2 ^ 64 - 1
+  pub whole : capped (sum + total (framesBehind rs i)) ≡ capped (total (framesIn rs))
 
 pub sum-start : (rs : List ℕ) → Summing rs 0 0
 sum-start rs = let e = ap (λ (l : List (List ℕ)). total (map headFrames l)) (behind-start rs) in record { within = omega arith; small = omega arith; whole = omega arith }
 
-pub sum-end : {rs : List ℕ} {i sum : ℕ} → Summing rs i sum → segmentCount rs ≤ i → sum ≡ min (total (framesIn rs)) most
+pub sum-end : {rs : List ℕ} {i sum : ℕ} → Summing rs i sum → segmentCount rs ≤ i → sum ≡ capped (total (framesIn rs))
 sum-end {rs} {i} s h =
     let e = ap total (none-behind rs i h) ∙ total-none in
     omega (arith, s .whole, s .small)
 
-pub sum-turn : {rs : List ℕ} {i sum : ℕ} (r : ℕ) → Summing rs i sum → i < segmentCount rs → r ≡ min (sum + framesAt rs i) most → Summing rs (i + 1) r
+pub sum-turn : {rs : List ℕ} {i sum : ℕ} (r : ℕ) → Summing rs i sum → i < segmentCount rs → r ≡ capped (sum + framesAt rs i) → Summing rs (i + 1) r
 sum-turn {rs} {i} r s h w =
     let e = ap total (more-behind rs i h) ∙ total-more (framesAt rs i) (framesBehind rs (i + 1)) in
     record { within = omega arith; small = omega arith; whole = omega (arith, s .whole, s .small) }
@@ -131,7 +129,7 @@ module _ (gop : ℕ) (rs : List ℕ) (some-there : segmentCount rs ≡ 0 → ⊥
   unfolding sizes
   refused-22 h = sym (sized-there ∙ rw (lt-ltb gop 2 h))
 
-  module _ (g : 2 ≤ gop) (t : ℕ) (sum : t ≡ min (total (framesIn rs)) most) where
+  module _ (g : 2 ≤ gop) (t : ℕ) (sum : t ≡ capped (total (framesIn rs))) where
     pub refused-23 : t < 2 → stopped 23 none ≡ sizedAll gop (framesIn rs)
     unfolding sizes
     refused-23 h = sym (sized-there ∙ rw (le-ltb gop 2 g, lt-ltb (total (framesIn rs)) 2 (omega arith)))

@@ -1,10 +1,11 @@
 -- The parts of assembly on the flat numbers of the segments, once their ranges are known to lie within the picture bytes.
-use Prim.Native.Nat.{ℕ, _+_, _-_, _^_, min}
+use Prim.Native.Nat.{ℕ, _+_}
 use mathlib.Core.List.{List, [], map}
 use mathlib.Core.Bool.{Bool, cond as pick}
 use mathlib.Core.Option.{Option, none, some}
 use lib.ListN.{length}
 use Rattle.bitio.specs.Parse.{Answer, refused, accepted, answer, andNext}
+use Rattle.bitio.specs.Limits.{capped}
 use Rattle.obu.specs.Obu.{Obu, obus}
 use Rattle.obu.specs.Unit.{isKind, count}
 use Rattle.obu.specs.declared.unit.Kind.the-variants.{Any}
@@ -87,10 +88,6 @@ allSent rewriting new xs = map (sentOf rewriting new) xs
 -- the slots that the show units of the segments name; 0 for a segment that is refused
 abbrev pub slotsOf : Sequence → Bool → List Segment → List ℕ
 slotsOf q rewriting xs = map (λ x. answerOr 0 (judged q rewriting (x .key) (x .golden))) xs
-
--- a count as far as a usize counts
-abbrev pub capped : ℕ → ℕ
-capped n = min n (2 ^ 64 - 1)
 
 -- how many picture bytes there are, or the first refusal
 abbrev pub measured : Sequence → Bool → List ℕ → List Segment → Outcome ℕ

@@ -1,6 +1,7 @@
 // The frames ordered and the ranges of the segments, judged over their flat numbers.
 ghost use mathlib.Core.Path.{_≡_};
-ghost use Prim.Native.Nat.{_+_, min};
+ghost use Prim.Native.Nat.{_+_};
+ghost use Rattle.bitio.specs.Limits.{capped};
 ghost use Rattle.blocks.specs.Blocks.{total};
 ghost use Rattle.blocks.specs.Numbers.{framesIn};
 ghost use Rattle.pictures.specs.Sizes.{checkedSays, sizedAll, filledFirst, ranged};
@@ -20,7 +21,7 @@ pub enum Checked {
 
 // The frames ordered, saturating.
 pub fn total_frames(segments: &[u64]) -> u64
-    ensures { λ r. ⌜ r ≡ min (total (framesIn (now (segments .entry)))) 18446744073709551615 ⌝ }
+    ensures { λ r. ⌜ r ≡ capped (total (framesIn (now (segments .entry)))) ⌝ }
 {
     let count = segment_count(segments);
     let mut i: usize = 0;

@@ -1,5 +1,5 @@
 -- Laws of the units of a list, measured and then gathered in lent memory.
-use Prim.Native.Nat.{ℕ, suc, _+_, _≤_, _<_, min}
+use Prim.Native.Nat.{ℕ, suc, _+_, _-_, _^_, _≤_, _<_}
 use native.Mathlib.Omega.{arith}
 use native.Mathlib.Numerals.{add-one}
 use mathlib.Core.Path.{_≡_, refl, sym, ap, ap₂, _∙_}
@@ -9,7 +9,7 @@ use lib.ListN.{length, getD, drop, set, length-append, length-map, length-set, d
 use lib.Seq.{drop-cons}
 use lib.Dec.{leb}
 use borrow.Author.Tests.{lt-leb, leb-true, leb-false}
-use Rattle.bitio.specs.Limits.{limit}
+use Rattle.bitio.specs.Limits.{limit, capped}
 use Rattle.bitio.specs.Parse.{Answer, refused, accepted}
 use Rattle.bitio.specs.Lent.{pasted}
 use Rattle.bitio.proofs.LentLaws.{pasted-nil, pasted-one, pasted-more, pasted-length}
@@ -43,8 +43,8 @@ module _ (l p e s : List ℕ) where
 
 -- us are all units, rest those not yet measured, n the bytes of the others
 pub record Measuring (us rest : List (List ℕ)) (n : ℕ) : Type 0 where
-  pub low : n ≤ 18446744073709551615
-  pub sum : min (length (streamBytes us)) 18446744073709551615 ≡ min (n + length (streamBytes rest)) 18446744073709551615
+  pub low : n ≤ 2 ^ 64 - 1
+  pub sum : capped (length (streamBytes us)) ≡ capped (n + length (streamBytes rest))
 
 pub measuring-start : (us : List (List ℕ)) → Measuring us us 0
 measuring-start us = record { low = omega arith; sum = omega arith }
@@ -57,13 +57,13 @@ bytes-none : length (streamBytes []) ≡ 0
 unfolding streamBytes flat
 bytes-none = refl
 
-pub measuring-next : {us all rest : List (List ℕ)} {u v : List ℕ} {n m : ℕ} → Measuring us all n → all ≡ u ∷ rest → v ≡ u → m ≡ min (n + length v) 18446744073709551615 → Measuring us rest m
+pub measuring-next : {us all rest : List (List ℕ)} {u v : List ℕ} {n m : ℕ} → Measuring us all n → all ≡ u ∷ rest → v ≡ u → m ≡ capped (n + length v) → Measuring us rest m
 measuring-next {rest = rest} {u} {v} z q w k =
     let a = ap (λ x. length (streamBytes x)) q ∙ bytes-length u rest in
     let b : length v ≡ length u = ap length w in
     record { low = omega (arith, k); sum = omega (arith, z .sum, a, b, k) }
 
-pub measuring-end : {us rest : List (List ℕ)} {n : ℕ} → Measuring us rest n → rest ≡ [] → n ≡ min (length (streamBytes us)) 18446744073709551615
+pub measuring-end : {us rest : List (List ℕ)} {n : ℕ} → Measuring us rest n → rest ≡ [] → n ≡ capped (length (streamBytes us))
 measuring-end z q =
     let a = ap (λ x. length (streamBytes x)) q ∙ bytes-none in
     omega (arith, z .sum, z .low, a)
@@ -185,7 +185,7 @@ module _ (l p e s d m : List ℕ) where
   unfolding gathered
   gathered-is = refl
 
-  module _ {n : ℕ} (k : n ≡ min size 18446744073709551615) where
+  module _ {n : ℕ} (k : n ≡ capped size) where
     -- what was measured, as far as a usize counts, is tested as the units' own length
     fits-same : fits n (length l) room ≡ fits size (length us) room
     fits-same = go (leb n limit) refl

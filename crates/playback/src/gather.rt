@@ -1,8 +1,8 @@
 // The units of an assembled list, gathered one behind the other with the end of each, as the containers' writers take them.
 ghost use mathlib.Core.Path.{_≡_};
-ghost use Prim.Native.Nat.{min};
 ghost use lib.ListN.{length};
 ghost use Rattle.bitio.specs.Lent.{pasted};
+ghost use Rattle.bitio.specs.Limits.{capped};
 ghost use Rattle.container.specs.Stream.{streamBytes};
 ghost use Rattle.container.specs.Units.{endsOf};
 ghost use Rattle.playback.specs.Lent.{store, Stores};
@@ -15,7 +15,7 @@ use obu::writer::put_bytes;
 
 // How many bytes the units have, as far as a usize counts them.
 fn measure<'a>(list: &[u32], pictures: &'a [u8], ends: &[u32], shows: &'a [u8]) -> usize
-    ensures { λ r. ⌜ r ≡ min (length (streamBytes (unitsNamed (now (list .entry)) (now (pictures .entry)) (now (ends .entry)) (now (shows .entry))))) 18446744073709551615 ⌝ }
+    ensures { λ r. ⌜ r ≡ capped (length (streamBytes (unitsNamed (now (list .entry)) (now (pictures .entry)) (now (ends .entry)) (now (shows .entry))))) ⌝ }
 {
     let mut n: usize = 0;
     let mut i: usize = 0;

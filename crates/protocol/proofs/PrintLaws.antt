@@ -2,11 +2,12 @@
 use mathlib.Core.Path.{_≡_, refl}
 use mathlib.Core.Bool.{Bool, true, false, _&&_}
 use mathlib.Core.List.{List, [], _∷_, _++_}
-use Prim.Native.Nat.{ℕ, zero, suc, _+_, _-_, _%_, _^_, _≤_, _<_, min}
+use Prim.Native.Nat.{ℕ, zero, suc, _+_, _-_, _%_, _^_, _≤_, _<_}
 use native.Mathlib.Omega.{arith}
 use lib.ListN.{length, getD, take, drop}
 use lib.Dec.{leb, eqb}
 use borrow.Author.Tests.{leb-true, eq-eqb, ne-eqb}
+use Rattle.bitio.specs.Limits.{capped}
 use Rattle.protocol.specs.Kinds.{separatorOf, refilledOf, restOf}
 use Rattle.protocol.specs.Marked.{isClean}
 use Rattle.protocol.specs.Told.{Told}
@@ -74,7 +75,7 @@ module _ (l : Told) (p : Printed) {c : ℕ} (sep : c ≡ separatorOf (p .kind)) 
   item-count k = rw (sep, ne-eqb (p .kind % 16) 1 (λ h. omega arith), ne-eqb (p .kind % 16) 7 (λ h. omega arith), eq-eqb (p .kind % 16) 6 k)
 
 module _ (ns : List ℕ) (p : Printed) {f g : Format} (head : f ≡ refilledOf (p .format)) (rest : g ≡ restOf f) where
-  pub opened-told : {k n : ℕ} → f .kinds % 256 ≡ 9 → k ≡ getD ns (p .numbers) 0 → n ≡ min (p .numbers + 1) (2 ^ 64 - 1)
+  pub opened-told : {k n : ℕ} → f .kinds % 256 ≡ 9 → k ≡ getD ns (p .numbers) 0 → n ≡ capped (p .numbers + 1)
       → record { kind = k; format = g; parts = p .parts; numbers = n } ≡ openedOf ns p
   unfolding openedOf
   opened-told h e m = rw (e, m, rest, ← head, eq-eqb (f .kinds % 256) 9 h)

@@ -1,9 +1,10 @@
 -- The line of an answer, from what the call left in the memory lent to it, in ASCII codes.
-use Prim.Native.Nat.{ℕ, zero, suc, _+_, _-_, _%_, _^_, min}
+use Prim.Native.Nat.{ℕ, zero, suc, _+_, _-_, _%_, _^_}
 use mathlib.Core.List.{List, [], _∷_, _++_}
 use mathlib.Core.Bool.{Bool, _&&_, _||_, cond as pick}
 use lib.ListN.{length, take, drop, getD}
 use lib.Dec.{leb, ltb, eqb}
+use Rattle.bitio.specs.Limits.{capped}
 use Rattle.protocol.specs.Kinds.{bytesKind, numberKind, optionalByteKind, noByte, countKind, namedKind, refusedKind, toldKind, any, separatorOf, refilledOf, restOf}
 use Rattle.protocol.specs.Marked.{isClean}
 use Rattle.protocol.specs.Text.{ascii}
@@ -52,7 +53,7 @@ itemText t p = separatorOf (p .kind) ∷ bodyText t (p .kind % 16) (p .parts) (g
 -- ---- all items
 
 abbrev pub afterOf : ℕ → ℕ
-afterOf i = min (i + 1) (2 ^ 64 - 1)
+afterOf i = capped (i + 1)
 
 -- repeated kinds end where there is no more for the first of them
 unfoldable pub isPrinted : Line → Printed → Bool

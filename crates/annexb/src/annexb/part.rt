@@ -1,9 +1,10 @@
 // The sized parts of Annex B by position: a unit, a frame unit, an OBU (AV1 B.2).
 ghost use mathlib.Core.Path.{_≡_};
 ghost use mathlib.Core.Bool.{true};
-ghost use Prim.Native.Nat.{_-_, _^_, _≤_, min};
+ghost use Prim.Native.Nat.{_-_, _≤_};
 ghost use lib.ListN.{length};
 ghost use Rattle.bitio.specs.Leb.{readLeb, lebAnswer, sized};
+ghost use Rattle.bitio.specs.Limits.{capped};
 ghost use Rattle.obu.specs.Place.{placeRefusal, extensionSays};
 ghost use Rattle.obu.specs.Write.{obuLength};
 ghost use Rattle.container.specs.AnnexB.{withSize, typed, innerObu, lengthObu};
@@ -151,7 +152,7 @@ pub(crate) fn inner_refusal(found: InnerAt) -> u32
 // How many bytes the OBU has in written form.
 pub(crate) fn written_len(o: Obu) -> usize
     requires { ⌜ o .start ≤ o .end ⌝ }
-    ensures { λ r. ⌜ r ≡ min (obuLength (extensionSays (o .extension)) (o .end - o .start)) (2 ^ 64 - 1) ⌝ }
+    ensures { λ r. ⌜ r ≡ capped (obuLength (extensionSays (o .extension)) (o .end - o .start)) ⌝ }
 {
     let extension = o.extension;
     obu::writer::obu_len(extension, o.end - o.start)

@@ -8,7 +8,7 @@ use lib.ListN.{length, replicate}
 use lib.Dec.{leb, ltb}
 use Rattle.header.specs.Support.{supportedSequence}
 use Rattle.bitio.specs.Parse.{accepted}
-use Rattle.bitio.specs.Limits.{limit}
+use Rattle.bitio.specs.Limits.{limit, capped}
 use Rattle.obu.specs.Obu.{Obu, obuBytes}
 use Rattle.obu.specs.Place.{part, extensionSays}
 use Rattle.obu.specs.Write.{obu}
@@ -21,7 +21,7 @@ use Rattle.pictures.specs.Prepare.{effective, renewal, Prepared}
 use Rattle.pictures.specs.declared.settings.Settings.{Settings}
 use Rattle.pictures.specs.Assemble.{Outcome, stopped, made, andAlso, inSegment, sameHeaders, headerObu, prepareAll, pictureOf, OutputRoom}
 use Rattle.pictures.specs.Sizes.{sizedAll, ranged}
-use Rattle.pictures.specs.Flat.{allSegments, laterSegments, firstSequence, judged, renewing, answerOr, allPrepared, capped}
+use Rattle.pictures.specs.Flat.{allSegments, laterSegments, firstSequence, judged, renewing, answerOr, allPrepared}
 use Rattle.assemble.specs.declared.multi.Counts.{Counts}
 use Rattle.assemble.specs.declared.plan.Basis.{Basis}
 use Rattle.assemble.specs.declared.plan.Planned.{Planned}

@@ -1,5 +1,5 @@
 -- Runs of packets: what the code of merge_frameless_packets asks of them.
-use Prim.Native.Nat.{ℕ, _+_, _-_, _^_, _≤_, _<_, min}
+use Prim.Native.Nat.{ℕ, _+_, _≤_, _<_}
 use mathlib.Core.Path.{_≡_}
 use mathlib.Core.List.{List, [], _∷_, _++_}
 use mathlib.Core.Bool.{Bool, true, false}
@@ -12,7 +12,7 @@ use Rattle.obu.specs.Obu.{Obu, headObu, obus, unitBytes}
 use Rattle.obu.specs.Place.{part}
 use Rattle.obu.specs.Unit.{ofUnit}
 use Rattle.container.specs.Stream.{lead, others, either, hasFrame, streamBytes}
-use Rattle.bitio.specs.Limits.{limit}
+use Rattle.bitio.specs.Limits.{limit, capped}
 use Rattle.container.specs.code.Ranges.{keptBytes}
 use Rattle.packets.specs.Packets.{Packet, mergePackets}
 use Rattle.container.specs.Units.{unitsAt, endsOf, sizesOf, bytesAfter, endsAfter}
@@ -59,10 +59,6 @@ pieceOf w u t (accepted os) = unitBytes (either (lead w) (either (lead os) (lead
 -- the same of the units us: those from a to c wait, that at c closes, those behind it up to b follow
 unfoldable pub piece : List (List ℕ) → ℕ → ℕ → ℕ → List ℕ
 piece us a c b = pieceOf (allParsed (slice a c us)) (getD us c []) (allParsed (slice (c + 1) b us)) (obus (getD us c []))
-
--- as far as a usize counts
-abbrev pub most : ℕ
-most = 2 ^ 64 - 1
 
 -- a unit that parses
 pub record Parses (u : List ℕ) : Type 0 where
@@ -154,7 +150,7 @@ mergedOf s es ts = mergePackets (packetsOf s es ts)
 
 -- how many bytes and packets go out
 pub record Totals (s es ts : List ℕ) (n u : ℕ) : Type 0 where
-  pub bytes : n ≡ min (length (streamBytes (bytesOf (mergedOf s es ts)))) most
+  pub bytes : n ≡ capped (length (streamBytes (bytesOf (mergedOf s es ts))))
   pub count : u ≡ length (mergedOf s es ts)
 
 -- the first packet that closes is c

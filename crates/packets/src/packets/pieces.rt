@@ -1,9 +1,9 @@
 // One output packet: the packets that wait, from a to c, the one that closes, at c, and those behind it, up to b.
 ghost use mathlib.Core.Path.{_≡_};
-ghost use Prim.Native.Nat.{min};
 ghost use lib.ListN.{length};
 ghost use Rattle.bitio.specs.Lent.{Wrote};
-ghost use Rattle.packets.specs.code.PacketRuns.{listed, piece, parsesUnit, most, Run, HeadAt, LeadAt, Piece, Joins, PieceRoom, JoinsRoom};
+ghost use Rattle.bitio.specs.Limits.{capped};
+ghost use Rattle.packets.specs.code.PacketRuns.{listed, piece, parsesUnit, Run, HeadAt, LeadAt, Piece, Joins, PieceRoom, JoinsRoom};
 use crate::packets::lists::first_full;
 use crate::packets::lists::packet;
 use crate::packets::runs::lead_end;
@@ -56,7 +56,7 @@ fn lead_of(packets: &[u8], ends: &[u32], a: usize, c: usize, b: usize) -> usize
 // How many bytes the output packet has, where the one at c parses.
 fn joined_len(packets: &[u8], ends: &[u32], a: usize, c: usize, b: usize) -> usize
     requires { ⌜ Joins (now packets) (now ends) a c b ⌝ }
-    ensures { λ r. ⌜ r ≡ min (length (piece (listed (now (packets .entry)) (now (ends .entry))) a c b)) most ⌝ }
+    ensures { λ r. ⌜ r ≡ capped (length (piece (listed (now (packets .entry)) (now (ends .entry))) a c b)) ⌝ }
 {
     let u = packet(packets, ends, lead_of(packets, ends, a, c, b));
     let head = written_len(u, 0, lead_end(u), true);
@@ -66,7 +66,7 @@ fn joined_len(packets: &[u8], ends: &[u32], a: usize, c: usize, b: usize) -> usi
 // How many bytes the output packet has.
 pub(crate) fn piece_len(packets: &[u8], ends: &[u32], a: usize, c: usize, b: usize) -> usize
     requires { ⌜ Piece (now packets) (now ends) a c b ⌝ }
-    ensures { λ r. ⌜ r ≡ min (length (piece (listed (now (packets .entry)) (now (ends .entry))) a c b)) most ⌝ }
+    ensures { λ r. ⌜ r ≡ capped (length (piece (listed (now (packets .entry)) (now (ends .entry))) a c b)) ⌝ }
 {
     let u = packet(packets, ends, c);
     if parses(u) {

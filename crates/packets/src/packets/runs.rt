@@ -1,11 +1,11 @@
 // Runs of packets: how many bytes their OBUs have, written one behind the other, and the writing.
 ghost use mathlib.Core.Path.{_≡_};
-ghost use Prim.Native.Nat.{min};
 ghost use lib.ListN.{length};
 ghost use lib.Seq.{slice};
 ghost use Rattle.bitio.specs.Lent.{Wrote};
+ghost use Rattle.bitio.specs.Limits.{capped};
 ghost use Rattle.container.specs.code.Ranges.{keptBytes, Range};
-ghost use Rattle.packets.specs.code.PacketRuns.{listed, allParsed, leadOf, most, Run, RunRoom};
+ghost use Rattle.packets.specs.code.PacketRuns.{listed, allParsed, leadOf, Run, RunRoom};
 use crate::packets::lists::packet;
 use bitio::numbers::plus;
 use container::ranges::put_written;
@@ -31,7 +31,7 @@ pub(crate) fn lead_end(s: &[u8]) -> usize
 // How many bytes the OBUs of the packets from a to b have, written.
 pub(crate) fn run_len(packets: &[u8], ends: &[u32], a: usize, b: usize, keep: bool) -> usize
     requires { ⌜ Run (now packets) (now ends) a b ⌝ }
-    ensures { λ r. ⌜ r ≡ min (length (keptBytes keep (allParsed (slice a b (listed (now (packets .entry)) (now (ends .entry))))))) most ⌝ }
+    ensures { λ r. ⌜ r ≡ capped (length (keptBytes keep (allParsed (slice a b (listed (now (packets .entry)) (now (ends .entry))))))) ⌝ }
 {
     let mut i = a;
     let mut n: usize = 0;

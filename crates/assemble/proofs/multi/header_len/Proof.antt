@@ -4,9 +4,9 @@ use mathlib.Core.Path.{ap, _∙_}
 use mathlib.Core.List.{List}
 use lib.ListN.{length}
 use denote.Ref.{now}
+use Rattle.bitio.specs.Limits.{capped}
 use Rattle.obu.specs.Place.{extensionSays}
 use Rattle.obu.specs.Write.{obuLength}
-use Rattle.pictures.specs.Flat.{capped}
 use Rattle.assemble.proofs.MultiLaws.{length-new, length-own}
 use Rattle.assemble.proofs.multi.header_len.Statement.{statement}
 use Rattle.assemble.proofs.multi.header_len.Tie as tie

@@ -3,7 +3,7 @@ use native.Mathlib.Omega.{arith}
 use mathlib.Core.Path.{_≡_, sym, ap, ap₂, _∙_}
 use mathlib.Core.List.{List, [], _∷_, _++_}
 use mathlib.Core.Bool.{true, false}
-use Prim.Native.Nat.{ℕ, _≤_, min}
+use Prim.Native.Nat.{ℕ, _≤_}
 use denote.Ref.{now}
 use lib.ListN.{length, length-append}
 use borrow.Author.Tests.{not-true, not-false, leb-true}
@@ -11,10 +11,9 @@ use Rattle.bitio.specs.Lent.{pasted}
 use Rattle.bitio.proofs.LentLaws.{pasted-more, pasted-length}
 use Rattle.container.specs.code.Ranges.{Range, keptBytes}
 use Rattle.bitio.proofs.ParseLaws.{and-both}
-use Rattle.bitio.specs.Limits.{limit}
+use Rattle.bitio.specs.Limits.{limit, capped}
 use Rattle.container.specs.Limits.{bytesRoom, fits}
-use Rattle.packets.specs.code.PacketRuns.{most}
-use Rattle.packets.proofs.RoomLaws.{fits-most}
+use Rattle.packets.proofs.RoomLaws.{fits-capped}
 use Rattle.packets.proofs.CanonicalLaws.{split-first, Stray, stray, canon-roomless, canon-there}
 use Rattle.packets.proofs.packets.canonical.clean_unit.Statement.{statement}
 use Rattle.packets.proofs.packets.canonical.clean_unit.Tie as tie
@@ -39,7 +38,7 @@ clean p = keptBytes true (p .it .o ∷ []) ++ keptBytes false (p .it .os)
 -- how many bytes that are
 record Sized (u : List ℕ) (m n : ℕ) : Type 0 where
   parts : Parted u m
-  size : n ≡ min (length (clean parts)) most
+  size : n ≡ capped (length (clean parts))
 
 sized : (c : tie.After-plus) → Sized (now (c .before .before .before .before .before .before .args .unit)) (c .before .before .before .first-end .result) (c .plus .result)
 sized c =
@@ -60,7 +59,7 @@ room-is : (c : tie.After-has-room) → (let s = c .before .before .before .befor
 room-is c =
     let z = sized (c .before) in
     let room = bytesRoom (length (now (c .before .before .before .before .before .before .before .args .out))) in
-    sym (fits-most (length (clean (z .parts))) 0 room) ∙ ap (λ n. fits n 0 room) (sym (z .size)) ∙ sym (c .has-room .ensures)
+    sym (fits-capped (length (clean (z .parts))) 0 room) ∙ ap (λ n. fits n 0 room) (sym (z .size)) ∙ sym (c .has-room .ensures)
 
 -- and then it is short enough, and not longer than lent memory
 roomy : (c : tie.Else1) → (let z = clean (sized (c .before .before) .parts) in (length z ≤ limit) × (length z ≤ length (now (c .before .before .before .before .before .before .before .before .args .out))))

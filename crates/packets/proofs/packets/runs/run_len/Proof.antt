@@ -1,16 +1,17 @@
 use borrow.Author.Needs.{needs}
 use native.Mathlib.Omega.{arith}
 use mathlib.Core.Path.{_≡_, ap}
-use Prim.Native.Nat.{_-_, _≤_, min}
+use Prim.Native.Nat.{_-_, _≤_}
 use denote.Ref.{now}
 use lib.ListN.{length}
-use Rattle.packets.specs.code.PacketRuns.{listed, most}
+use Rattle.bitio.specs.Limits.{capped}
+use Rattle.packets.specs.code.PacketRuns.{listed}
 use Rattle.packets.proofs.PacketRunLaws.{runBytes, run-none, run-ranged, run-turn, run-done}
 use Rattle.packets.proofs.packets.runs.run_len.Statement.{statement}
 use Rattle.packets.proofs.packets.runs.run_len.Tie as tie
 
 abbrev Inv-loop : tie.InvT-loop
-Inv-loop packets ends a b keep i₀ n₀ i n = (a ≤ i) × (i ≤ b) × (n ≡ min (length (runBytes keep (listed packets ends) a i)) most)
+Inv-loop packets ends a b keep i₀ n₀ i n = (a ≤ i) × (i ≤ b) × (n ≡ capped (length (runBytes keep (listed packets ends) a i)))
 
 abbrev μ-loop : tie.MeasureT-loop
 μ-loop packets ends a b keep i₀ n₀ i n = b - i
