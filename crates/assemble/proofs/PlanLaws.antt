@@ -5,13 +5,13 @@ use mathlib.Core.Path.{_≡_, refl, sym, ap, ap₂, _∙_}
 use mathlib.Core.List.{List, [], _∷_}
 use mathlib.Core.Bool.{Bool, true, false, cond as pick}
 use mathlib.Core.Option.{Option, none, some}
-use lib.ListN.{length, take, replicate}
+use lib.ListN.{length, replicate}
 use lib.Dec.{eqb}
 use borrow.Author.Tests.{lt-ltb, le-ltb, le-leb, eqb-true}
 use Rattle.bitio.specs.Parse.{Answer, refused, accepted, answer, andNext}
 use Rattle.bitio.specs.Limits.{limit, capped}
 use Rattle.bitio.specs.Lent.{pasted}
-use Rattle.bitio.proofs.LentLaws.{placed-room, lent-room, pasted-length, pasted-take-end}
+use Rattle.bitio.proofs.LentLaws.{placed-room, lent-room, pasted-length, pasted-front}
 use Rattle.obu.specs.Obu.{Obu, obus, obuBytes}
 use Rattle.obu.specs.Unit.{isType}
 use Rattle.obu.specs.Place.{part, extensionSays}
@@ -229,11 +229,10 @@ module _ (h : SequenceHeader) (points : List OperatingPoint) (set : Settings) (w
 headed : (d xs : List ℕ) → 0 + length xs ≤ length d → part (pasted d 0 xs) 0 (length xs) ≡ xs
 unfolding part
 headed d xs h =
-    let a : 0 + length xs ≡ length xs = omega arith in
     let z : length xs - 0 ≡ length xs = omega arith in
     let l : length xs ≤ length (pasted d 0 xs) = omega (arith, h, pasted-length d 0 xs h) in
     rw (le-leb 0 (length xs) (omega arith), le-leb (length xs) (length (pasted d 0 xs)) l, z)
-    (ap (λ (n : ℕ). take n (pasted d 0 xs)) (sym a) ∙ pasted-take-end d 0 xs (omega arith))
+    (pasted-front d xs (length xs) refl)
 
 pub new-there : (d array : List ℕ) (n : ℕ) (q : Sequence) → emittable q ≡ true → 400 ≤ length d → array ≡ emitLent d 0 q → n ≡ answerOr 0 (emitPlaced d 0 q)
     → part array 0 n ≡ sequenceBytes q

@@ -13,7 +13,7 @@ use borrow.Author.Tests.{le-leb, lt-leb, leb-true, lt-ltb, le-ltb}
 use Rattle.bitio.specs.Limits.{limit}
 use Rattle.bitio.specs.Lent.{pasted}
 use Rattle.bitio.proofs.ParseLaws.{pick-cases}
-use Rattle.bitio.proofs.LentLaws.{pasted-nil, pasted-more, pasted-length, pasted-take-end}
+use Rattle.bitio.proofs.LentLaws.{pasted-nil, pasted-more, pasted-length, pasted-front}
 use Rattle.blocks.specs.Numbers.{width, recordOf, noSegment, segmentCount, firstRecords}
 use Rattle.blocks.specs.declared.numbers.Segment.{Segment as SegmentStruct}
 use Rattle.pictures.specs.Assemble.{Outcome, stopped, Output}
@@ -138,7 +138,6 @@ module _ (s : List ℕ) (xs : List SegmentStruct) (d : List ℕ) (set : Settings
           let h = leb-true (length xs) (segmentCount d) e in
           let n = numbers-length xs in
           let k : length (pasted d 0 (numbersOf xs)) ≡ length d = pasted-length d 0 (numbersOf xs) (omega (arith, n)) in
-          let z : width * length xs ≡ 0 + length (numbersOf xs) = omega (arith, n) in
-          let t : firstRecords (length xs) (pasted d 0 (numbersOf xs)) ≡ numbersOf xs = ap (λ (m : ℕ). take m (pasted d 0 (numbersOf xs))) z ∙ pasted-take-end d 0 (numbersOf xs) (omega arith) in
+          let t : firstRecords (length xs) (pasted d 0 (numbersOf xs)) ≡ numbersOf xs = pasted-front d (numbersOf xs) (width * length xs) (omega (arith, n)) in
           ap₂ (λ (m : Bool) (l : List ℕ). pick m (from l) (noRoom s)) (ap (λ (m : ℕ). leb (length xs) (m / width)) k ∙ e) t
       go false e = ap (λ (m : Bool). pick m (from (firstRecords (length xs) d)) (noRoom s)) e

@@ -1,13 +1,13 @@
 -- Laws of what boardlist prints: from lent memory, from answers, from a file.
-use Prim.Native.Nat.{ℕ, _+_, _-_, _*_, _≤_}
+use Prim.Native.Nat.{ℕ, _-_, _*_, _≤_}
 use native.Mathlib.Omega.{arith}
 use mathlib.Core.Path.{_≡_, refl, sym, ap, _∙_}
 use mathlib.Core.List.{List}
 use mathlib.Core.Option.{none, some}
-use lib.ListN.{length, take}
+use lib.ListN.{length}
 use Rattle.bitio.specs.Parse.{accepted}
 use Rattle.bitio.specs.Lent.{pasted, placed, lent}
-use Rattle.bitio.proofs.LentLaws.{pasted-take-end, pasted-length, placed-says-room}
+use Rattle.bitio.proofs.LentLaws.{pasted-front, pasted-length, placed-says-room}
 use Rattle.pictures.specs.Assemble.{Outcome, stopped, made, andAlso, Output}
 use denote.Triple.Both.{Both}
 use Rattle.bitio.specs.Leb.{putSays}
@@ -34,10 +34,8 @@ pub texted : {t d d′ : List ℕ} {r : Put} → (putSays r ≡ placed d 0 t) ×
 texted w = record { answer = w .0; bytes = w .1 }
 
 -- what was put at the head of lent memory
-front-is : (d xs : List ℕ) (n : ℕ) → n ≡ length xs → length xs ≤ length d → between 0 n (pasted d 0 xs) ≡ xs
-front-is d xs n e h =
-    let k : n - 0 ≡ 0 + length xs = omega arith in
-    ap (λ (m : ℕ). take m (pasted d 0 xs)) k ∙ pasted-take-end d 0 xs (omega arith)
+front-is : (d xs : List ℕ) (n : ℕ) → n ≡ length xs → between 0 n (pasted d 0 xs) ≡ xs
+front-is d xs n e = pasted-front d xs (n - 0) (omega arith)
 
 head-room : (d xs : List ℕ) (n : ℕ) → n ≡ length xs → length xs ≤ length d → n ≤ length (pasted d 0 xs)
 head-room d xs n e h = omega (arith, pasted-length d 0 xs (omega arith))
@@ -63,7 +61,7 @@ made-is x c d d′ held w = go (x d) held (w .answer) (w .lent)
             ends-there = head-room (d .ends) (o .ends) _ refl (h .ends);
             shows-there = head-room (d .shows) (o .shows) _ refl (h .shows);
           },
-          rw (front-is (d .list) (o .list) _ refl (h .list), front-is (d .pictures) (o .picture) _ refl (h .picture), front-is (d .ends) (o .ends) _ refl (h .ends), front-is (d .shows) (o .shows) _ refl (h .shows)),
+          rw (front-is (d .list) (o .list) _ refl, front-is (d .pictures) (o .picture) _ refl, front-is (d .ends) (o .ends) _ refl, front-is (d .shows) (o .shows) _ refl),
         )
 
 pub refused-is : (x : Outcome Output) (k : ℕ) → stopped k none ≡ countsOf x → refusedText k ≡ textOf x
@@ -99,7 +97,7 @@ module _ (s numbers : List ℕ) (d : Lent) where
     numbers-are : between 0 (width * l .segments) numbers′ ≡ fileNumbers s
     numbers-are =
         let a = read-is numbers s l e in
-        ap (between 0 (width * l .segments)) (w ∙ a .after) ∙ front-is numbers (fileNumbers s) (width * l .segments) (sym (a .count)) (a .room)
+        ap (between 0 (width * l .segments)) (w ∙ a .after) ∙ front-is numbers (fileNumbers s) (width * l .segments) (sym (a .count))
 
     abbrev from : List ℕ → Outcome Output
     from rs = outcome (between (l .start) (l .end) s) rs (settingsOf l) d

@@ -9,7 +9,7 @@ use lib.Dec.{leb}
 use denote.Triple.Both.{Both}
 use Rattle.bitio.specs.Parse.{Answer, refused, accepted}
 use Rattle.bitio.specs.Lent.{pasted}
-use Rattle.bitio.proofs.LentLaws.{pasted-take-end}
+use Rattle.bitio.proofs.LentLaws.{pasted-front}
 use Rattle.container.specs.Limits.{Room, bytesRoom, fits}
 use Rattle.container.specs.Stream.{streamBytes}
 use Rattle.container.specs.Container.{Container}
@@ -104,9 +104,6 @@ module _ (c : Container) (room : OutputRoom) (set : Settings) (picture numbers :
 same-made : {A : Type 0} (x y : A) → made x ≡ made y → x ≡ y
 same-made x y e = cc
 
-shown-head : (d ls : List ℕ) (n : ℕ) → length ls ≡ n → take n (pasted d 0 ls) ≡ ls
-shown-head d ls n e = let k : n ≡ 0 + length ls = omega arith in ap (λ (i : ℕ). take i (pasted d 0 ls)) k ∙ pasted-take-end d 0 ls (omega arith)
-
 -- Where the running `walk` answers Positions n, the first n numbers in its last lent slice are right.
 pub walked-right : (c : Container) (cue : ℕ) (picture numbers : List ℕ) (set : Settings) (r : Walked) (l : Both Lent Lent) (d : Both PlayLent PlayLent)
     → Walks c cue (outcome picture numbers set) r l d → (xs : List Segment) → InFields set → segmentsOf picture numbers ≡ accepted xs → Formed xs → (n : ℕ) → r ≡ Positions n
@@ -116,6 +113,6 @@ walked-right c cue picture numbers set r l d w xs fields segments formed n is =
     link-made _ _ n (sym (w .answer) ∙ ap walkedSays is) (λ ls e e₁.
     link-made _ _ ls e (λ o e₂ e₃.
     let m : d .exit .shown ≡ pasted (d .entry .shown) 0 ls = ap (λ (y : PlayLent). y .shown) (w .way) ∙ rw (e₂, of-overall _ ls e₃) in
-    let h : take n (d .exit .shown) ≡ ls = ap (take n) m ∙ shown-head (d .entry .shown) ls n (same-made (length ls) n e₁) in
+    let h : take n (d .exit .shown) ≡ ls = ap (take n) m ∙ pasted-front (d .entry .shown) ls n (sym (same-made (length ls) n e₁)) in
     subst (λ (ns : List ℕ). WalksRight set xs (outcome picture numbers set (l .entry)) cue ns) (sym h)
     (walk-right c _ set picture numbers xs fields segments formed cue (d .entry) ls e)))

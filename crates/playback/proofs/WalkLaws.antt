@@ -11,7 +11,7 @@ use borrow.Author.Tests.{leb-true}
 use Rattle.bitio.specs.Limits.{limit}
 use Rattle.bitio.specs.Parse.{Answer, refused, accepted}
 use Rattle.bitio.specs.Lent.{pasted}
-use Rattle.bitio.proofs.LentLaws.{pasted-length}
+use Rattle.bitio.proofs.LentLaws.{pasted-front, pasted-length}
 use Rattle.container.specs.Units.{countOf}
 use Rattle.container.specs.Container.{Container}
 use Rattle.bitio.proofs.ParseLaws.{and-both}
@@ -30,7 +30,6 @@ use Rattle.playback.specs.Shown.{showsSay}
 use Rattle.playback.specs.Gather.{unitsNamed}
 use Rattle.playback.specs.Way.{PlayLent, shown, Plays}
 use Rattle.playback.specs.Walk.{walk, walkedSays, Walks}
-use Rattle.playback.proofs.WayLaws.{head-is}
 
 none-made : {A : Type 0} {k : ℕ} {i : Option ℕ} {a : A} → stopped k i ≡ made a → ⊥
 none-made e = let z : _≡_ {A = ℕ} 0 1 = cc in omega arith
@@ -103,7 +102,7 @@ at-head : (s d : List ℕ) → length s ≤ length d → {d′ : List ℕ} {n : 
 at-head s d l {n = n} w k =
     record {
       within = omega (arith, ap length w, pasted-length d 0 s (omega (arith, l)), l, k);
-      is = ap (λ y. take (n - 0) (drop 0 y)) w ∙ head-is d s n k;
+      is = ap (λ y. take (n - 0) (drop 0 y)) w ∙ pasted-front d s (n - 0) (omega arith);
     }
 
 -- ---- the whole

@@ -10,7 +10,7 @@ use borrow.Author.Tests.{le-leb, leb-true}
 use Rattle.bitio.specs.Limits.{limit}
 use Rattle.bitio.specs.Parse.{Answer, refused, accepted, andNext}
 use Rattle.bitio.specs.Lent.{pasted}
-use Rattle.bitio.proofs.LentLaws.{pasted-take-end, pasted-length}
+use Rattle.bitio.proofs.LentLaws.{pasted-front, pasted-length}
 use Rattle.container.specs.Stream.{streamBytes}
 use Rattle.container.specs.Limits.{Room, bytesRoom, fits, fitBytes, fitUnits}
 use Rattle.container.specs.Units.{endsOf, Sizes, sizesOf, bytesAfter, endsAfter, splitSays, countOf, outAfter, byteCountSays}
@@ -111,9 +111,6 @@ joined-none x r k q t = go x (ap byteCountSays (sym t) ∙ q)
 
 -- ---- what stands at the head of lent memory
 
-pub head-is : (d xs : List ℕ) (n : ℕ) → n ≡ length xs → take (n - 0) (drop 0 (pasted d 0 xs)) ≡ xs
-head-is d xs n q = let e : n - 0 ≡ 0 + length xs = omega arith in ap (λ k. take k (pasted d 0 xs)) e ∙ pasted-take-end d 0 xs (omega arith)
-
 -- units put in the store d, of which there are n bytes and u ends
 module _ (x : Answer (List (List ℕ))) (d : Store) (fit : (us : List (List ℕ)) → x ≡ accepted us → HasRoom (storeRoom d) us)
     (r : Split) (q : splitSays r ≡ sizesOf x) (d′ : Store) (p : d′ ≡ storeAfter x d) (n u : ℕ) (t : r ≡ Units n u) where
@@ -138,10 +135,10 @@ module _ (x : Answer (List (List ℕ))) (d : Store) (fit : (us : List (List ℕ)
       omega (arith, ap length ends-are, pasted-length (d .ends) 0 (endsOf 0 (sized .units)) (omega (arith, room-is .ends)), sized .count, room-is .ends)
 
   bytes-head : take (n - 0) (drop 0 (d′ .bytes)) ≡ streamBytes (sized .units)
-  bytes-head = ap (λ y. take (n - 0) (drop 0 y)) bytes-are ∙ head-is (d .bytes) (streamBytes (sized .units)) n (sized .bytes)
+  bytes-head = ap (λ y. take (n - 0) (drop 0 y)) bytes-are ∙ pasted-front (d .bytes) (streamBytes (sized .units)) (n - 0) (omega (arith, sized .bytes))
 
   ends-head : take (u - 0) (drop 0 (d′ .ends)) ≡ endsOf 0 (sized .units)
-  ends-head = ap (λ y. take (u - 0) (drop 0 y)) ends-are ∙ head-is (d .ends) (endsOf 0 (sized .units)) u (sized .count ∙ sym (ends-length 0 (sized .units)))
+  ends-head = ap (λ y. take (u - 0) (drop 0 y)) ends-are ∙ pasted-front (d .ends) (endsOf 0 (sized .units)) (u - 0) (omega (arith, sized .count, ends-length 0 (sized .units)))
 
 -- ---- one container or the other
 
@@ -231,7 +228,7 @@ module _ (c : Container) (us : List (List ℕ)) where
       back-whole : read c (storeRoom b) (take (n - 0) (drop 0 (d′ .out))) ≡ R
       back-whole =
           let (bs, q, e) = joined-some (written c us d) r n (w .answer) t in
-          ap (λ i. read c (storeRoom b) i) (ap (λ i. take (n - 0) (drop 0 i)) (out-is bs q) ∙ head-is (d .out) bs n e) ∙ carried-some q
+          ap (λ i. read c (storeRoom b) i) (ap (λ i. take (n - 0) (drop 0 i)) (out-is bs q) ∙ pasted-front (d .out) bs (n - 0) (omega (arith, e))) ∙ carried-some q
 
       pub carry-go : (b′ : Store) (j : Split) → Stores (λ room. read c room (take (n - 0) (drop 0 (d′ .out)))) j (record { entry = b; exit = b′ })
           → Carries c us j (record { entry = record { written = d; back = b }; exit = record { written = d′; back = b′ } })

@@ -10,8 +10,6 @@ use native.Mathlib.Decide.{decLe}
 use native.Mathlib.Nat.{one-le-pow, pow-le-pow-right}
 use borrow.Author.Tests.{lt-ltb, le-ltb}
 use Rattle.io.specs.Digits.{digits, Fewest}
-use Rattle.bitio.specs.Lent.{pasted}
-use Rattle.bitio.proofs.LentLaws.{pasted-take-end}
 use Rattle.protocol.specs.Text.{hexText}
 use Rattle.protocol.specs.Typed.{Typed, typing, nextPlace, typed, placesIn, decimalText, bytesText}
 
@@ -89,9 +87,3 @@ bytes-dash (b ∷ s) e = absurd (omega arith)
 pub bytes-hex : (s : List ℕ) → (length s ≡ 0 → ⊥) → bytesText s ≡ hexText s
 bytes-hex [] e = absurd (e refl)
 bytes-hex (b ∷ s) e = refl
-
--- the digits at the start of a buffer of digits
-pub digits-front : (d xs : List ℕ) {n : ℕ} → n ≡ length xs → take (n - 0) (drop 0 (pasted d 0 xs)) ≡ xs
-digits-front d xs {n} e =
-    let k : n - 0 ≡ 0 + length xs = omega arith in
-    rw k (pasted-take-end d 0 xs (omega arith))
