@@ -3,7 +3,7 @@ use Prim.Native.Nat.{ℕ, suc, _+_, _-_, _≤_, _<_}
 use native.Mathlib.Omega.{arith}
 use mathlib.Core.Path.{_≡_, refl, sym, ap, _∙_}
 use mathlib.Core.List.{List}
-use mathlib.Core.Bool.{Bool, true, false, not}
+use mathlib.Core.Bool.{true, false}
 use mathlib.Core.Option.{none}
 use Rattle.bitio.specs.Parse.{Answer, refused, accepted, andNext, onto}
 use Rattle.blocks.specs.Numbers.{headInside, rest, segmentCount, isWhole, recordAt}
@@ -11,16 +11,6 @@ use Rattle.blocks.proofs.NumberLaws.{rest-at}
 use Rattle.pictures.specs.Segments.{Segment, segmentAt, segmentsFrom, segmentsOf}
 use Rattle.pictures.specs.Assemble.{stopped, made, verdict, overall}
 use Rattle.pictures.specs.Sizes.{ranged}
-
--- ---- a test denied
-
-pub denied : (b : Bool) → not b ≡ true → b ≡ false
-denied true e = sym e
-denied false e = refl
-
-pub granted : (b : Bool) → not b ≡ false → b ≡ true
-granted true e = refl
-granted false e = sym e
 
 -- ---- one segment after the other
 

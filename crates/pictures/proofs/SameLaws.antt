@@ -9,7 +9,7 @@ use mathlib.Core.Option.{some}
 use lib.ListN.{length, getD, drop, drop-of-length-le}
 use lib.Seq.{drop-cons}
 use lib.Dec.{eqb, leb}
-use borrow.Author.Tests.{eq-eqb, ne-eqb, le-leb}
+use borrow.Author.Tests.{eq-eqb, ne-eqb, le-leb, not-true, not-false}
 use Rattle.bitio.specs.Parse.{Answer, refused, accepted, answer, andNext}
 use Rattle.obu.specs.Obu.{Obu, obus}
 use Rattle.obu.specs.Unit.{count, has, lastPayload, ofUnit}
@@ -19,7 +19,6 @@ use Rattle.pictures.specs.Prepare.{isSequence}
 use Rattle.pictures.specs.Assemble.{Outcome, stopped, made, andAlso, verdict, inSegment, sameBytes, sameHeader, sameHeaders}
 use Rattle.pictures.specs.Flat.{laterSegments}
 use Rattle.pictures.proofs.SegmentLaws.{segmentsBehind, segments-end, segments-next}
-use Rattle.pictures.proofs.RangeLaws.{denied, granted}
 
 -- ---- bytes compared
 
@@ -121,10 +120,10 @@ module _ (s : List ℕ) where
 
   module _ (x : Answer (List Obu)) (n : ℕ) (e : accepted n ≡ sequencesIn x) (h : n ≡ 0 → ⊥) (b : Bool) (p : List ℕ) (g : b ≡ sameBytes p s) (i : p ≡ ofUnit [] (lastPayload isSequence) x) where
     pub last-other : not b ≡ true → refused 27 ≡ tallied x
-    last-other t = ap (λ (y : Bool). pick y (accepted n) (refused 27)) (sym (denied b t)) ∙ last-there x n e h b p g i
+    last-other t = ap (λ (y : Bool). pick y (accepted n) (refused 27)) (sym (not-true b t)) ∙ last-there x n e h b p g i
 
     pub last-same : not b ≡ false → accepted n ≡ tallied x
-    last-same t = ap (λ (y : Bool). pick y (accepted n) (refused 27)) (sym (granted b t)) ∙ last-there x n e h b p g i
+    last-same t = ap (λ (y : Bool). pick y (accepted n) (refused 27)) (sym (not-false b t)) ∙ last-there x n e h b p g i
 
 -- ---- later keys, one after the other
 

@@ -5,7 +5,7 @@ use mathlib.Core.Path.{_≡_, refl, sym, ap, _∙_}
 use mathlib.Core.List.{List, []}
 use mathlib.Core.Bool.{Bool, true, false, not, cond as pick}
 use lib.Dec.{leb}
-use borrow.Author.Tests.{le-leb}
+use borrow.Author.Tests.{le-leb, not-true, not-false}
 use Rattle.bitio.specs.Parse.{Answer, refused, accepted, answer, andNext}
 use Rattle.obu.specs.Obu.{Obu, obus}
 use Rattle.obu.specs.Unit.{count, has, ofUnit}
@@ -14,7 +14,6 @@ use Rattle.pictures.specs.Prepare.{isSequence, sent}
 use Rattle.pictures.specs.Assemble.{verdict}
 use Rattle.pictures.specs.Flat.{readable, answerOr, sentBytes}
 use Rattle.pictures.specs.code.Rewrite.{renewedBytes, rewritten}
-use Rattle.pictures.proofs.RangeLaws.{denied, granted}
 
 module _ (new u : List ℕ) where
   -- what goes out of the OBUs of u
@@ -45,17 +44,17 @@ module _ (new u : List ℕ) where
   module _ (rewriting : Bool) where
     pub sent-plain : not rewriting ≡ true → sentBytes rewriting new u ≡ u
     unfolding sent
-    sent-plain e = rw (denied rewriting e)
+    sent-plain e = rw (not-true rewriting e)
 
     module _ (on : not rewriting ≡ false) where
       pub sent-refused : (k : ℕ) → answer (count isSequence) (obus u) ≡ refused k → sentBytes rewriting new u ≡ []
       unfolding sent renewedBytes
-      sent-refused k e = rw (granted rewriting on) (nothing-read k (obus u) e)
+      sent-refused k e = rw (not-false rewriting on) (nothing-read k (obus u) e)
 
       pub sent-copied : (n : ℕ) → n ≡ 0 → answer (count isSequence) (obus u) ≡ accepted n → sentBytes rewriting new u ≡ u
       unfolding sent renewedBytes
-      sent-copied n z e = rw (granted rewriting on) (no-sequence (obus u) (e ∙ ap accepted z))
+      sent-copied n z e = rw (not-false rewriting on) (no-sequence (obus u) (e ∙ ap accepted z))
 
       pub sent-rewritten : (n : ℕ) → (n ≡ 0 → ⊥) → answer (count isSequence) (obus u) ≡ accepted n → (sentBytes rewriting new u ≡ rewritten new u) × (readable true u ≡ accepted tt)
       unfolding sent renewedBytes rewritten
-      sent-rewritten n l e = let (a, b) = some-sequence n (omega (arith, l)) (obus u) e in (rw (granted rewriting on) a, b)
+      sent-rewritten n l e = let (a, b) = some-sequence n (omega (arith, l)) (obus u) e in (rw (not-false rewriting on) a, b)

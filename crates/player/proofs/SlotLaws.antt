@@ -2,9 +2,9 @@
 use Prim.Native.Nat.{ℕ, zero, suc, _+_, _/_, _%_, _≤_, _<_}
 use native.Mathlib.Omega.{arith}
 use native.Mathlib.Numerals.{add-one}
-use mathlib.Core.Path.{_≡_, refl, sym, ap}
+use mathlib.Core.Path.{_≡_, refl, ap}
 use mathlib.Core.List.{List, [], _∷_}
-use mathlib.Core.Bool.{Bool, true, false, not}
+use mathlib.Core.Bool.{true, false}
 use lib.ListN.{length, getD, set, replicate, List·getD-eq-default}
 use borrow.Author.Tests.{ne-eqb}
 use Rattle.bitio.specs.Parse.{refused}
@@ -46,15 +46,6 @@ module _ (i r : ℕ) (n : Slot) (l : List Slot) (h : i < length l) where
 
   pub sweep-skip : (r % 2 ≡ 1 → ⊥) → sweep i r n l ≡ sweep (i + 1) (r / 2) n l
   sweep-skip e = rw (add-one i) (sweep-skip′ i r n l h e)
-
--- a test with `!`
-pub not-true : {b : Bool} → not b ≡ true → b ≡ false
-not-true {b = true} e = sym e
-not-true {b = false} e = refl
-
-pub not-false : {b : Bool} → not b ≡ false → b ≡ true
-not-false {b = true} e = refl
-not-false {b = false} e = sym e
 
 -- a slot that is shown
 module _ (l : List Slot) (i : ℕ) where

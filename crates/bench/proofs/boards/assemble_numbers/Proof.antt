@@ -1,11 +1,11 @@
 use borrow.Author.Needs.{needs}
+use borrow.Author.Tests.{not-true, not-false}
 use native.Mathlib.Omega.{arith}
 use Prim.Native.Nat.{ℕ, _*_, _<_, _≤_}
 use mathlib.Core.Path.{refl, sym, _∙_}
 use lib.ListN.{replicate, length-replicate}
 use denote.Ref.{now}
 use Rattle.blocks.specs.Numbers.{width, segmentCount}
-use Rattle.pictures.proofs.RangeLaws.{denied, granted}
 use Rattle.assemble.specs.Whole.{six}
 use Rattle.assemble.proofs.AnswerLaws.{kept, retold}
 use Rattle.bench.proofs.BoardLaws.{unfit-many, unfit-part, fit}
@@ -24,7 +24,7 @@ returns-2 c =
     let a = c .before .before .before .before .before .before .before .before .before .before .before .before .args in
     let n = c .before .before .before .segment-count .ensures in
     let h : segmentCount (now (a .segments)) ≤ 64 = omega (arith, n, c .before .before .if1 .left) in
-    let e = sym (c .before .is-whole .ensures) ∙ denied (c .before .is-whole .result) (c .if2 .taken) in
+    let e = sym (c .before .is-whole .ensures) ∙ not-true (c .before .is-whole .result) (c .if2 .taken) in
     kept _ _ _ refl (sym (unfit-part (now (a .picture)) (now (a .segments)) (a .settings) (six (a .list) (a .cues) (a .pictures) (a .ends) (a .shows) (a .header)) h e))
 
 returns-3 : tie.Need-returns-3
@@ -34,7 +34,7 @@ returns-3 c =
     let b = c .before .before .before .before .before .before .before .before .before .before .before .before .before .before .before .before .before .before .before .before .before .boards-of in
     let q = c .before .before .before .before .before .before .before .before .before .before .before .before .before .before .before .before .before .before .before .before .before .before .before .is-whole in
     let n = c .before .before .before .before .before .before .before .before .before .before .before .before .before .before .before .before .before .before .before .before .before .before .before .before .before .segment-count in
-    let e = sym (q .ensures) ∙ granted (q .result) (c .before .before .before .before .before .before .before .before .before .before .before .before .before .before .before .before .before .before .before .before .before .before .if2 .left) in
+    let e = sym (q .ensures) ∙ not-false (q .result) (c .before .before .before .before .before .before .before .before .before .before .before .before .before .before .before .before .before .before .before .before .before .before .if2 .left) in
     let f = fit (now (a .picture)) (now (a .segments)) (a .settings) (six (a .list) (a .cues) (a .pictures) (a .ends) (a .shows) (a .header)) (n .result) (n .ensures) (c .before .before .before .before .before .before .before .before .before .before .before .before .before .before .before .before .before .before .before .before .before .before .before .before .if1 .left) e (b .result) (b .ensures) (replicate (width * 64) 0) (length-replicate {A = ℕ} (width * 64) 0) in
     retold f w
 
