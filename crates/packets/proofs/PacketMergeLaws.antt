@@ -21,7 +21,7 @@ use Rattle.packets.specs.PacketLists.{bytesOf, timesOf}
 use Rattle.bitio.specs.Every.{Every}
 use Rattle.packets.specs.code.PacketRuns.{listed, piece, Parses, Waits, Next, Piece, PieceRoom, packetsOf, mergedOf, Totals, Closing, MergeRoom, Ready, WroteMerged}
 use Rattle.packets.proofs.PacketListLaws.{listed-length, packets-bytes, packets-times, packets-short}
-use Rattle.packets.proofs.PacketSteps.{size, step-more, step-last}
+use Rattle.packets.proofs.PacketSteps.{length-bytesOf, step-more, step-last}
 
 -- ---- lists of packets, one more
 
@@ -30,10 +30,6 @@ unfolding streamBytes
 stream-append us vs = flat-append us vs
 
 module _ (ps : List Packet) where
-  pub bytes-length : length (bytesOf ps) ≡ length ps
-  unfolding bytesOf
-  bytes-length = length-map ps (λ p. p .bytes)
-
   pub times-length : length (timesOf ps) ≡ length ps
   unfolding timesOf
   times-length = length-map ps (λ p. p .time)
@@ -95,7 +91,7 @@ module _ (s es ts : List ℕ) (short : length s ≤ limit) (match : length es �
   eb = packets-bytes s es ts match
 
   pub packets-length : length qs ≡ length es
-  packets-length = sym (size qs) ∙ ap length eb ∙ listed-length 0 s es
+  packets-length = sym (length-bytesOf qs) ∙ ap length eb ∙ listed-length 0 s es
 
   module _ (a c : ℕ) (n : Next (listed s es) a c) (l : c < length es) (d : ℕ) (m : Next (listed s es) (c + 1) d) where
     turn-more : d < length es → Turn s es ts a c d (c + 1)
@@ -290,7 +286,7 @@ module _ {s es ts o₀ e₀ t₀ : List ℕ} {first at w u : ℕ} {o e t : List 
       put-next =
           let es₀ = endsOf 0 (bytesOf (m .done)) in
           let ts₀ = timesOf (m .done) in
-          let le : u ≡ 0 + length es₀ = omega (arith, m .count, ends-length 0 (bytesOf (m .done)), bytes-length (m .done)) in
+          let le : u ≡ 0 + length es₀ = omega (arith, m .count, ends-length 0 (bytesOf (m .done)), length-bytesOf (m .done)) in
           let lt : u ≡ 0 + length ts₀ = omega (arith, m .count, times-length (m .done)) in
           let lv : v ≡ 0 + length (streamBytes (bytesOf (m .done))) + length (p .bytes) = omega (arith, m .wrote .next, y .next) in
           let slots = put-slots in

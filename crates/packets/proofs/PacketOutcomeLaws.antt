@@ -24,9 +24,9 @@ use Rattle.packets.specs.code.PacketRuns.{listed, allParsed, Next, Full,
 use Rattle.packets.proofs.RoomLaws.{fits-capped}
 use Rattle.packets.proofs.SliceLaws.{slice-rest}
 use Rattle.packets.proofs.PacketListLaws.{listed-length, packets-bytes, packets-times, packets-unmatched, packets-wrong, packets-there}
-use Rattle.packets.proofs.PacketSteps.{size, alone-some, alone-none}
+use Rattle.packets.proofs.PacketSteps.{length-bytesOf, alone-some, alone-none}
 use Rattle.packets.proofs.PacketRunLaws.{runBytes}
-use Rattle.packets.proofs.PacketMergeLaws.{bytes-length, all-parse}
+use Rattle.packets.proofs.PacketMergeLaws.{all-parse}
 
 -- ---- room
 
@@ -104,7 +104,7 @@ module _ (s es ts o e t : List ℕ) where
 
         pub out-there : {o′ e′ t′ : List ℕ} → WroteMerged s es ts o e t o′ e′ t′ → Outcome s es ts o e t (Packets n u) o′ e′ t′
         out-there w =
-            let c : u ≡ length (bytesOf (mergedOf s es ts)) = z .count ∙ sym (bytes-length (mergedOf s es ts)) in
+            let c : u ≡ length (bytesOf (mergedOf s es ts)) = z .count ∙ sym (length-bytesOf (mergedOf s es ts)) in
             record {
               answers = rw (at-there, out-size, c);
               bytes = rw at-there (w .bytes);
@@ -146,7 +146,7 @@ module _ (s es ts : List ℕ) (g : None s es ts) where
     full = rw (long, eb) f
 
     merged-none : length ts ≤ i → mergedOf s es ts ≡ []
-    merged-none l = alone-none qs next i full (omega (arith, f .within, size qs, long))
+    merged-none l = alone-none qs next i full (omega (arith, f .within, length-bytesOf qs, long))
 
     totals-none : length ts ≤ i → Totals s es ts 0 0
     unfolding bytesOf streamBytes flat
@@ -169,7 +169,7 @@ module _ (s es ts : List ℕ) (g : None s es ts) where
       one = record { time = getD ts i 0; bytes = unitBytes (allParsed (listed s es)) }
 
       merged-one : mergedOf s es ts ≡ one ∷ []
-      merged-one = rw (eb, packets-times s es ts (g .given .match)) at (alone-some qs next i full (omega (arith, size qs, long)))
+      merged-one = rw (eb, packets-times s es ts (g .given .match)) at (alone-some qs next i full (omega (arith, length-bytesOf qs, long)))
 
       one-bytes : streamBytes (bytesOf (mergedOf s es ts)) ≡ runBytes true (listed s es) 0 (length ts)
       unfolding bytesOf streamBytes flat

@@ -70,9 +70,9 @@ abbrev nil : Packet
 nil = record { time = 0; bytes = [] }
 
 module _ (qs : List Packet) where
-  pub size : length (bytesOf qs) ≡ length qs
+  pub length-bytesOf : length (bytesOf qs) ≡ length qs
   unfolding bytesOf
-  size = length-map qs (λ p. p .bytes)
+  length-bytesOf = length-map qs (λ p. p .bytes)
 
   bytes-at : (i : ℕ) → getD (bytesOf qs) i [] ≡ (getD qs i nil) .bytes
   unfolding bytesOf
@@ -95,7 +95,7 @@ module _ (qs : List Packet) where
   split a c n l = slice-split a c qs (n .order) (omega arith) ∙ ap (λ r. slice a c qs ++ r) (drop-cons qs c nil l ∙ rw (add-one c))
 
   closes-at : (a c : ℕ) → Next (bytesOf qs) a c → c < length qs → closes ((getD qs c nil) .bytes) ≡ true
-  closes-at a c n l = rw (bytes-at c) at (n .close (omega (arith, size)))
+  closes-at a c n l = rw (bytes-at c) at (n .close (omega (arith, length-bytesOf)))
 
   -- the packet that goes out
   abbrev made : ℕ → ℕ → ℕ → Packet
@@ -112,10 +112,10 @@ module _ (qs : List Packet) where
     pub step-last : Every Short qs → Next (bytesOf qs) (c + 1) (length (bytesOf qs)) → mergePackets (drop a qs) ≡ made a c (length (bytesOf qs)) ∷ []
     unfolding piece
     step-last sh m =
-        let w : Every Waits (slice (c + 1) (length qs) (bytesOf qs)) = rw (← size) (m .wait) in
+        let w : Every Waits (slice (c + 1) (length qs) (bytesOf qs)) = rw (← length-bytesOf) (m .wait) in
         let v = slice-waits (c + 1) (length qs) w in
         let r = slice-rest (c + 1) qs in
-        rw (split a c n l, ← r, times-at c, bytes-at c, size, ← bytes-slice a c, ← bytes-slice (c + 1) (length qs))
+        rw (split a c n l, ← r, times-at c, bytes-at c, length-bytesOf, ← bytes-slice a c, ← bytes-slice (c + 1) (length qs))
         (merge-last (slice-waits a c (n .wait)) (getD qs c nil) (closes-at a c n l) (every-slice Short a c qs sh) (every-at Short c qs nil l sh) v)
 
 -- ---- frameless packets alone
@@ -158,7 +158,7 @@ module _ (qs : List Packet) (n : Next (bytesOf qs) 0 (length (bytesOf qs))) (i :
   -- all go out as one, with the time of the first that has bytes
   pub alone-some : i < length qs → mergePackets qs ≡ record { time = getD (timesOf qs) i 0; bytes = unitBytes (allParsed (bytesOf qs)) } ∷ []
   alone-some l =
-      let k = size qs in
+      let k = length-bytesOf qs in
       let e : qs ≡ slice 0 i qs ++ (getD qs i nil ∷ drop (i + 1) qs) =
       slice-split 0 i qs (omega arith) (omega arith) ∙ ap (λ r. slice 0 i qs ++ r) (drop-cons qs i nil l ∙ rw (add-one i)) in
       let b : 0 < length ((getD qs i nil) .bytes) = rw (bytes-at qs i) at (f .full (omega arith)) in
