@@ -16,11 +16,11 @@ use Rattle.container.specs.Lists.{accepts}
 use Rattle.annexb.proofs.SpanLaws.{ahead, ahead-nil, ahead-onto, ahead-split}
 
 -- the units are those of the front, and then those from `at` on, the next of which is number i
-pub record Cut (s es : List ℕ) (at i : ℕ) (front : List (List ℕ)) : Type 0 where
+pub record CutUpTo (s es : List ℕ) (at i : ℕ) (front : List (List ℕ)) : Type 0 where
   pub whole : unitsAt s es ≡ ahead front (unitsFrom at (drop at s) (drop i es))
   pub low : at ≤ length s
 
-pub cut-start : (s es : List ℕ) → Cut s es 0 0 []
+pub cut-start : (s es : List ℕ) → CutUpTo s es 0 0 []
 cut-start s es = record { whole = ahead-nil (unitsFrom 0 s es); low = omega arith }
 
 -- an answer that is accepted or refused with 36
@@ -30,7 +30,7 @@ not-accepted p q = let z : _≡_ {A = ℕ} 0 1 = clash (rw p at q) in omega arit
     clash : false ≡ true → _≡_ {A = ℕ} 0 1
     clash e = cc
 
-module _ (s es : List ℕ) {at i : ℕ} {front : List (List ℕ)} (c : Cut s es at i front) where
+module _ (s es : List ℕ) {at i : ℕ} {front : List (List ℕ)} (c : CutUpTo s es at i front) where
   module _ (l : i < length es) where
     abbrev end : ℕ
     end = getD es i 0
@@ -50,7 +50,7 @@ module _ (s es : List ℕ) {at i : ℕ} {front : List (List ℕ)} (c : Cut s es 
         let j : at + (end - at) ≡ end = omega arith in
         step ∙ rw (le-leb at end a, le-leb (end - at) (length (drop at s)) k, drop-drop, j, add-one i)
 
-    pub cut-next : at ≤ end → end ≤ length s → Cut s es end (i + 1) (front ++ (span s at end ∷ []))
+    pub cut-next : at ≤ end → end ≤ length s → CutUpTo s es end (i + 1) (front ++ (span s at end ∷ []))
     cut-next a b =
         record { whole = c .whole ∙ ap (ahead front) (cut-fits a b) ∙ ahead-onto front (span s at end) (unitsFrom end (drop end s) (drop (i + 1) es)); low = b }
 

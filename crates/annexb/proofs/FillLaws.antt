@@ -17,7 +17,7 @@ use Rattle.container.specs.AnnexB.{lengthObu, frameUnitOf, frameUnit, temporalU
 use Rattle.bitio.specs.Limits.{limit}
 use Rattle.container.specs.Units.{endsOf}
 use Rattle.annexb.specs.code.Spans.{span}
-use Rattle.annexb.specs.code.Fill.{Filling, UnitsRoom, Filled}
+use Rattle.annexb.specs.code.Fill.{ObusRoom, UnitsRoom, Filled}
 use Rattle.bitio.specs.Lent.{Wrote}
 use Rattle.container.proofs.StreamLaws.{bytes-flat}
 use Rattle.container.proofs.AnnexBLaws.{temporal-shrinks}
@@ -129,18 +129,18 @@ is-held : {d : List ℕ} {w : ℕ} {x : Answer (List Obu)} {os : List Obu} {d′
 is-held q l = rw q l
 
 module _ (s : List ℕ) (a e : ℕ) (d : List ℕ) (w : ℕ) where
-  pub whole-frame : Filling (many lengthObu (span s a e)) d w → Whole lengthObu obuBytes s a e d w
+  pub whole-frame : ObusRoom (many lengthObu (span s a e)) unitBytes d w → Whole lengthObu obuBytes s a e d w
   unfolding unitBytes
-  whole-frame f = record { all = f .obus; reads = f .reads; room = f .room }
+  whole-frame f = record { all = f .held; reads = f .reads; room = f .room }
 
-  pub whole-unit : Filling (answer flat (many frameUnit (span s a e))) d w → Whole frameUnit unitBytes s a e d w
+  pub whole-unit : ObusRoom (answer flat (many frameUnit (span s a e))) unitBytes d w → Whole frameUnit unitBytes s a e d w
   whole-unit f = go (many frameUnit (span s a e)) refl (f .reads)
     where
-      go : (x : Answer (List (List Obu))) → many frameUnit (span s a e) ≡ x → answer flat x ≡ accepted (f .obus) → Whole frameUnit unitBytes s a e d w
+      go : (x : Answer (List (List Obu))) → many frameUnit (span s a e) ≡ x → answer flat x ≡ accepted (f .held) → Whole frameUnit unitBytes s a e d w
       go (refused k) q r = let z : _≡_ {A = ℕ} 0 1 = cc in absurd (omega arith)
       go (accepted fs) q r =
-          let y : flat fs ≡ f .obus = cc in
-          let n : flatMap unitBytes fs ≡ unitBytes (f .obus) = flat-units fs ∙ bytes-flat fs ∙ ap unitBytes y in
+          let y : flat fs ≡ f .held = cc in
+          let n : flatMap unitBytes fs ≡ unitBytes (f .held) = flat-units fs ∙ bytes-flat fs ∙ ap unitBytes y in
           record { all = fs; reads = q; room = rw n (f .room) }
 
   -- the whole frame unit, the whole unit

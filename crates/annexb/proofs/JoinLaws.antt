@@ -23,10 +23,11 @@ use Rattle.container.specs.Units.{unitsAt, countOf, outAfter}
 use Rattle.annexb.specs.code.Spans.{span}
 use Rattle.bitio.specs.Lent.{Wrote}
 use Rattle.container.specs.Lists.{accepts}
-use Rattle.annexb.specs.code.Join.{innerLength, framedLength, Putting, Writing}
+use Rattle.annexb.specs.code.Fill.{ObusRoom}
+use Rattle.annexb.specs.code.Join.{innerLength, framedLength, AnnexbRoom}
 use Rattle.annexb.proofs.SpanLaws.{span-all, ahead, Passed, passed-start, passed-next, passed-stop, passed-end}
 use Rattle.annexb.proofs.FillLaws.{flatMap-append, Whole}
-use Rattle.annexb.proofs.CutLaws.{Cut, cut-start, cut-next, cut-good, cut-part, cut-done, accepted-is}
+use Rattle.annexb.proofs.CutLaws.{CutUpTo, cut-start, cut-next, cut-good, cut-part, cut-done, accepted-is}
 use Rattle.obu.proofs.WriteLaws.{ext-most}
 
 -- ---- lengths
@@ -179,7 +180,7 @@ module _ (done : List (List ℕ)) {bs : List ℕ} (e : annexbBytes done ≡ acce
 
 pub record Totalling (s es : List ℕ) (at i n : ℕ) : Type 0 where
   pub done : List (List ℕ)
-  pub cut : Cut s es at i done
+  pub cut : CutUpTo s es at i done
   pub bytes : List ℕ
   pub made : annexbBytes done ≡ accepted bytes
   pub bytes-are : n ≡ length bytes
@@ -265,7 +266,7 @@ module _ {d : List ℕ} {w : ℕ} (l : w ≤ length d) {d₁ d₂ d₃ : List �
       rw append-assoc at (wrote-more (wrote-more (rw n at a) l b) l c)
 
 -- the OBUs of a unit, to be written one after another
-pub whole-obus : {u d : List ℕ} {w : ℕ} → Putting u (flatMap innerBytes) d w → Whole headObu innerBytes u 0 (length u) d w
+pub whole-obus : {u d : List ℕ} {w : ℕ} → ObusRoom (obus u) (flatMap innerBytes) d w → Whole headObu innerBytes u 0 (length u) d w
 whole-obus {u} p = record { all = p .held; reads = sym (obus-are u) ∙ p .reads; room = p .room }
 
 pub obus-laid : {u d : List ℕ} {w : ℕ} (x : Whole headObu innerBytes u 0 (length u) d w) {d′ : List ℕ} {w′ : ℕ} → Wrote d w (flatMap innerBytes (x .all)) w′ d′ → Wrote d w (flatMap innerBytes (acceptedList (obus u))) w′ d′
@@ -275,7 +276,7 @@ obus-laid {u} x l = rw (obus-are u ∙ x .reads) l
 
 pub record Putted (s es d : List ℕ) (at i : ℕ) (d′ : List ℕ) (w : ℕ) : Type 0 where
   pub done : List (List ℕ)
-  pub cut : Cut s es at i done
+  pub cut : CutUpTo s es at i done
   pub bytes : List ℕ
   pub made : annexbBytes done ≡ accepted bytes
   pub laid : Wrote d 0 bytes w d′
@@ -285,7 +286,7 @@ pub putted-start : (s es d : List ℕ) → Putted s es d 0 0 d 0
 unfolding annexbBytes
 putted-start s es d = record { done = []; cut = cut-start s es; bytes = []; made = refl; laid = wrote-none d 0; kept = refl }
 
-module _ {s es d : List ℕ} (x : Writing s es d) {at i : ℕ} {d′ : List ℕ} {w : ℕ} (t : Putted s es d at i d′ w) where
+module _ {s es d : List ℕ} (x : AnnexbRoom s es d) {at i : ℕ} {d′ : List ℕ} {w : ℕ} (t : Putted s es d at i d′ w) where
   good : accepts (unitsAt s es) ≡ true
   good = rw (x .cut)
 
@@ -303,7 +304,7 @@ module _ {s es d : List ℕ} (x : Writing s es d) {at i : ℕ} {d′ : List ℕ}
         let (ls, y) = cut-part s es (t .cut) l (x .units) (x .cut) (g .0) (g .1) in
         bytes-part (t .done) (t .made) (span s at upto) ls (sym (ap annexbBytes y) ∙ x .made)
 
-    pub putted-unit : Putting (span s at upto) annexbUnit d′ w
+    pub putted-unit : ObusRoom (obus (span s at upto)) annexbUnit d′ w
     putted-unit =
         let (os, p, r, y) = part in
         let n = ap length y ∙ length-append (t .bytes) (annexbUnit os ++ r) in

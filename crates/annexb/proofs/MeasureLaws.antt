@@ -18,6 +18,7 @@ use Rattle.container.specs.Stream.{flat, streamBytes}
 use Rattle.container.specs.AnnexB.{lengthObu, frameUnitOf, frameUnit, temporalUnitOf, temporalUnit}
 use Rattle.bitio.specs.Limits.{limit, capped}
 use Rattle.annexb.specs.code.Spans.{span}
+use Rattle.annexb.specs.code.Fill.{unitsRead}
 use Rattle.container.specs.Units.{sizesOf}
 use Rattle.container.proofs.StreamLaws.{bytes-append, bytes-flat, flat-append}
 use Rattle.container.proofs.AnnexBLaws.{length-shrinks, frame-shrinks, temporal-shrinks}
@@ -132,7 +133,7 @@ module _ {s : List ℕ} {at bytes units : ℕ} (u : UnitsDone s at bytes units) 
   pub units-end : length s ≤ at → many temporalUnit s ≡ accepted (u .done)
   units-end l = ap (many temporalUnit) (sym (span-all s)) ∙ passed-end temporalUnit temporal-shrinks s 0 (length s) (u .passed) l
 
-  pub units-sizes : length s ≤ at → accepted (record { bytes = bytes; units = units }) ≡ sizesOf (answer (map unitBytes) (many temporalUnit s))
+  pub units-sizes : length s ≤ at → accepted (record { bytes = bytes; units = units }) ≡ sizesOf (unitsRead s)
   units-sizes l =
       let a : length (streamBytes (map unitBytes (u .done))) ≡ bytes = ap length (bytes-flat (u .done)) ∙ sym (u .bytes-are) in
       let b : length (map unitBytes (u .done)) ≡ units = length-map (u .done) unitBytes ∙ sym (u .units-are) in
@@ -238,6 +239,6 @@ pub data Left (s : List ℕ) (at bytes units fault : ℕ) : Type 0 where
   faulted : at < length s → many temporalUnit s ≡ refused fault → Left s at bytes units fault
 
 pub left-answer : {s : List ℕ} {at bytes units fault : ℕ} → Left s at bytes units fault
-    → pick (ltb at (length s)) (refused fault) (accepted (record { bytes = bytes; units = units })) ≡ sizesOf (answer (map unitBytes) (many temporalUnit s))
+    → pick (ltb at (length s)) (refused fault) (accepted (record { bytes = bytes; units = units })) ≡ sizesOf (unitsRead s)
 left-answer {s} {at} (ended k u) = rw (le-ltb at (length s) k) (units-sizes u k)
 left-answer {s} {at} (faulted k e) = rw (lt-ltb at (length s) k, e)

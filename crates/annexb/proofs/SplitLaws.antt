@@ -18,7 +18,7 @@ use Rattle.bitio.specs.Limits.{limit}
 use Rattle.container.specs.Limits.{Room, fits, fitUnits}
 use Rattle.container.specs.Container.{annexb, read}
 use Rattle.container.specs.Units.{Sizes, sizesOf, bytesAfter, endsAfter, splitSays}
-use Rattle.annexb.specs.code.Fill.{UnitsRoom, Filled}
+use Rattle.annexb.specs.code.Fill.{UnitsRoom, Filled, unitsRead}
 use Rattle.container.specs.declared.units.Split.{Split}
 use Rattle.container.specs.declared.units.Split.the-variants.{Units, Refused}
 use Rattle.container.proofs.units.Split.{the-type}
@@ -45,10 +45,6 @@ module _ (room : Room) (s : List ℕ) where
       go [] l = refl
       go (b ∷ t) l = absurd (omega arith)
 
--- the units of Annex B, in written form
-abbrev pub found : List ℕ → Answer (List (List ℕ))
-found s = answer (map unitBytes) (many temporalUnit s)
-
 -- units that were measured: n bytes, u units
 pub record Counted (s : List ℕ) (n u : ℕ) : Type 0 where
   pub units : List (List Obu)
@@ -56,7 +52,7 @@ pub record Counted (s : List ℕ) (n u : ℕ) : Type 0 where
   pub bytes-are : length (streamBytes (map unitBytes units)) ≡ n
   pub units-are : length units ≡ u
 
-pub counted : (s : List ℕ) {n u : ℕ} → sizesOf (found s) ≡ accepted (record { bytes = n; units = u }) → Counted s n u
+pub counted : (s : List ℕ) {n u : ℕ} → sizesOf (unitsRead s) ≡ accepted (record { bytes = n; units = u }) → Counted s n u
 counted s {n} {u} q = go (many temporalUnit s) refl q
   where
     go : (x : Answer (List (List Obu))) → many temporalUnit s ≡ x → sizesOf (answer (map unitBytes) x) ≡ accepted (record { bytes = n; units = u }) → Counted s n u
@@ -66,27 +62,27 @@ counted s {n} {u} q = go (many temporalUnit s) refl q
         record { units = us; reads = p; bytes-are = ap (λ (x : Sizes). x .bytes) z; units-are = sym (length-map us unitBytes) ∙ ap (λ (x : Sizes). x .units) z }
 
 module _ (room : Room) (s : List ℕ) (l : length s ≤ limit) (some : 0 < length s) where
-  read-found : read annexb room s ≡ fitUnits room (found s)
+  read-units : read annexb room s ≡ fitUnits room (unitsRead s)
   unfolding read
-  read-found = rw (le-leb (length s) limit l, annexb-some s some)
+  read-units = rw (le-leb (length s) limit l, annexb-some s some)
 
-  pub read-refused : {k : ℕ} → sizesOf (found s) ≡ refused k → read annexb room s ≡ refused k
-  read-refused {k} q = read-found ∙ go (found s) q
+  pub read-refused : {k : ℕ} → sizesOf (unitsRead s) ≡ refused k → read annexb room s ≡ refused k
+  read-refused {k} q = read-units ∙ go (unitsRead s) q
     where
       go : (x : Answer (List (List ℕ))) → sizesOf x ≡ refused k → fitUnits room x ≡ refused k
       go (refused j) q = let z : j ≡ k = cc in rw z
       go (accepted us) q = let z : _≡_ {A = ℕ} 0 1 = cc in absurd (omega arith)
 
   module _ {n u : ℕ} (c : Counted s n u) where
-    read-fits : read annexb room s ≡ pick (fits n u room) (found s) (refused 35)
+    read-fits : read annexb room s ≡ pick (fits n u room) (unitsRead s) (refused 35)
     read-fits =
         let k : length (map unitBytes (c .units)) ≡ u = length-map (c .units) unitBytes ∙ c .units-are in
-        read-found ∙ rw (c .reads, c .bytes-are, k)
+        read-units ∙ rw (c .reads, c .bytes-are, k)
 
     pub read-full : fits n u room ≡ false → read annexb room s ≡ refused 35
     read-full q = read-fits ∙ rw q
 
-    pub read-whole : fits n u room ≡ true → read annexb room s ≡ found s
+    pub read-whole : fits n u room ≡ true → read annexb room s ≡ unitsRead s
     read-whole q = read-fits ∙ rw q
 
 -- with room the units can be written
@@ -103,7 +99,7 @@ measured {d = d} {e} {n} {u} c q =
     }
 
 -- what was written is what was read
-pub says-whole : (room : Room) {s d e d′ e′ : List ℕ} {a : Answer Sizes} → read annexb room s ≡ found s → a ≡ sizesOf (found s) → Filled s d e d′ e′ → Says (read annexb room s) a d e d′ e′
+pub says-whole : (room : Room) {s d e d′ e′ : List ℕ} {a : Answer Sizes} → read annexb room s ≡ unitsRead s → a ≡ sizesOf (unitsRead s) → Filled s d e d′ e′ → Says (read annexb room s) a d e d′ e′
 says-whole room q m w = rw q (m, (w .out, w .ends))
 
 -- an answer without units is a refusal

@@ -17,7 +17,7 @@ use Rattle.container.specs.Container.{annexb, writeAt}
 use Rattle.container.specs.Units.{unitsAt, countOf, outAfter, byteCountSays}
 use Rattle.container.proofs.ListLaws.{units-refused}
 use Rattle.container.specs.Lists.{accepts}
-use Rattle.annexb.specs.code.Join.{Writing}
+use Rattle.annexb.specs.code.Join.{AnnexbRoom}
 use Rattle.container.specs.declared.units.ByteCount.{ByteCount}
 use Rattle.container.specs.declared.units.ByteCount.the-variants.{Bytes, Refused}
 use Rattle.container.proofs.units.ByteCount.{the-type}
@@ -25,14 +25,14 @@ use Rattle.bitio.proofs.ParseLaws.{and-both}
 use Rattle.annexb.proofs.CutLaws.{accepted-is}
 
 -- an answer's two parts, as a writer's two clauses ask them
-abbrev pub Writes : Answer (List ℕ) → Answer ℕ → (d d′ : List ℕ) → Type 0
-Writes x a d d′ = (a ≡ countOf x) × (d′ ≡ outAfter x d)
+abbrev pub WriterSays : Answer (List ℕ) → Answer ℕ → (d d′ : List ℕ) → Type 0
+WriterSays x a d d′ = (a ≡ countOf x) × (d′ ≡ outAfter x d)
 
 -- a refusal changes nothing
-pub writes-refused : {x : Answer (List ℕ)} {k : ℕ} (d : List ℕ) → x ≡ refused k → Writes x (refused k) d d
+pub writes-refused : {x : Answer (List ℕ)} {k : ℕ} (d : List ℕ) → x ≡ refused k → WriterSays x (refused k) d d
 writes-refused d q = (rw q, rw q)
 
-pub writes-whole : {x y : Answer (List ℕ)} {a : Answer ℕ} (d : List ℕ) {d′ : List ℕ} → x ≡ y → a ≡ countOf y → d′ ≡ outAfter y d → Writes x a d d′
+pub writes-whole : {x y : Answer (List ℕ)} {a : Answer ℕ} (d : List ℕ) {d′ : List ℕ} → x ≡ y → a ≡ countOf y → d′ ≡ outAfter y d → WriterSays x a d d′
 writes-whole d q m w = (rw q m, rw q w)
 
 -- an answer without bytes is a refusal
@@ -82,10 +82,10 @@ module _ (room : Room) (s es : List ℕ) where
 
 -- with room the units can be written
 pub writing : (s es d : List ℕ) → accepts (unitsAt s es) ≡ true → {n : ℕ} → countOf (annexbBytes (acceptedList (unitsAt s es))) ≡ accepted n
-    → fits n 0 (bytesRoom (length d)) ≡ true → Writing s es d
+    → fits n 0 (bytesRoom (length d)) ≡ true → AnnexbRoom s es d
 writing s es d a {n} q f = let (us, p) = accepted-is (unitsAt s es) a in go us p (annexbBytes us) refl (rw p at q)
   where
-    go : (us : List (List ℕ)) → unitsAt s es ≡ accepted us → (x : Answer (List ℕ)) → annexbBytes us ≡ x → countOf x ≡ accepted n → Writing s es d
+    go : (us : List (List ℕ)) → unitsAt s es ≡ accepted us → (x : Answer (List ℕ)) → annexbBytes us ≡ x → countOf x ≡ accepted n → AnnexbRoom s es d
     go us p (refused k) y q = let z : _≡_ {A = ℕ} 0 1 = cc in absurd (omega arith)
     go us p (accepted bs) y q =
         let z : length bs ≡ n = cc in

@@ -10,11 +10,15 @@ use Rattle.container.specs.AnnexB.{temporalUnit}
 use Rattle.bitio.specs.Limits.{limit}
 use Rattle.container.specs.Units.{bytesAfter, endsAfter}
 
--- OBUs that are read, and have room in d at w in written form
-pub record Filling (x : Answer (List Obu)) (d : List ℕ) (w : ℕ) : Type 0 where
-  pub obus : List Obu
-  pub reads : x ≡ accepted obus
-  pub room : w + length (unitBytes obus) ≤ length d
+-- the units of Annex B, in written form
+abbrev pub unitsRead : List ℕ → Answer (List (List ℕ))
+unitsRead s = answer (map unitBytes) (many temporalUnit s)
+
+-- OBUs that are read, and have room in d at w, p being how they are written
+pub record ObusRoom (x : Answer (List Obu)) (p : List Obu → List ℕ) (d : List ℕ) (w : ℕ) : Type 0 where
+  pub held : List Obu
+  pub reads : x ≡ accepted held
+  pub room : w + length (p held) ≤ length d
 
 -- units that are read, and have room with their ends
 pub record UnitsRoom (s d e : List ℕ) : Type 0 where
@@ -26,5 +30,5 @@ pub record UnitsRoom (s d e : List ℕ) : Type 0 where
 
 -- d and e with the units and their ends
 pub record Filled (s d e d′ e′ : List ℕ) : Type 0 where
-  pub out : d′ ≡ bytesAfter (answer (map unitBytes) (many temporalUnit s)) d
-  pub ends : e′ ≡ endsAfter (answer (map unitBytes) (many temporalUnit s)) e
+  pub out : d′ ≡ bytesAfter (unitsRead s) d
+  pub ends : e′ ≡ endsAfter (unitsRead s) e

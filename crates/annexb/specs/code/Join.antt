@@ -6,7 +6,7 @@ use mathlib.Core.Option.{Option}
 use lib.ListN.{length}
 use Rattle.bitio.specs.Parse.{Answer, refused, accepted}
 use Rattle.bitio.specs.Leb.{lebBytes}
-use Rattle.obu.specs.Obu.{Obu, extBytes, obus}
+use Rattle.obu.specs.Obu.{extBytes}
 use Rattle.container.specs.AnnexB.{annexbBytes}
 use Rattle.container.specs.Units.{unitsAt}
 
@@ -23,14 +23,8 @@ innerLength e n = 1 + length (extBytes e) + n
 abbrev pub framedLength : ℕ → ℕ
 framedLength n = length (lebBytes n) + n
 
--- OBUs of u, and room for them at w, p being how they are written
-pub record Putting (u : List ℕ) (p : List Obu → List ℕ) (d : List ℕ) (w : ℕ) : Type 0 where
-  pub held : List Obu
-  pub reads : obus u ≡ accepted held
-  pub room : w + length (p held) ≤ length d
-
 -- units that are read, and have room in Annex B
-pub record Writing (s es d : List ℕ) : Type 0 where
+pub record AnnexbRoom (s es d : List ℕ) : Type 0 where
   pub units : List (List ℕ)
   pub cut : unitsAt s es ≡ accepted units
   pub bytes : List ℕ

@@ -10,7 +10,7 @@ ghost use Rattle.obu.specs.Write.{obuLength, obu};
 ghost use Rattle.container.specs.Stream.{flat};
 ghost use Rattle.container.specs.AnnexB.{lengthObu, frameUnit};
 ghost use Rattle.annexb.specs.code.Spans.{span};
-ghost use Rattle.annexb.specs.code.Fill.{Filling, UnitsRoom, Filled};
+ghost use Rattle.annexb.specs.code.Fill.{ObusRoom, UnitsRoom, Filled};
 ghost use Rattle.bitio.specs.Lent.{Wrote};
 use crate::annexb::part::InnerAt;
 use crate::annexb::part::PartAt;
@@ -33,7 +33,7 @@ fn put_inner(data: &[u8], o: Obu, out: &mut [u8], w: usize) -> usize
 // The OBUs of a frame unit.
 fn fill_frame(data: &[u8], start: usize, end: usize, out: &mut [u8], place: usize) -> usize
     requires { ⌜ (start ≤ end) × (end ≤ length (now «data»)) ⌝ }
-    requires { ⌜ Filling (many lengthObu (span (now «data») start end)) (now out) place ⌝ }
+    requires { ⌜ ObusRoom (many lengthObu (span (now «data») start end)) unitBytes (now out) place ⌝ }
     ensures { λ r. ⌜ Wrote (now (out .entry)) place (unitBytes (acceptedList (many lengthObu (span (now («data» .entry)) start end)))) r (now (out .exit)) ⌝ }
 {
     let mut at = start;
@@ -51,7 +51,7 @@ fn fill_frame(data: &[u8], start: usize, end: usize, out: &mut [u8], place: usiz
 // The OBUs of a unit.
 fn fill_unit(data: &[u8], start: usize, end: usize, out: &mut [u8], place: usize) -> usize
     requires { ⌜ (start ≤ end) × (end ≤ length (now «data»)) ⌝ }
-    requires { ⌜ Filling (answer flat (many frameUnit (span (now «data») start end))) (now out) place ⌝ }
+    requires { ⌜ ObusRoom (answer flat (many frameUnit (span (now «data») start end))) unitBytes (now out) place ⌝ }
     ensures { λ r. ⌜ Wrote (now (out .entry)) place (unitBytes (acceptedList (answer flat (many frameUnit (span (now («data» .entry)) start end))))) r (now (out .exit)) ⌝ }
 {
     let mut at = start;

@@ -1,14 +1,12 @@
 // How many bytes the units of Annex B have in written form, and how many units there are: the measuring pass.
 ghost use mathlib.Core.Path.{_≡_};
-ghost use mathlib.Core.List.{map};
 ghost use mathlib.Core.Bool.{cond as pick};
 ghost use Prim.Native.Nat.{_≤_};
 ghost use lib.ListN.{length};
-ghost use Rattle.bitio.specs.Parse.{refused, accepted, answer, many};
-ghost use Rattle.obu.specs.Obu.{unitBytes};
-ghost use Rattle.container.specs.AnnexB.{temporalUnit};
+ghost use Rattle.bitio.specs.Parse.{refused, accepted};
 ghost use Rattle.bitio.specs.Limits.{limit};
 ghost use Rattle.container.specs.Units.{sizesOf, splitSays};
+ghost use Rattle.annexb.specs.code.Fill.{unitsRead};
 use crate::annexb::part::InnerAt;
 use crate::annexb::part::PartAt;
 use crate::annexb::part::inner_refusal;
@@ -31,7 +29,7 @@ fn measured(faulty: bool, fault: u32, bytes: usize, units: usize) -> Split
 // One label leaves all three loops at the first fault, before `at` has moved on.
 pub(crate) fn measure(data: &[u8]) -> Split
     requires { ⌜ length (now «data») ≤ limit ⌝ }
-    ensures { λ r. ⌜ splitSays r ≡ sizesOf (answer (map unitBytes) (many temporalUnit (now («data» .entry)))) ⌝ }
+    ensures { λ r. ⌜ splitSays r ≡ sizesOf (unitsRead (now («data» .entry))) ⌝ }
 {
     let len = data.len();
     let mut at: usize = 0;

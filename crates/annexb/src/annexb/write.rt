@@ -13,7 +13,8 @@ ghost use Rattle.container.specs.Units.{unitsAt, outAfter};
 ghost use Rattle.annexb.specs.code.Spans.{span};
 ghost use Rattle.bitio.specs.Parse.{acceptedList};
 ghost use Rattle.bitio.specs.Lent.{Wrote};
-ghost use Rattle.annexb.specs.code.Join.{innerLength, framedLength, Putting, Writing};
+ghost use Rattle.annexb.specs.code.Fill.{ObusRoom};
+ghost use Rattle.annexb.specs.code.Join.{innerLength, framedLength, AnnexbRoom};
 use crate::annexb::count::count_inner;
 use crate::annexb::count::framed_len;
 use crate::annexb::count::inner_len;
@@ -42,7 +43,7 @@ fn put_length_obu(u: &[u8], o: Obu, out: &mut [u8], w: usize) -> usize
 // The OBUs of a unit.
 fn put_inner_obus(u: &[u8], out: &mut [u8], place: usize) -> usize
     requires { ⌜ length (now u) ≤ limit ⌝ }
-    requires { ⌜ Putting (now u) (flatMap innerBytes) (now out) place ⌝ }
+    requires { ⌜ ObusRoom (obus (now u)) (flatMap innerBytes) (now out) place ⌝ }
     ensures { λ r. ⌜ Wrote (now (out .entry)) place (flatMap innerBytes (acceptedList (obus (now (u .entry))))) r (now (out .exit)) ⌝ }
 {
     let mut at: usize = 0;
@@ -60,7 +61,7 @@ fn put_inner_obus(u: &[u8], out: &mut [u8], place: usize) -> usize
 // A unit: its OBUs in one frame unit.
 fn put_unit(u: &[u8], out: &mut [u8], w: usize) -> usize
     requires { ⌜ length (now u) ≤ limit ⌝ }
-    requires { ⌜ Putting (now u) annexbUnit (now out) w ⌝ }
+    requires { ⌜ ObusRoom (obus (now u)) annexbUnit (now out) w ⌝ }
     ensures { λ r. ⌜ Wrote (now (out .entry)) w (annexbUnit (acceptedList (obus (now (u .entry))))) r (now (out .exit)) ⌝ }
 {
     let ByteCount::Bytes(n) = count_inner(u) else {
@@ -74,7 +75,7 @@ fn put_unit(u: &[u8], out: &mut [u8], w: usize) -> usize
 // All units.
 pub(crate) fn put_units(units: &[u8], unit_ends: &[u32], out: &mut [u8])
     requires { ⌜ length (now units) ≤ limit ⌝ }
-    requires { ⌜ Writing (now units) (now «unit_ends») (now out) ⌝ }
+    requires { ⌜ AnnexbRoom (now units) (now «unit_ends») (now out) ⌝ }
     ensures { λ _. ⌜ now (out .exit) ≡ outAfter (annexbBytes (acceptedList (unitsAt (now (units .entry)) (now («unit_ends» .entry))))) (now (out .entry)) ⌝ }
 {
     let mut at: usize = 0;

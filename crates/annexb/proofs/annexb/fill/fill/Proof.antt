@@ -89,7 +89,7 @@ fill-unit-requires c κs =
     let l = at-loop f in
     let g = got f in
     let h = unit-obus f in
-    ((g .ends, g .within), record { obus = h .0; reads = h .1; room = walk-room _ _ temporal-shrinks _ _ _ _ _ (whole-all (begin l .pre)) (l .loop .inv .walk) (h .2) })
+    ((g .ends, g .within), record { held = h .0; reads = h .1; room = walk-room _ _ temporal-shrinks _ _ _ _ _ (whole-all (begin l .pre)) (l .loop .inv .walk) (h .2) })
 
 cast-ends : tie.Need-cast-ends Inv-loop μ-loop
 cast-ends c = let s = small c in omega arith

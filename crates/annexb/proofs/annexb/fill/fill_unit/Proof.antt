@@ -68,7 +68,7 @@ fill-frame-requires c κs =
     let g = got f in
     let h = frame-obus f in
     let p = begin l .pre .0 .1 in
-    ((g .ends, omega (arith, g .within)), record { obus = h .0; reads = h .1; room = walk-room _ _ frame-shrinks _ _ _ _ _ (whole l) (l .loop .inv) (h .2) })
+    ((g .ends, omega (arith, g .within)), record { held = h .0; reads = h .1; room = walk-room _ _ frame-shrinks _ _ _ _ _ (whole l) (l .loop .inv) (h .2) })
 
 loop-less : tie.Need-loop-less Inv-loop μ-loop
 loop-less c = let g = got (c .before .before .before .before .before) in omega (arith, g .after, g .ends, g .within)
