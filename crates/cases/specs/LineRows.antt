@@ -8,7 +8,7 @@ use Rattle.protocol.specs.Answers.{partsOf}
 use Rattle.protocol.specs.Text.{wordKey}
 use Rattle.protocol.specs.Room.{roomPrefix}
 use Rattle.protocol.specs.Told.{Told, told}
-use Rattle.protocol.specs.Fields.{Reading, fieldsOf}
+use Rattle.protocol.specs.Fields.{FieldsRead, fieldsOf}
 use Rattle.protocol.specs.Printed.{answerText}
 use Rattle.protocol.specs.declared.kinds.Format.{Format}
 use Rattle.protocol.specs.declared.lent.Room.{Room as LineRoom}
@@ -19,7 +19,7 @@ abbrev roomNumbers : LineRoom → List ℕ
 roomNumbers r = boolByte (r .«is_given») ∷ r .bytes ∷ r .ends ∷ r .times ∷ r .next ∷ []
 
 -- where reading stopped, how many bytes, byte strings and numbers were read; then the memory they went to
-abbrev fieldNumbers : Reading → List (List ℕ)
+abbrev fieldNumbers : FieldsRead → List (List ℕ)
 fieldNumbers t = (t .fields .next ∷ t .fields .bytes ∷ t .fields .ends ∷ t .fields .numbers ∷ []) ∷ t .decoded ∷ t .ends ∷ t .numbers ∷ []
 
 abbrev printed : Told → Format → Bool → Answer (List (List ℕ))

@@ -10,13 +10,13 @@ use borrow.Author.Tests.{lt-ltb, le-ltb, le-leb, lt-leb, eq-eqb, ne-eqb}
 use Rattle.protocol.specs.Text.{none, spells, byteString, readNumber, wordAt}
 use Rattle.protocol.specs.Says.{decodedTo, decodedIn}
 use Rattle.protocol.specs.Kinds.{separatorOf, refilledOf, restOf}
-use Rattle.protocol.specs.Fields.{Reading, spoiledWith, withBytes, bytesField, largestOf, isDash, valueOf, withValue, valueField, behind, fieldOf, fieldsIn}
+use Rattle.protocol.specs.Fields.{FieldsRead, spoiledWith, withBytes, bytesField, largestOf, isDash, valueOf, withValue, valueField, behind, fieldOf, fieldsIn}
 use Rattle.protocol.specs.declared.kinds.Format.{Format}
 use Rattle.protocol.proofs.TextLaws.{word-between}
 
 -- ---- byte strings
 
-module _ (t : Reading) (w : List ℕ) {d : List ℕ} (in-d : d ≡ decodedIn (t .decoded) (t .fields .bytes) (byteString w)) where
+module _ (t : FieldsRead) (w : List ℕ) {d : List ℕ} (in-d : d ≡ decodedIn (t .decoded) (t .fields .bytes) (byteString w)) where
   pub bytes-bad : none ≡ decodedTo (t .decoded) (t .fields .bytes) (byteString w) → spoiledWith t d ≡ bytesField t w
   unfolding bytesField
   bytes-bad e = rw (← e, ← in-d)
@@ -56,7 +56,7 @@ module _ (kind : ℕ) (w : List ℕ) where
         unfolding valueOf
         value-good l = rw (h, k, ← e, le-leb v (largestOf kind) l)
 
-module _ (t : Reading) (kind : ℕ) (w : List ℕ) where
+module _ (t : FieldsRead) (kind : ℕ) (w : List ℕ) where
   pub valued-bad : none ≡ valueOf kind w → spoiledWith t (t .decoded) ≡ valueField t kind w
   unfolding valueField
   valued-bad e = rw (← e)
@@ -73,18 +73,18 @@ module _ (t : Reading) (kind : ℕ) (w : List ℕ) where
 -- ---- one field
 
 -- the line is over, or a field was bad
-pub field-over : (s : List ℕ) (t : Reading) → length s < t .fields .next → t ≡ fieldOf s t
+pub field-over : (s : List ℕ) (t : FieldsRead) → length s < t .fields .next → t ≡ fieldOf s t
 unfolding fieldOf
 field-over s t h = rw (lt-ltb (length s) (t .fields .next) h)
 
 -- what the code has of a field: the format f with its kind at the head, the rest g, and the field's end n
-pub record Field (s : List ℕ) (t : Reading) (f g : Format) (n : ℕ) : Type 0 where
+pub record Field (s : List ℕ) (t : FieldsRead) (f g : Format) (n : ℕ) : Type 0 where
   pub there : t .fields .next ≤ length s
   pub head : f ≡ refilledOf (t .fields .format)
   pub rest : g ≡ restOf f
   pub stop : n ≡ t .fields .next + length (wordAt (separatorOf (refilledOf g .kinds)) s (t .fields .next))
 
-module _ (s : List ℕ) (t : Reading) {f g : Format} {n : ℕ} (x : Field s t f g n) where
+module _ (s : List ℕ) (t : FieldsRead) {f g : Format} {n : ℕ} (x : Field s t f g n) where
   pub field-bytes : f .kinds % 16 ≡ 1 → bytesField (behind t (n + 1) g) (take (n - t .fields .next) (drop (t .fields .next) s)) ≡ fieldOf s t
   unfolding fieldOf
   field-bytes k =
@@ -102,17 +102,17 @@ module _ (s : List ℕ) (t : Reading) {f g : Format} {n : ℕ} (x : Field s t f 
 
 -- ---- all fields
 
-pub fields-start : (k : ℕ) (s : List ℕ) (t : Reading) → fieldsIn k s t ≡ fieldsIn (k - 0) s t
+pub fields-start : (k : ℕ) (s : List ℕ) (t : FieldsRead) → fieldsIn k s t ≡ fieldsIn (k - 0) s t
 fields-start k s t = let e : k - 0 ≡ k = omega arith in rw e
 
 -- one more of those that are left
-pub fields-more : (k i : ℕ) (s : List ℕ) (t : Reading) → i < k → fieldsIn (k - i) s t ≡ fieldsIn (k - (i + 1)) s (fieldOf s t)
+pub fields-more : (k i : ℕ) (s : List ℕ) (t : FieldsRead) → i < k → fieldsIn (k - i) s t ≡ fieldsIn (k - (i + 1)) s (fieldOf s t)
 unfolding fieldsIn
 fields-more k i s t h =
     let e : k - i ≡ suc (k - (i + 1)) = omega arith in
     rw e
 
-pub fields-end : (k i : ℕ) (s : List ℕ) (t : Reading) → k ≤ i → fieldsIn (k - i) s t ≡ t
+pub fields-end : (k i : ℕ) (s : List ℕ) (t : FieldsRead) → k ≤ i → fieldsIn (k - i) s t ≡ t
 unfolding fieldsIn
 fields-end k i s t h =
     let e : k - i ≡ 0 = omega arith in

@@ -11,14 +11,14 @@ use Rattle.protocol.specs.declared.kinds.Format.{Format}
 use Rattle.protocol.specs.declared.fields.Fields.{Fields}
 
 -- how far a line has been read, and the memory that its fields go to
-pub record Reading : Type 0 where
+pub record FieldsRead : Type 0 where
   pub fields : Fields
   pub decoded : List ℕ
   pub ends : List ℕ
   pub numbers : List ℕ
 
-abbrev pub reading : Fields → (decoded ends numbers : List ℕ) → Reading
-reading f d es ns = record { fields = f; decoded = d; ends = es; numbers = ns }
+abbrev pub fieldsRead : Fields → (decoded ends numbers : List ℕ) → FieldsRead
+fieldsRead f d es ns = record { fields = f; decoded = d; ends = es; numbers = ns }
 
 -- ---- one field
 
@@ -27,7 +27,7 @@ abbrev pub spoiledOf : Fields → Fields
 spoiledOf f = record { next = 2 ^ 64 - 1; format = f .format; bytes = f .bytes; ends = f .ends; numbers = f .numbers }
 
 -- a byte string that ends at e
-abbrev pub withBytes : Reading → List ℕ → ℕ → Reading
+abbrev pub withBytes : FieldsRead → List ℕ → ℕ → FieldsRead
 withBytes t d e =
     record {
       fields = record { next = t .fields .next; format = t .fields .format; bytes = e; ends = t .fields .ends + 1; numbers = t .fields .numbers };
@@ -36,15 +36,15 @@ withBytes t d e =
       numbers = t .numbers;
     }
 
-abbrev pub spoiledWith : Reading → List ℕ → Reading
+abbrev pub spoiledWith : FieldsRead → List ℕ → FieldsRead
 spoiledWith t d = record { fields = spoiledOf (t .fields); decoded = d; ends = t .ends; numbers = t .numbers }
 
-abbrev pub bytesTo : Reading → List ℕ → Meaning ℕ → Reading
+abbrev pub bytesTo : FieldsRead → List ℕ → Meaning ℕ → FieldsRead
 bytesTo t d none = spoiledWith t d
 bytesTo t d (spells e) = pick (ltb (t .fields .ends) (length (t .ends))) (withBytes t d e) (spoiledWith t d)
 
 -- the word w as a byte string, put behind those before it
-unfoldable pub bytesField : Reading → List ℕ → Reading
+unfoldable pub bytesField : FieldsRead → List ℕ → FieldsRead
 bytesField t w =
     bytesTo t (decodedIn (t .decoded) (t .fields .bytes) (byteString w)) (decodedTo (t .decoded) (t .fields .bytes) (byteString w))
 
@@ -65,7 +65,7 @@ valueOf kind w =
     pick (ltb kind numberKind || ltb optionalByteKind kind) none (
     pick (eqb kind optionalByteKind && isDash w) (spells noByte) (upTo (largestOf kind) (readNumber w)))
 
-abbrev pub withValue : Reading → ℕ → Reading
+abbrev pub withValue : FieldsRead → ℕ → FieldsRead
 withValue t v =
     record {
       fields = record { next = t .fields .next; format = t .fields .format; bytes = t .fields .bytes; ends = t .fields .ends; numbers = t .fields .numbers + 1 };
@@ -74,24 +74,24 @@ withValue t v =
       numbers = set (t .numbers) (t .fields .numbers) v;
     }
 
-abbrev pub valueTo : Reading → Meaning ℕ → Reading
+abbrev pub valueTo : FieldsRead → Meaning ℕ → FieldsRead
 valueTo t none = spoiledWith t (t .decoded)
 valueTo t (spells v) = pick (ltb (t .fields .numbers) (length (t .numbers))) (withValue t v) (spoiledWith t (t .decoded))
 
 -- the word w as a number
-unfoldable pub valueField : Reading → ℕ → List ℕ → Reading
+unfoldable pub valueField : FieldsRead → ℕ → List ℕ → FieldsRead
 valueField t kind w = valueTo t (valueOf kind w)
 
 -- ---- all fields
 
 -- the next field starts at n, and is of the first kind of g
-abbrev pub behind : Reading → ℕ → Format → Reading
+abbrev pub behind : FieldsRead → ℕ → Format → FieldsRead
 behind t n g =
-    reading (record { next = n; format = g; bytes = t .fields .bytes; ends = t .fields .ends; numbers = t .fields .numbers })
+    fieldsRead (record { next = n; format = g; bytes = t .fields .bytes; ends = t .fields .ends; numbers = t .fields .numbers })
     (t .decoded) (t .ends) (t .numbers)
 
 -- the word w as a field of a kind
-abbrev pub fieldFrom : Reading → ℕ → List ℕ → Reading
+abbrev pub fieldFrom : FieldsRead → ℕ → List ℕ → FieldsRead
 fieldFrom t kind w = pick (eqb kind bytesKind) (bytesField t w) (valueField t kind w)
 
 -- the character before the field behind one of the first kind of f
@@ -99,17 +99,17 @@ abbrev pub stopOf : Format → ℕ
 stopOf f = separatorOf (refilledOf (restOf f) .kinds)
 
 -- a field of the first kind of f: it ends at what stands before the next
-abbrev pub fieldAt : List ℕ → Reading → Format → Reading
+abbrev pub fieldAt : List ℕ → FieldsRead → Format → FieldsRead
 fieldAt s t f =
     fieldFrom (behind t (t .fields .next + length (wordAt (stopOf f) s (t .fields .next)) + 1) (restOf f)) (f .kinds % 16)
     (wordAt (stopOf f) s (t .fields .next))
 
 -- one field more, if one is left
-unfoldable pub fieldOf : List ℕ → Reading → Reading
+unfoldable pub fieldOf : List ℕ → FieldsRead → FieldsRead
 fieldOf s t = pick (ltb (length s) (t .fields .next)) t (fieldAt s t (refilledOf (t .fields .format)))
 
 -- k fields more
-unfoldable pub fieldsIn : ℕ → List ℕ → Reading → Reading
+unfoldable pub fieldsIn : ℕ → List ℕ → FieldsRead → FieldsRead
 fieldsIn zero s t = t
 fieldsIn (suc k) s t = fieldsIn k s (fieldOf s t)
 
@@ -117,8 +117,8 @@ abbrev pub startOf : ℕ → Format → Fields
 startOf n f = record { next = n; format = f; bytes = 0; ends = 0; numbers = 0 }
 
 -- all fields from n on: there are fewer of them than characters
-abbrev pub fieldsOf : List ℕ → ℕ → Format → (decoded ends numbers : List ℕ) → Reading
-fieldsOf s n f d es ns = fieldsIn (length s) s (reading (startOf n f) d es ns)
+abbrev pub fieldsOf : List ℕ → ℕ → Format → (decoded ends numbers : List ℕ) → FieldsRead
+fieldsOf s n f d es ns = fieldsIn (length s) s (fieldsRead (startOf n f) d es ns)
 
 -- every field was read and was good, and none is missing
 abbrev pub isAllOf : Fields → List ℕ → Bool

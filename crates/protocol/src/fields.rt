@@ -5,7 +5,7 @@ ghost use mathlib.Core.List.{List};
 ghost use Prim.Native.Nat.{ℕ};
 ghost use Rattle.protocol.specs.Says.{decimalSays};
 ghost use Rattle.protocol.specs.Room.{numberField};
-ghost use Rattle.protocol.specs.Fields.{reading, spoiledOf, bytesField, largestOf, isDash, valueOf, valueField, fieldOf, fieldsOf, isAllOf};
+ghost use Rattle.protocol.specs.Fields.{fieldsRead, spoiledOf, bytesField, largestOf, isDash, valueOf, valueField, fieldOf, fieldsOf, isAllOf};
 use crate::kinds::BYTES;
 use crate::kinds::Format;
 use crate::kinds::NO_BYTE;
@@ -50,7 +50,7 @@ impl Fields {
 }
 
 fn read_bytes(word: &[u8], decoded: &mut [u8], ends: &mut [u32], so_far: Fields) -> Fields
-    ensures { λ r. ⌜ ((ns : List ℕ) → reading r (now (decoded .exit)) (now (ends .exit)) ns ≡ bytesField (reading «so_far» (now (decoded .entry)) (now (ends .entry)) ns) (now (word .entry))) ⌝ }
+    ensures { λ r. ⌜ ((ns : List ℕ) → fieldsRead r (now (decoded .exit)) (now (ends .exit)) ns ≡ bytesField (fieldsRead «so_far» (now (decoded .entry)) (now (ends .entry)) ns) (now (word .entry))) ⌝ }
 {
     let i = so_far.ends;
     let Decoded::End(end) = decode(word, decoded, so_far.bytes) else {
@@ -104,7 +104,7 @@ fn value(kind: u64, word: &[u8]) -> Decimal
 }
 
 fn read_number(kind: u64, word: &[u8], numbers: &mut [u64], so_far: Fields) -> Fields
-    ensures { λ r. ⌜ ((d es : List ℕ) → reading r d es (now (numbers .exit)) ≡ valueField (reading «so_far» d es (now (numbers .entry))) kind (now (word .entry))) ⌝ }
+    ensures { λ r. ⌜ ((d es : List ℕ) → fieldsRead r d es (now (numbers .exit)) ≡ valueField (fieldsRead «so_far» d es (now (numbers .entry))) kind (now (word .entry))) ⌝ }
 {
     let i = so_far.numbers;
     let Decimal::Value(v) = value(kind, word) else {
@@ -127,7 +127,7 @@ fn read_field(
     numbers: &mut [u64],
     so_far: Fields,
 ) -> Fields
-    ensures { λ r. ⌜ reading r (now (decoded .exit)) (now (ends .exit)) (now (numbers .exit)) ≡ fieldOf (now (line .entry)) (reading «so_far» (now (decoded .entry)) (now (ends .entry)) (now (numbers .entry))) ⌝ }
+    ensures { λ r. ⌜ fieldsRead r (now (decoded .exit)) (now (ends .exit)) (now (numbers .exit)) ≡ fieldOf (now (line .entry)) (fieldsRead «so_far» (now (decoded .entry)) (now (ends .entry)) (now (numbers .entry))) ⌝ }
 {
     let from = so_far.next;
     if from > line.len() {
@@ -155,7 +155,7 @@ pub fn read_fields(
     ends: &mut [u32],
     numbers: &mut [u64],
 ) -> Fields
-    ensures { λ r. ⌜ reading r (now (decoded .exit)) (now (ends .exit)) (now (numbers .exit)) ≡ fieldsOf (now (line .entry)) next format (now (decoded .entry)) (now (ends .entry)) (now (numbers .entry)) ⌝ }
+    ensures { λ r. ⌜ fieldsRead r (now (decoded .exit)) (now (ends .exit)) (now (numbers .exit)) ≡ fieldsOf (now (line .entry)) next format (now (decoded .entry)) (now (ends .entry)) (now (numbers .entry)) ⌝ }
 {
     let mut fields = Fields {
         next,

@@ -6,7 +6,7 @@ use lib.ListN.{length, take}
 use lib.Dec.{eqb}
 use Rattle.protocol.specs.Text.{wordAt, wordKey}
 use Rattle.protocol.specs.Room.{roomPrefix, lentBy, isThere}
-use Rattle.protocol.specs.Fields.{Reading, fieldsOf, isAllOf}
+use Rattle.protocol.specs.Fields.{FieldsRead, fieldsOf, isAllOf}
 use Rattle.protocol.specs.Lines.{isLine}
 use Rattle.protocol.specs.declared.input.Input.{Input}
 use Rattle.protocol.specs.declared.lent.Room.{Room}
@@ -26,7 +26,7 @@ abbrev pub requested : Request → (decoded ends numbers : List ℕ) → Request
 requested r d es ns = record { request = r; decoded = d; ends = es; numbers = ns }
 
 -- of the line s, whose name stands at `from`
-abbrev pub requestWith : List ℕ → Room → ℕ → ℕ → Row → Lent → Reading → Requested
+abbrev pub requestWith : List ℕ → Room → ℕ → ℕ → Row → Lent → FieldsRead → Requested
 requestWith s room from key row lent t =
     requested
     (record {
@@ -50,12 +50,12 @@ abbrev pub rowIn : List ℕ → Row
 rowIn s = rowOf (wordKey (nameIn s))
 
 -- the fields behind the name
-abbrev pub readingIn : List ℕ → (decoded ends numbers : List ℕ) → Reading
-readingIn s d es ns = fieldsOf s (nameFrom s + length (nameIn s) + 1) (asked (rowIn s)) d es ns
+abbrev pub fieldsReadIn : List ℕ → (decoded ends numbers : List ℕ) → FieldsRead
+fieldsReadIn s d es ns = fieldsOf s (nameFrom s + length (nameIn s) + 1) (asked (rowIn s)) d es ns
 
 unfoldable pub requestIn : List ℕ → (decoded ends numbers : List ℕ) → Requested
 requestIn s d es ns =
-    requestWith s (roomPrefix s) (nameFrom s) (wordKey (nameIn s)) (rowIn s) (lentBy (roomPrefix s) (lends (rowIn s))) (readingIn s d es ns)
+    requestWith s (roomPrefix s) (nameFrom s) (wordKey (nameIn s)) (rowIn s) (lentBy (roomPrefix s) (lends (rowIn s))) (fieldsReadIn s d es ns)
 
 -- ---- what was kept of a line: of one that was too long, not all
 

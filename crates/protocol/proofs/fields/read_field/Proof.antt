@@ -5,21 +5,21 @@ use lib.ListN.{length}
 use denote.Ref.{now}
 use Rattle.protocol.specs.Text.{wordAt}
 use Rattle.protocol.specs.Kinds.{separatorOf}
-use Rattle.protocol.specs.Fields.{reading}
+use Rattle.protocol.specs.Fields.{fieldsRead}
 use Rattle.protocol.specs.declared.kinds.Format.{Format}
 use Rattle.protocol.proofs.FieldLaws.{Field, field-over, field-bytes, field-number}
 use Rattle.protocol.proofs.fields.read_field.Statement.{statement}
 use Rattle.protocol.proofs.fields.read_field.Tie as tie
 
 returns : tie.Need-returns
-returns c = let a = c .before .before .before .before .before .args in field-over (now (a .line)) (reading (a .so-far) (now (a .decoded)) (now (a .ends)) (now (a .numbers))) (c .if1 .taken)
+returns c = let a = c .before .before .before .before .before .args in field-over (now (a .line)) (fieldsRead (a .so-far) (now (a .decoded)) (now (a .ends)) (now (a .numbers))) (c .if1 .taken)
 
 returns-2 : tie.Need-returns-2
 returns-2 c =
     let a = c .before .before .before .before .before .before .before .before .before .before .before .before .before .before .before .before .before .before .before .before .args in
     let s = now (a .line) in
     let from = a .so-far .next in
-    let t = reading (a .so-far) (now (a .decoded)) (now (a .ends)) (now (a .numbers)) in
+    let t = fieldsRead (a .so-far) (now (a .decoded)) (now (a .ends)) (now (a .numbers)) in
     let x : Field s t (c .before .before .before .before .before .before .before .before .before .before .before .before .before .before .refilled .result) (c .before .before .before .before .before .before .before .before .before .before .before .before .before .rest .result) (c .before .before .before .before .before .before .before .before .before .before .word-end .result) =
     record {
       there = c .before .before .before .before .before .before .before .before .before .before .before .before .before .before .before .if1 .left;
@@ -34,7 +34,7 @@ returns-3 c =
     let a = c .before .before .before .before .before .before .before .before .before .before .before .before .before .before .before .before .before .args in
     let s = now (a .line) in
     let from = a .so-far .next in
-    let t = reading (a .so-far) (now (a .decoded)) (now (a .ends)) (now (a .numbers)) in
+    let t = fieldsRead (a .so-far) (now (a .decoded)) (now (a .ends)) (now (a .numbers)) in
     let x : Field s t (c .before .before .before .before .before .before .before .before .before .before .before .refilled .result) (c .before .before .before .before .before .before .before .before .before .before .rest .result) (c .before .before .before .before .before .before .before .word-end .result) =
     record {
       there = c .before .before .before .before .before .before .before .before .before .before .before .before .if1 .left;

@@ -5,13 +5,13 @@ use Prim.Native.Nat.{_≤_, _-_, _+_}
 use native.Mathlib.Omega.{arith}
 use lib.ListN.{length}
 use denote.Ref.{now}
-use Rattle.protocol.specs.Fields.{Reading, reading, fieldsIn}
+use Rattle.protocol.specs.Fields.{FieldsRead, fieldsRead, fieldsIn}
 use Rattle.protocol.proofs.FieldLaws.{fields-start, fields-more, fields-end}
 use Rattle.protocol.proofs.fields.read_fields.Statement.{statement}
 use Rattle.protocol.proofs.fields.read_fields.Tie as tie
 
 abbrev Inv-loop : tie.InvT-loop
-Inv-loop line next decoded₀ ends₀ numbers₀ fields₀ i₀ decoded ends numbers fields i = (i ≤ length line) × (length decoded ≡ length decoded₀) × (length ends ≡ length ends₀) × (length numbers ≡ length numbers₀) × (fieldsIn (length line) line (reading fields₀ decoded₀ ends₀ numbers₀) ≡ fieldsIn (length line - i) line (reading fields decoded ends numbers))
+Inv-loop line next decoded₀ ends₀ numbers₀ fields₀ i₀ decoded ends numbers fields i = (i ≤ length line) × (length decoded ≡ length decoded₀) × (length ends ≡ length ends₀) × (length numbers ≡ length numbers₀) × (fieldsIn (length line) line (fieldsRead fields₀ decoded₀ ends₀ numbers₀) ≡ fieldsIn (length line - i) line (fieldsRead fields decoded ends numbers))
 
 abbrev μ-loop : tie.MeasureT-loop
 μ-loop line next decoded₀ ends₀ numbers₀ fields₀ i₀ decoded ends numbers fields i = length line - i
@@ -28,7 +28,7 @@ loop-again c =
       r .kept .1 .0 ∙ l .inv .1,
       r .kept .1 .1 .0 ∙ l .inv .2,
       r .kept .1 .1 .1 .0 ∙ l .inv .3,
-      l .inv .4 ∙ fields-more (length s) (l .i) s _ (omega arith) ∙ ap (λ (t : Reading). fieldsIn (length s - (l .i + 1)) s t) (sym (r .ensures)),
+      l .inv .4 ∙ fields-more (length s) (l .i) s _ (omega arith) ∙ ap (λ (t : FieldsRead). fieldsIn (length s - (l .i + 1)) s t) (sym (r .ensures)),
     )
 
 returns : tie.Need-returns Inv-loop μ-loop
