@@ -1,4 +1,4 @@
--- What acceptance by assembly gives, under demand 3's premises: `accepts`.
+-- What acceptance by assembly gives, under demand 3's premises: `acceptance-gives`.
 use Prim.Native.Nat.{ℕ, zero, suc, _+_, _^_, _≤_, _<_}
 use native.Mathlib.Omega.{arith}
 use mathlib.Core.Path.{_≡_, refl, ap, _∙_}
@@ -346,9 +346,9 @@ fitting false a b e = let z : _≡_ {A = ℕ} 0 1 = cc in absurd (omega arith)
 
 module _ (room : OutputRoom) (set : Settings) (s rs : List ℕ) (xs : List Segment) (r : Output) where
   -- under demand 3's premises
-  pub accepts : InFields set → segmentsOf s rs ≡ accepted xs → Formed xs → assemble room set s rs ≡ made r → (m : Made set xs) × (out m ≡ r) × (length (r .picture) ≤ limit)
+  pub acceptance-gives : InFields set → segmentsOf s rs ≡ accepted xs → Formed xs → assemble room set s rs ≡ made r → (m : Made set xs) × (out m ≡ r) × (length (r .picture) ≤ limit)
   unfolding assemble overall
-  accepts fields g p e =
+  acceptance-gives fields g p e =
       let (n, e) = not-over (length s) _ r e in
       link-made _ _ r e (λ ys e₁ e. link-made _ _ r e (λ r′ e₂ e.
       let y : ys ≡ xs = cc in

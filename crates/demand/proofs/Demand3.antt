@@ -28,7 +28,7 @@ use Rattle.bitio.proofs.ParseLaws.{map-take}
 use Rattle.demand.proofs.HandedLaws.{unitBy, givenOut, UnitsWithin, picture-short}
 use Rattle.container.proofs.LentLaws.{lent-write}
 use Rattle.demand.proofs.UnitLaws.{whole}
-use Rattle.demand.proofs.AssembleLaws.{Boards, Made, out, accepts}
+use Rattle.demand.proofs.AssembleLaws.{Boards, Made, out, acceptance-gives}
 use Rattle.demand.proofs.Turns.{length-units, listed, all-units, named-units, cue-is, exactly, starts, carries, rising, played}
 
 all-whole : (s : List ℕ) {us : List (List ℕ)} → Every (Premise s) us → Every Whole us
@@ -116,13 +116,13 @@ module _ (room : OutputRoom) (set : Settings) (picture numbers : List ℕ) (xs :
     (fields : InFields set) (segments : segmentsOf picture numbers ≡ accepted xs) (formed : Formed xs) (accepts-it : assemble room set picture numbers ≡ made r) where
   pub demand3-formed : Demand3 set xs r
   demand3-formed =
-      let (m, o, n) = accepts room set picture numbers xs r fields segments formed accepts-it in
+      let (m, o, n) = acceptance-gives room set picture numbers xs r fields segments formed accepts-it in
       subst (Demand3 set xs) o (whole-list set xs m (rw (← o) at n))
 
   -- and of its first n units
   pub demand3-front : (n : ℕ) → 1 ≤ n → n ≤ total (framesOf xs) → Demand set xs (take n (layout (set .gop) 0 (framesOf xs))) n (front n (handed r))
   demand3-front =
-      let (m, o, n) = accepts room set picture numbers xs r fields segments formed accepts-it in
+      let (m, o, n) = acceptance-gives room set picture numbers xs r fields segments formed accepts-it in
       subst (λ (r : Output). (n : ℕ) → 1 ≤ n → n ≤ total (framesOf xs) → Demand set xs (take n (layout (set .gop) 0 (framesOf xs))) n (front n (handed r))) o
       (first-units set xs m (rw (← o) at n))
 

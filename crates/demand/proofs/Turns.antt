@@ -29,7 +29,7 @@ use Rattle.player.specs.declared.slots.Slot.{Slot}
 use Rattle.demand.specs.Kinds.{unitKind, saysKey, isKeyUnit, unitAt, segmentOf}
 use Rattle.demand.specs.Premises.{sequencePayload, Premise}
 use Rattle.demand.specs.Courses.{Course, done, plays, noise, Throughout}
-use Rattle.demand.specs.Demand.{Rising, noSegment, IsUnit, Listed, PlaysRight}
+use Rattle.demand.specs.Demand.{Rising, emptySegment, IsUnit, Listed, PlaysRight}
 use Rattle.demand.proofs.Following.{entry, first, Following, first-key, segment-in, Since, show-led}
 use Rattle.demand.proofs.ListLaws.{getD-map-lt, map-both, isKey, positions-map, positions-ext, positions-pass, pass-positions, Passes, positions-rising, cues-are, every-from}
 use Rattle.demand.proofs.HandedLaws.{noUnits, unitOf, unitBy, UnitsWithin, named-is}
@@ -194,8 +194,8 @@ module _ (set : Settings) (xs : List Segment) (m : Boards set xs) (short : Units
     unit-is : U p ≡ unitOf ((E p) .kind) (segmentUnits ((E p) .segment))
     unit-is = getD-map-lt (unitBy (m .prepared)) es (p - 1) [] first (omega arith)
 
-    ok : Paired q (renewal set (m .first)) (m .payload) (getD xs ((E p) .segment) noSegment) (segmentUnits ((E p) .segment))
-    ok = matches-at (m .pairs) ((E p) .segment) noSegment noUnits in-list
+    ok : Paired q (renewal set (m .first)) (m .payload) (getD xs ((E p) .segment) emptySegment) (segmentUnits ((E p) .segment))
+    ok = matches-at (m .pairs) ((E p) .segment) emptySegment noUnits in-list
 
     size-ok : (length ((segmentUnits ((E p) .segment)) .key) ≤ limit) × (length ((segmentUnits ((E p) .segment)) .golden) ≤ limit)
     size-ok = short ((E p) .segment) in-list
@@ -212,7 +212,7 @@ module _ (set : Settings) (xs : List Segment) (m : Boards set xs) (short : Units
         rw n at (show-led E es 1 (follows .order) (λ k b. ap (λ (j : ℕ). getD es j first) (omega arith)) (p - 1) (omega arith) (rw n w))
 
     -- the unit as part 1 has it
-    is-unit : (k : Kind) → IsUnit set (m .first) k (getD xs ((E p) .segment) noSegment) (unitOf k (segmentUnits ((E p) .segment)))
+    is-unit : (k : Kind) → IsUnit set (m .first) k (getD xs ((E p) .segment) emptySegment) (unitOf k (segmentUnits ((E p) .segment)))
     is-unit Key = ok .key-sent
     is-unit Golden = ok .golden-sent
     is-unit Show = (ok .info, ok .golden-frame, ap showUnit (ok .slot-is))
@@ -222,7 +222,7 @@ module _ (set : Settings) (xs : List Segment) (m : Boards set xs) (short : Units
         record {
           kind = (E p) .kind;
           entry = entry-is ∙ ap (λ (i : ℕ). number (record { segment = i; kind = (E p) .kind })) segment-here;
-          bytes = subst (λ (i : ℕ). IsUnit set (m .first) ((E p) .kind) (getD xs i noSegment) (U p)) segment-here (rw unit-is (is-unit ((E p) .kind)));
+          bytes = subst (λ (i : ℕ). IsUnit set (m .first) ((E p) .kind) (getD xs i emptySegment) (U p)) segment-here (rw unit-is (is-unit ((E p) .kind)));
           says = kind-is;
         }
 

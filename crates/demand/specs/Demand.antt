@@ -45,12 +45,12 @@ handed r = record { list = r .list; cues = r .cues; units = unitsOf r }
 abbrev pub front : ℕ → Given → Given
 front n g = record { list = take n (g .list); cues = cuesOf (take n (g .list)); units = take n (g .units) }
 
-abbrev pub noSegment : Segment
-noSegment = record { key = []; golden = []; frames = 0 }
+abbrev pub emptySegment : Segment
+emptySegment = record { key = []; golden = []; frames = 0 }
 
 -- the segment whose position p is
 abbrev pub ownSegment : List Segment → ℕ → Segment
-ownSegment xs p = getD xs (segmentOf (framesOf xs) p) noSegment
+ownSegment xs p = getD xs (segmentOf (framesOf xs) p) emptySegment
 
 -- the list's sequence header is q, before timing
 module _ (set : Settings) (q : Sequence) where
