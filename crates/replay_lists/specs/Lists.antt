@@ -56,8 +56,8 @@ slicesLent room =
 -- ---- what is told, d being the slices after the call
 
 -- how many entries could name a unit: four for a segment
-abbrev pub entriesOf : Counts → ℕ
-entriesOf c = 2 * min (c .ends) 65536
+abbrev pub entryCount : Counts → ℕ
+entryCount c = 2 * min (c .ends) 65536
 
 -- the units of k entries from n on
 unfoldable pub entryUnits : (pictures ends shows : List ℕ) → ℕ → ℕ → List (List ℕ)
@@ -66,7 +66,7 @@ entryUnits ps es ss n (suc k) = named ps es ss n ∷ entryUnits ps es ss (suc n)
 
 -- every such unit, and the header behind them
 abbrev pub partsMade : Counts → Lent → List (List ℕ)
-partsMade c d = entryUnits (d .pictures) (d .ends) (d .shows) 0 (entriesOf c) ++ (part (d .header) 0 (c .header) ∷ [])
+partsMade c d = entryUnits (d .pictures) (d .ends) (d .shows) 0 (entryCount c) ++ (part (d .header) 0 (c .header) ∷ [])
 
 -- numbers that tell their kinds: that of the first, and that of the others
 unfoldable pub kindFields : ℕ → ℕ → List ℕ → List ℕ
@@ -76,7 +76,7 @@ kindFields first others (v ∷ vs) = first ∷ v ∷ kindFields others others vs
 -- how many units, the slot, the header's part; each cue, a comma before all but the first; the part that each entry names
 abbrev pub numbersMade : Counts → (list cues : List ℕ) → List ℕ
 numbersMade c list cues =
-    (c .units ∷ c .«golden_slot» ∷ entriesOf c ∷ []) ++ (kindFields numberKind (afterComma numberKind) (take (c .cues) cues) ++ kindFields namedKind namedKind (take (c .units) list))
+    (c .units ∷ c .«golden_slot» ∷ entryCount c ∷ []) ++ (kindFields numberKind (afterComma numberKind) (take (c .cues) cues) ++ kindFields namedKind namedKind (take (c .units) list))
 
 -- in the memory s, es, ns lent to the answer; a refusal leaves its bytes and ends
 unfoldable pub assembledTold : Outcome Counts → Lent → List ℕ → List ℕ → List ℕ → Told

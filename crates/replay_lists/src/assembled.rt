@@ -5,7 +5,7 @@ ghost use Rattle.pictures.specs.Assemble.{made};
 ghost use Rattle.assemble.specs.Whole.{assembledSays};
 ghost use Rattle.protocol.specs.Answers.{partsOf, parted, withParts, numbered, withNumbers};
 ghost use Rattle.protocol.specs.Told.{told};
-ghost use Rattle.replay_lists.specs.Lists.{entriesOf, entryUnits, kindFields, numbersMade, slicesOf, slicesMarked, accountedFor, assembledTold, handedTold};
+ghost use Rattle.replay_lists.specs.Lists.{entryCount, entryUnits, kindFields, numbersMade, slicesOf, slicesMarked, accountedFor, assembledTold, handedTold};
 use assemble::multi::Assembled;
 use assemble::multi::Counts;
 use assemble::unit::unit;
@@ -62,7 +62,7 @@ fn are_marked(
 
 // How many entries name a unit, or could.
 fn entries(counts: Counts) -> u32
-    ensures { λ r. ⌜ r ≡ entriesOf counts ⌝ }
+    ensures { λ r. ⌜ r ≡ entryCount counts ⌝ }
 {
     (2 * least(counts.ends, 0x1_0000)) as u32
 }

@@ -16,14 +16,14 @@ use Rattle.protocol.specs.declared.lent.Room.{Room}
 use Rattle.protocol.specs.declared.lent.Lent.{Lent}
 use Rattle.protocol.proofs.TextLaws.{word-between}
 use Rattle.replay_requests.specs.declared.Row.{Row}
-use Rattle.replay_requests.specs.Rows.{rowOf, asked, answered, lends}
+use Rattle.replay_requests.specs.Rows.{rowOf, fieldsAsked, fieldsAnswered, lends}
 use Rattle.replay_requests.specs.Requests.{Requested, requested, requestWith, nameFrom, nameIn, rowIn, fieldsReadIn, requestIn, requestOf}
 
 module _ (s d es ns : List ℕ) where
   pub request-is : (room : Room) (from end key : ℕ) (row : Row) (lent : Lent) (f : Fields) (all there : Bool) {d' es' ns' : List ℕ} → room ≡ roomPrefix s
       → from ≡ min (room .next) (length s) → end ≡ from + length (wordAt 32 s from) → key ≡ wordKey (take (end - from) (drop from s)) → row ≡ rowOf key
-      → lent ≡ lentBy room (lends row) → fieldsRead f d' es' ns' ≡ fieldsOf s (end + 1) (asked row) d es ns → all ≡ isAllOf f s → there ≡ isThere lent
-      → requested (record { «is_line» = true; «is_good» = (eqb (room .next) from && all) && there; key = key; fields = f; format = answered row; lent = lent }) d' es' ns'
+      → lent ≡ lentBy room (lends row) → fieldsRead f d' es' ns' ≡ fieldsOf s (end + 1) (fieldsAsked row) d es ns → all ≡ isAllOf f s → there ≡ isThere lent
+      → requested (record { «is_line» = true; «is_good» = (eqb (room .next) from && all) && there; key = key; fields = f; format = fieldsAnswered row; lent = lent }) d' es' ns'
       ≡ requestIn s d es ns
   unfolding requestIn
   request-is room from end key row lent f all there p1 p2 p3 p4 p5 p6 p7 p8 p9 =
@@ -32,7 +32,7 @@ module _ (s d es ns : List ℕ) where
       let q4 : key ≡ wordKey (nameIn s) = p4 ∙ ap wordKey (word-between 32 s from p3) ∙ ap (λ i. wordKey (wordAt 32 s i)) q2 in
       let q5 : row ≡ rowIn s = p5 ∙ ap rowOf q4 in
       let q6 : lent ≡ lentBy (roomPrefix s) (lends (rowIn s)) = p6 ∙ ap (λ r. lentBy r (lends row)) p1 ∙ ap (λ (r : Row). lentBy (roomPrefix s) (lends r)) q5 in
-      let q7 : fieldsRead f _ _ _ ≡ fieldsReadIn s d es ns = p7 ∙ ap (λ i. fieldsOf s (i + 1) (asked row) d es ns) q3 ∙ ap (λ r. fieldsOf s (nameFrom s + length (nameIn s) + 1) (asked r) d es ns) q5 in
+      let q7 : fieldsRead f _ _ _ ≡ fieldsReadIn s d es ns = p7 ∙ ap (λ i. fieldsOf s (i + 1) (fieldsAsked row) d es ns) q3 ∙ ap (λ r. fieldsOf s (nameFrom s + length (nameIn s) + 1) (fieldsAsked r) d es ns) q5 in
       rw (p9, p8, p1, q2, q4, q5, q6) (ap (requestWith s (roomPrefix s) (nameFrom s) (wordKey (nameIn s)) (rowIn s) (lentBy (roomPrefix s) (lends (rowIn s)))) q7)
 
 -- of a line kept to n characters; b: there is one

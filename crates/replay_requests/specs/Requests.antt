@@ -11,7 +11,7 @@ use Rattle.protocol.specs.Lines.{isLine}
 use Rattle.protocol.specs.declared.input.Input.{Input}
 use Rattle.protocol.specs.declared.lent.Room.{Room}
 use Rattle.protocol.specs.declared.lent.Lent.{Lent}
-use Rattle.replay_requests.specs.Rows.{asked, answered, lends, rowOf}
+use Rattle.replay_requests.specs.Rows.{fieldsAsked, fieldsAnswered, lends, rowOf}
 use Rattle.replay_requests.specs.declared.Row.{Row}
 use Rattle.replay_requests.specs.declared.Request.{Request}
 
@@ -34,7 +34,7 @@ requestWith s room from key row lent t =
       «is_good» = (eqb (room .next) from && isAllOf (t .fields) s) && isThere lent;
       key = key;
       fields = t .fields;
-      format = answered row;
+      format = fieldsAnswered row;
       lent = lent;
     })
     (t .decoded) (t .ends) (t .numbers)
@@ -51,7 +51,7 @@ rowIn s = rowOf (wordKey (nameIn s))
 
 -- the fields behind the name
 abbrev pub fieldsReadIn : List ℕ → (decoded ends numbers : List ℕ) → FieldsRead
-fieldsReadIn s d es ns = fieldsOf s (nameFrom s + length (nameIn s) + 1) (asked (rowIn s)) d es ns
+fieldsReadIn s d es ns = fieldsOf s (nameFrom s + length (nameIn s) + 1) (fieldsAsked (rowIn s)) d es ns
 
 unfoldable pub requestIn : List ℕ → (decoded ends numbers : List ℕ) → Requested
 requestIn s d es ns =
@@ -59,11 +59,11 @@ requestIn s d es ns =
 
 -- ---- what was kept of a line: of one that was too long, not all
 
-abbrev pub keptOf : Input → List ℕ → List ℕ
-keptOf i kept = take (min (i .len) (length kept)) kept
+abbrev pub keptLine : Input → List ℕ → List ℕ
+keptLine i kept = take (min (i .len) (length kept)) kept
 
-abbrev pub judged : Input → List ℕ → Request → Request
-judged i kept r =
+abbrev pub judgedRequest : Input → List ℕ → Request → Request
+judgedRequest i kept r =
     record {
       «is_line» = isLine i;
       «is_good» = r .«is_good» && eqb (min (i .len) (length kept)) (i .len);
@@ -74,7 +74,7 @@ judged i kept r =
     }
 
 abbrev pub judgedFrom : Input → List ℕ → Requested → Requested
-judgedFrom i kept q = requested (judged i kept (q .request)) (q .decoded) (q .ends) (q .numbers)
+judgedFrom i kept q = requested (judgedRequest i kept (q .request)) (q .decoded) (q .ends) (q .numbers)
 
 unfoldable pub requestOf : Input → List ℕ → (decoded ends numbers : List ℕ) → Requested
-requestOf i kept d es ns = judgedFrom i kept (requestIn (keptOf i kept) d es ns)
+requestOf i kept d es ns = judgedFrom i kept (requestIn (keptLine i kept) d es ns)

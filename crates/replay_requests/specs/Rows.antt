@@ -11,11 +11,11 @@ use Rattle.replay_requests.specs.Table.{found}
 abbrev pub row : (asks answers : Format) → ℕ → Row
 row f g lent = (f .kinds, f .repeated, g .kinds, g .repeated, lent)
 
-abbrev pub asked : Row → Format
-asked r = record { kinds = r .0; repeated = r .1 }
+abbrev pub fieldsAsked : Row → Format
+fieldsAsked r = record { kinds = r .0; repeated = r .1 }
 
-abbrev pub answered : Row → Format
-answered r = record { kinds = r .2; repeated = r .3 }
+abbrev pub fieldsAnswered : Row → Format
+fieldsAnswered r = record { kinds = r .2; repeated = r .3 }
 
 abbrev pub lends : Row → ℕ
 lends r = r .4
