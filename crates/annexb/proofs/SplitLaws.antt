@@ -15,7 +15,7 @@ use Rattle.obu.specs.Obu.{Obu, unitBytes}
 use Rattle.container.specs.Stream.{streamBytes}
 use Rattle.container.specs.AnnexB.{temporalUnit, annexbUnitsOf, annexbUnits}
 use Rattle.bitio.specs.Limits.{limit}
-use Rattle.container.specs.Limits.{Room, fits, fitUnits}
+use Rattle.container.specs.Limits.{Room, fits, fitUnits, roomIn}
 use Rattle.container.specs.Container.{annexb, read}
 use Rattle.container.specs.Units.{Sizes, sizesOf, bytesAfter, endsAfter, splitSays}
 use Rattle.annexb.specs.code.Fill.{UnitsRoom, Filled, unitsRead}
@@ -86,7 +86,7 @@ module _ (room : Room) (s : List ℕ) (l : length s ≤ limit) (some : 0 < lengt
     read-whole q = read-fits ∙ rw q
 
 -- with room the units can be written
-pub measured : {s d e : List ℕ} {n u : ℕ} → Counted s n u → fits n u (record { bytes = length d; ends = length e }) ≡ true → UnitsRoom s d e
+pub measured : {s d e : List ℕ} {n u : ℕ} → Counted s n u → fits n u (roomIn d e) ≡ true → UnitsRoom s d e
 measured {d = d} {e} {n} {u} c q =
     let x = and-both (leb n limit) (leb n (length d) && leb u (length e)) q in
     let y = and-both (leb n (length d)) (leb u (length e)) (x .1) in

@@ -1,7 +1,7 @@
 // Units from and to Annex B (document 01, 'Units from and to Annex B').
 ghost use mathlib.Core.Path.{_≡_};
 ghost use lib.ListN.{length};
-ghost use Rattle.container.specs.Limits.{bytesRoom};
+ghost use Rattle.container.specs.Limits.{bytesRoom, roomIn};
 ghost use Rattle.container.specs.Container.{annexb, read, writeAt};
 ghost use Rattle.container.specs.Units.{splitSays, sizesOf, bytesAfter, endsAfter, byteCountSays, countOf, outAfter};
 use bitio::limits::LIMIT;
@@ -18,9 +18,9 @@ mod write;
 
 // The units of Annex B in written form into out, the end of each into ends; a refusal changes nothing.
 pub fn split_annexb(data: &[u8], out: &mut [u8], ends: &mut [u32]) -> Split
-    ensures { λ r. ⌜ splitSays r ≡ sizesOf (read annexb (record { bytes = length (now (out .entry)); ends = length (now (ends .entry)) }) (now («data» .entry))) ⌝ }
-    ensures { λ _. ⌜ now (out .exit) ≡ bytesAfter (read annexb (record { bytes = length (now (out .entry)); ends = length (now (ends .entry)) }) (now («data» .entry))) (now (out .entry)) ⌝ }
-    ensures { λ _. ⌜ now (ends .exit) ≡ endsAfter (read annexb (record { bytes = length (now (out .entry)); ends = length (now (ends .entry)) }) (now («data» .entry))) (now (ends .entry)) ⌝ }
+    ensures { λ r. ⌜ splitSays r ≡ sizesOf (read annexb (roomIn (now (out .entry)) (now (ends .entry))) (now («data» .entry))) ⌝ }
+    ensures { λ _. ⌜ now (out .exit) ≡ bytesAfter (read annexb (roomIn (now (out .entry)) (now (ends .entry))) (now («data» .entry))) (now (out .entry)) ⌝ }
+    ensures { λ _. ⌜ now (ends .exit) ≡ endsAfter (read annexb (roomIn (now (out .entry)) (now (ends .entry))) (now («data» .entry))) (now (ends .entry)) ⌝ }
 {
     if data.len() > LIMIT {
         return Split::Refused(34);

@@ -7,7 +7,7 @@ ghost use lib.ListN.{length};
 ghost use lib.Dec.{leb};
 ghost use Rattle.bitio.specs.Parse.{answer};
 ghost use Rattle.bitio.specs.Lent.{lent};
-ghost use Rattle.container.specs.Limits.{bytesRoom};
+ghost use Rattle.container.specs.Limits.{bytesRoom, roomIn};
 ghost use Rattle.container.specs.Units.{sizesOf, bytesAfter, endsAfter, countOf, outAfter};
 ghost use Rattle.container.specs.Container.{stream, annexb, read, writeAt};
 ghost use Rattle.packets.specs.Packets.{canonicalAt};
@@ -37,9 +37,9 @@ pub extern "C" fn bench_put_bytes(src: &[u8], out: &mut [u8]) -> usize
 // The units of Annex B: how many there are, or 0 after a refusal.
 #[no_mangle]
 pub extern "C" fn bench_split_annexb(data: &[u8], out: &mut [u8], ends: &mut [u32]) -> usize
-    ensures { λ r. ⌜ r ≡ unitsOrNone (sizesOf (read annexb (record { bytes = length (now (out .entry)); ends = length (now (ends .entry)) }) (now («data» .entry)))) ⌝ }
-    ensures { λ _. ⌜ now (out .exit) ≡ bytesAfter (read annexb (record { bytes = length (now (out .entry)); ends = length (now (ends .entry)) }) (now («data» .entry))) (now (out .entry)) ⌝ }
-    ensures { λ _. ⌜ now (ends .exit) ≡ endsAfter (read annexb (record { bytes = length (now (out .entry)); ends = length (now (ends .entry)) }) (now («data» .entry))) (now (ends .entry)) ⌝ }
+    ensures { λ r. ⌜ r ≡ unitsOrNone (sizesOf (read annexb (roomIn (now (out .entry)) (now (ends .entry))) (now («data» .entry)))) ⌝ }
+    ensures { λ _. ⌜ now (out .exit) ≡ bytesAfter (read annexb (roomIn (now (out .entry)) (now (ends .entry))) (now («data» .entry))) (now (out .entry)) ⌝ }
+    ensures { λ _. ⌜ now (ends .exit) ≡ endsAfter (read annexb (roomIn (now (out .entry)) (now (ends .entry))) (now («data» .entry))) (now (ends .entry)) ⌝ }
 {
     match annexb::annexb::split_annexb(data, out, ends) {
         Split::Refused(_) => 0,

@@ -2,11 +2,10 @@
 use Prim.Native.Nat.{ℕ}
 use mathlib.Core.Path.{_≡_}
 use mathlib.Core.List.{List}
-use lib.ListN.{length}
 use denote.Ref.{RefT, now}
 use denote.Triple.Both.{Both}
 use Rattle.bitio.specs.Parse.{Answer, refused, accepted}
-use Rattle.container.specs.Limits.{Room}
+use Rattle.container.specs.Limits.{Room, roomIn}
 use Rattle.container.specs.Units.{Sizes, sizesOf, bytesAfter, endsAfter}
 use Rattle.pictures.specs.Assemble.{Outcome, stopped, made, Output}
 use Rattle.assemble.specs.Whole.{Lent, lentAfter, countsOf, assembledCode}
@@ -43,8 +42,8 @@ streamLentAfter x d =
 
 -- the code, and what is lent at exit; x: the units, by the room for them
 pub record UnitsRead (x : Room → Answer (List (List ℕ))) (r : ℕ) (d : Both StreamLent StreamLent) : Type 0 where
-  pub code : r ≡ codeOf (sizesOf (x (record { bytes = length (d .entry .out); ends = length (d .entry .ends) })))
-  pub lent : d .exit ≡ streamLentAfter (x (record { bytes = length (d .entry .out); ends = length (d .entry .ends) })) (d .entry)
+  pub code : r ≡ codeOf (sizesOf (x (roomIn (d .entry .out) (d .entry .ends))))
+  pub lent : d .exit ≡ streamLentAfter (x (roomIn (d .entry .out) (d .entry .ends))) (d .entry)
 
 -- ---- assembly
 

@@ -14,7 +14,7 @@ use Rattle.obu.specs.Obu.{Obu, obus, unitBytes}
 use Rattle.obu.specs.Unit.{isFrame, count}
 use Rattle.container.specs.Stream.{others, units, streamUnits, flat, streamBytes}
 use Rattle.bitio.specs.Limits.{limit}
-use Rattle.container.specs.Limits.{Room, fits, fitUnits}
+use Rattle.container.specs.Limits.{Room, fits, fitUnits, roomIn}
 use Rattle.container.specs.Units.{endsOf, Sizes, sizesOf, bytesAfter, endsAfter}
 use Rattle.container.specs.Container.{stream, read}
 use Rattle.container.specs.code.Ranges.{keptBytes, Ranged, Measured, Roomy, WroteKept}
@@ -301,7 +301,7 @@ three false y z e = let z : _≡_ {A = ℕ} 0 1 = cc in absurd (omega arith)
 -- data s, lent memory d and e
 module _ (s d e : List ℕ) where
   abbrev room : Room
-  room = record { bytes = length d; ends = length e }
+  room = roomIn d e
 
   abbrev pub result : Answer (List (List ℕ))
   result = read stream room s

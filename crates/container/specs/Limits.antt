@@ -17,6 +17,10 @@ pub record Room : Type 0 where
 abbrev pub bytesRoom : ℕ → Room
 bytesRoom n = record { bytes = n; ends = 0 }
 
+-- the room of two lent slices
+abbrev pub roomIn : List ℕ → List ℕ → Room
+roomIn d e = record { bytes = length d; ends = length e }
+
 -- n bytes and the ends of u units have room
 abbrev pub fits : ℕ → ℕ → Room → Bool
 fits n u room = leb n limit && (leb n (room .bytes) && leb u (room .ends))

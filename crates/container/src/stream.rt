@@ -2,7 +2,7 @@
 ghost use mathlib.Core.Path.{_≡_};
 ghost use lib.ListN.{length};
 ghost use Rattle.bitio.specs.Parse.{accepted};
-ghost use Rattle.container.specs.Limits.{bytesRoom};
+ghost use Rattle.container.specs.Limits.{bytesRoom, roomIn};
 ghost use Rattle.container.specs.Stream.{streamUnits};
 ghost use Rattle.container.specs.Units.{sizesOf, bytesAfter, endsAfter, splitSays, countOf, outAfter, byteCountSays};
 ghost use Rattle.container.specs.Container.{stream, read, writeAt};
@@ -110,9 +110,9 @@ fn write(s: &[u8], frames: usize, out: &mut [u8], ends: &mut [u32]) -> Size
 
 // A stream's units: their bytes to `out`, the end of each to `ends`. A refusal changes neither.
 pub fn split_obu_stream(data: &[u8], out: &mut [u8], ends: &mut [u32]) -> Split
-    ensures { λ r. ⌜ splitSays r ≡ sizesOf (read stream (record { bytes = length (now (out .entry)); ends = length (now (ends .entry)) }) (now («data» .entry))) ⌝ }
-    ensures { λ _. ⌜ now (out .exit) ≡ bytesAfter (read stream (record { bytes = length (now (out .entry)); ends = length (now (ends .entry)) }) (now («data» .entry))) (now (out .entry)) ⌝ }
-    ensures { λ _. ⌜ now (ends .exit) ≡ endsAfter (read stream (record { bytes = length (now (out .entry)); ends = length (now (ends .entry)) }) (now («data» .entry))) (now (ends .entry)) ⌝ }
+    ensures { λ r. ⌜ splitSays r ≡ sizesOf (read stream (roomIn (now (out .entry)) (now (ends .entry))) (now («data» .entry))) ⌝ }
+    ensures { λ _. ⌜ now (out .exit) ≡ bytesAfter (read stream (roomIn (now (out .entry)) (now (ends .entry))) (now («data» .entry))) (now (out .entry)) ⌝ }
+    ensures { λ _. ⌜ now (ends .exit) ≡ endsAfter (read stream (roomIn (now (out .entry)) (now (ends .entry))) (now («data» .entry))) (now (ends .entry)) ⌝ }
 {
     let input = data.len();
     if input > LIMIT {

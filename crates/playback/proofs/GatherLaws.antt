@@ -14,7 +14,7 @@ use Rattle.bitio.specs.Parse.{Answer, refused, accepted}
 use Rattle.bitio.specs.Lent.{pasted}
 use Rattle.bitio.proofs.LentLaws.{pasted-nil, pasted-one, pasted-more, pasted-length}
 use Rattle.container.specs.Stream.{flat, streamBytes}
-use Rattle.container.specs.Limits.{Room, fits}
+use Rattle.container.specs.Limits.{Room, fits, roomIn}
 use Rattle.container.specs.Units.{endsOf, Sizes, sizesOf, bytesAfter, endsAfter}
 use Rattle.annexb.proofs.SplitLaws.{Says, says-refused}
 use Rattle.bitio.proofs.ParseLaws.{and-both}
@@ -80,7 +80,7 @@ pub record Putting (us rest : List (List ℕ)) (d e : List ℕ) (w i : ℕ) (o m
   pub bytes : pasted d 0 (streamBytes us) ≡ pasted o w (streamBytes rest)
   pub ends : pasted e 0 (endsOf 0 us) ≡ pasted m i (endsOf w rest)
 
-pub putting-start : {us : List (List ℕ)} {d e : List ℕ} → HasRoom (record { bytes = length d; ends = length e }) us → Putting us us d e 0 0 d e
+pub putting-start : {us : List (List ℕ)} {d e : List ℕ} → HasRoom (roomIn d e) us → Putting us us d e 0 0 d e
 putting-start r =
     record {
       long = refl;
@@ -161,7 +161,7 @@ has-room room us t =
     record { small = leb-true n limit (x .0); bytes = leb-true n (room .bytes) (y .0); ends = leb-true (length us) (room .ends) (y .1) }
 
 -- by each slice apart
-pub stores : (x : Room → Answer (List (List ℕ))) {a : Answer Sizes} {d m o f : List ℕ} → Says (x (record { bytes = length d; ends = length m })) a d m o f
+pub stores : (x : Room → Answer (List (List ℕ))) {a : Answer Sizes} {d m o f : List ℕ} → Says (x (roomIn d m)) a d m o f
     → Does (λ d. sizesOf (x (storeRoom d))) (λ d. storeAfter (x (storeRoom d)) d) a (record { entry = record { bytes = d; ends = m }; exit = record { bytes = o; ends = f } })
 stores x (i, (j, k)) = record { answer = i; lent = ap₂ (λ b e. record { bytes = b; ends = e }) j k }
 
@@ -170,7 +170,7 @@ module _ (l p e s d m : List ℕ) where
   us = unitsNamed l p e s
 
   abbrev room : Room
-  room = record { bytes = length d; ends = length m }
+  room = roomIn d m
 
   abbrev result : Answer (List (List ℕ))
   result = gathered us room

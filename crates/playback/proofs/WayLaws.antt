@@ -12,7 +12,7 @@ use Rattle.bitio.specs.Parse.{Answer, refused, accepted, andNext}
 use Rattle.bitio.specs.Lent.{pasted}
 use Rattle.bitio.proofs.LentLaws.{pasted-front, pasted-length}
 use Rattle.container.specs.Stream.{streamBytes}
-use Rattle.container.specs.Limits.{Room, bytesRoom, fits, fitBytes, fitUnits}
+use Rattle.container.specs.Limits.{Room, bytesRoom, fits, fitBytes, fitUnits, roomIn}
 use Rattle.container.specs.Units.{endsOf, Sizes, sizesOf, bytesAfter, endsAfter, splitSays, countOf, outAfter, byteCountSays}
 use Rattle.container.specs.Container.{Container, unitsIn, bytesIn, read, write, writeAt}
 use Rattle.container.specs.declared.units.Split.{Split}
@@ -149,7 +149,7 @@ module _ {c k : Container} (q : k ≡ c) where
       let w = ap (λ (y : Container). writeAt y (bytesRoom (length d)) s es) (sym q) in
       record { answer = i ∙ ap (λ y. countOf y) w; lent = j ∙ ap (λ y. outAfter y d) w }
 
-  pub read-form : (s d m : List ℕ) (r : Split) {o f : List ℕ} → Says (read c (record { bytes = length d; ends = length m }) s) (splitSays r) d m o f
+  pub read-form : (s d m : List ℕ) (r : Split) {o f : List ℕ} → Says (read c (roomIn d m) s) (splitSays r) d m o f
       → Stores (λ room. read k room s) r (record { entry = record { bytes = d; ends = m }; exit = record { bytes = o; ends = f } })
   read-form s d m r e = stores (λ room. read k room s) (rw q e)
 

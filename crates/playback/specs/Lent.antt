@@ -6,7 +6,7 @@ use lib.ListN.{length}
 use denote.Ref.{RefT, now}
 use denote.Triple.Both.{Both}
 use Rattle.bitio.specs.Parse.{Answer}
-use Rattle.container.specs.Limits.{Room}
+use Rattle.container.specs.Limits.{Room, roomIn}
 use Rattle.container.specs.Units.{sizesOf, bytesAfter, endsAfter, splitSays, countOf, outAfter}
 use Rattle.container.specs.declared.units.Split.{Split}
 
@@ -29,7 +29,7 @@ pub record Store : Type 0 where
   pub ends : List ℕ
 
 abbrev pub storeRoom : Store → Room
-storeRoom d = record { bytes = length (d .bytes); ends = length (d .ends) }
+storeRoom d = roomIn (d .bytes) (d .ends)
 
 abbrev pub storeAfter : Answer (List (List ℕ)) → Store → Store
 storeAfter x d = record { bytes = bytesAfter x (d .bytes); ends = endsAfter x (d .ends) }

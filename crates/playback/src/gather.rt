@@ -5,6 +5,7 @@ ghost use Rattle.bitio.specs.Lent.{pasted};
 ghost use Rattle.bitio.specs.Limits.{capped};
 ghost use Rattle.container.specs.Stream.{streamBytes};
 ghost use Rattle.container.specs.Units.{endsOf};
+ghost use Rattle.container.specs.Limits.{roomIn};
 ghost use Rattle.playback.specs.Lent.{store, Stores};
 ghost use Rattle.playback.specs.Gather.{unitsNamed, gathered, HasRoom};
 use assemble::unit::unit;
@@ -36,7 +37,7 @@ fn put_units<'a>(
     ends: &[u32],
     shows: &'a [u8],
 )
-    requires { ⌜ HasRoom (record { bytes = length (now units); ends = length (now «unit_ends») }) (unitsNamed (now list) (now pictures) (now ends) (now shows)) ⌝ }
+    requires { ⌜ HasRoom (roomIn (now units) (now «unit_ends»)) (unitsNamed (now list) (now pictures) (now ends) (now shows)) ⌝ }
     ensures { λ _. ⌜ now (units .exit) ≡ pasted (now (units .entry)) 0 (streamBytes (unitsNamed (now (list .entry)) (now (pictures .entry)) (now (ends .entry)) (now (shows .entry)))) ⌝ }
     ensures { λ _. ⌜ now («unit_ends» .exit) ≡ pasted (now («unit_ends» .entry)) 0 (endsOf 0 (unitsNamed (now (list .entry)) (now (pictures .entry)) (now (ends .entry)) (now (shows .entry)))) ⌝ }
 {

@@ -5,17 +5,13 @@ use mathlib.Core.List.{List}
 use lib.ListN.{length}
 use Rattle.bitio.specs.Parse.{Answer, answer}
 use Rattle.container.specs.Container.{stream, annexb, read, writeAt}
-use Rattle.container.specs.Limits.{Room, bytesRoom}
+use Rattle.container.specs.Limits.{bytesRoom, roomIn}
 use Rattle.container.specs.Units.{Sizes, sizesOf, bytesAfter, endsAfter, countOf, outAfter}
 use Rattle.packets.specs.Packets.{Packet, canonicalAt}
 use Rattle.packets.specs.PacketLists.{lentRoom, bytesOf, timesAfter, mergedAt}
 use Rattle.protocol.specs.declared.answer.Answer.{Answer as Line}
 use Rattle.protocol.specs.Answers.{partsOf, Filled, filled, Parted, parted}
 use Rattle.protocol.specs.Told.{toldBy, countTold, Told, told}
-
--- the room of lent memory
-abbrev pub roomIn : List ℕ → List ℕ → Room
-roomIn s es = record { bytes = length s; ends = length es }
 
 -- units: their bytes in so many parts
 abbrev pub sizesTold : Answer Sizes → Line
