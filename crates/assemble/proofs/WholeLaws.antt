@@ -18,8 +18,8 @@ use Rattle.pictures.specs.Prepare.{Prepared, showUnit}
 use Rattle.pictures.specs.declared.settings.Settings.{Settings}
 use Rattle.pictures.specs.Assemble.{Outcome, stopped, made, andAlso, pictureOf, endsFrom, showsOf, firstSlot, Output, outputOf, OutputRoom, outputFits, fitted}
 use Rattle.pictures.specs.Flat.{allSegments, judged, answerOr, allPrepared, allSent, slotsOf}
-use Rattle.assemble.specs.Whole.{counts, countsOf, assembledSays, Lent, outcome, lentAfter, Handed}
-use Rattle.assemble.specs.code.Stages.{Going, planned, headerIn, newIn, basisSays, answerSays, planSays, needed, fitsIn, roomFor}
+use Rattle.assemble.specs.Whole.{counts, countsOf, assembledSays, Lent, outcome, lentAfter, Handed, outputRoom}
+use Rattle.assemble.specs.code.Stages.{Going, planned, headerIn, newIn, basisSays, answerSays, planSays, needed, fitsIn}
 use Rattle.assemble.specs.declared.multi.Counts.{Counts}
 use Rattle.assemble.specs.declared.multi.Assembled.{Assembled}
 use Rattle.assemble.specs.declared.multi.Assembled.the-variants.{Made, Refused as AllRefused, RefusedIn as SegmentRefused}
@@ -52,7 +52,7 @@ same-lent a b d i j k = rw (a, b, d, i, j, k)
 
 module _ (s rs : List ℕ) (set : Settings) (d : Lent) where
   abbrev room : OutputRoom
-  room = roomFor (length (d .list)) (length (d .cues)) (length (d .pictures)) (length (d .ends)) (length (d .shows)) (length (d .header))
+  room = outputRoom d
 
   abbrev whole : Outcome Output
   whole = outcome s rs set d

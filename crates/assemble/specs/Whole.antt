@@ -8,7 +8,7 @@ use denote.Ref.{RefT, now}
 use denote.Triple.Both.{Both}
 use Rattle.bitio.specs.Lent.{pasted}
 use Rattle.pictures.specs.declared.settings.Settings.{Settings}
-use Rattle.pictures.specs.Assemble.{Outcome, stopped, made, andAlso, Output, assemble}
+use Rattle.pictures.specs.Assemble.{Outcome, stopped, made, andAlso, Output, OutputRoom, assemble}
 use Rattle.assemble.specs.declared.multi.Counts.{Counts}
 use Rattle.assemble.specs.declared.multi.Assembled.{Assembled}
 use Rattle.assemble.specs.declared.multi.Assembled.the-variants.{Made, Refused as AllRefused, RefusedIn as SegmentRefused}
@@ -53,12 +53,14 @@ abbrev pub six : (list cues pictures ends shows header : RefT (List ℕ)) → Le
 six list cues pictures ends shows header =
     record { list = now list; cues = now cues; pictures = now pictures; ends = now ends; shows = now shows; header = now header }
 
+-- the room that these have
+abbrev pub outputRoom : Lent → OutputRoom
+outputRoom d =
+    record { list = length (d .list); cues = length (d .cues); picture = length (d .pictures); ends = length (d .ends); shows = length (d .shows); header = length (d .header) }
+
 -- the outcome of assembly into these
 unfoldable pub outcome : List ℕ → List ℕ → Settings → Lent → Outcome Output
-outcome s rs set d =
-    assemble
-    (record { list = length (d .list); cues = length (d .cues); picture = length (d .pictures); ends = length (d .ends); shows = length (d .shows); header = length (d .header) })
-    set s rs
+outcome s rs set d = assemble (outputRoom d) set s rs
 
 -- what they hold afterwards: what was put at their heads, or what they held
 abbrev pub lentAfter : Outcome Output → Lent → Lent

@@ -15,7 +15,7 @@ use Rattle.bitio.specs.declared.leb128.Put.{Put}
 use Rattle.blocks.specs.Numbers.{width}
 use Rattle.assemble.proofs.AnswerLaws.{stopped-is}
 use Rattle.assemble.proofs.MultiLaws.{RoomForAll}
-use Rattle.assemble.specs.Whole.{counts, countsOf, Lent, outcome, lentAfter, Handed}
+use Rattle.assemble.specs.Whole.{counts, countsOf, Lent, outcome, lentAfter, Handed, outputRoom}
 use Rattle.assemble.specs.declared.multi.Counts.{Counts}
 use Rattle.assemble.specs.declared.multi.Assembled.the-variants.{Made}
 use Rattle.listing.specs.File.{FileReading, bad, full, readLayout, fileNumbers, readInto, fileNumbersAfter}
@@ -23,7 +23,6 @@ use Rattle.listing.specs.Text.{refusedText, refusedInText, badFile}
 use Rattle.listing.specs.declared.file.Layout.{Layout}
 use Rattle.listing.proofs.FileLaws.{read-is}
 use Rattle.boardlist.specs.Printed.{textOf, between, madeText, CountsFit, Texted, settingsOf, printedOf, printed, slicesAfterOf, slicesAfter}
-use Rattle.boardlist.proofs.MadeLaws.{roomIn}
 
 -- the same text by another name
 pub retold : {t u : List ℕ} {r : Put} {out : Both (List ℕ) (List ℕ)} → t ≡ u → Texted t r out → Texted u r out
@@ -43,12 +42,12 @@ head-room d xs n e h = omega (arith, pasted-length d 0 xs (omega arith))
 -- ---- assembly's answers
 
 -- lent memory after an accepted assembly holds what its counts say
-pub made-is : (x : Lent → Outcome Output) (c : Counts) (d d′ : Lent) → ((o : Output) → x d ≡ made o → RoomForAll (roomIn d) o) → Handed x (Made c) (record { entry = d; exit = d′ })
+pub made-is : (x : Lent → Outcome Output) (c : Counts) (d d′ : Lent) → ((o : Output) → x d ≡ made o → RoomForAll (outputRoom d) o) → Handed x (Made c) (record { entry = d; exit = d′ })
     → CountsFit c (d′ .list) (d′ .pictures) (d′ .ends) (d′ .shows) × (madeText c (d′ .list) (d′ .pictures) (d′ .ends) (d′ .shows) ≡ textOf (x d))
 unfolding andAlso
 made-is x c d d′ held w = go (x d) held (w .answer) (w .lent)
   where
-    go : (y : Outcome Output) → ((o : Output) → y ≡ made o → RoomForAll (roomIn d) o) → made c ≡ countsOf y → d′ ≡ lentAfter y d
+    go : (y : Outcome Output) → ((o : Output) → y ≡ made o → RoomForAll (outputRoom d) o) → made c ≡ countsOf y → d′ ≡ lentAfter y d
         → CountsFit c (d′ .list) (d′ .pictures) (d′ .ends) (d′ .shows) × (madeText c (d′ .list) (d′ .pictures) (d′ .ends) (d′ .shows) ≡ textOf y)
     go (stopped n i) held e p = let z : _≡_ {A = ℕ} 0 1 = cc in absurd (omega arith)
     go (made o) held e p =

@@ -12,13 +12,8 @@ use Rattle.bitio.proofs.ParseLaws.{pick-cases}
 use Rattle.pictures.specs.Segments.{segmentsOf}
 use Rattle.pictures.specs.Assemble.{Outcome, stopped, made, andAlso, overall, Output, OutputRoom, outputFits, assembled, fitted, assemble}
 use Rattle.pictures.specs.declared.settings.Settings.{Settings}
-use Rattle.assemble.specs.Whole.{Lent, outcome}
-use Rattle.assemble.specs.code.Stages.{roomFor}
+use Rattle.assemble.specs.Whole.{Lent, outcome, outputRoom}
 use Rattle.assemble.proofs.MultiLaws.{RoomForAll, fits-roomy}
-
--- the room that these have
-abbrev pub roomIn : Lent → OutputRoom
-roomIn d = roomFor (length (d .list)) (length (d .cues)) (length (d .pictures)) (length (d .ends)) (length (d .shows)) (length (d .header))
 
 -- what was made last, made a
 last : {A B : Type 0} (x : Outcome A) (f : A → Outcome B) (b : B) → andAlso x f ≡ made b → (a : A) × (f a ≡ made b)
@@ -33,10 +28,10 @@ fitted-fits room r o e = go (outputFits room r) refl e
     go true w e = let k : r ≡ o = cc in rw (← k) w
     go false w e = let z : _≡_ {A = ℕ} 0 1 = cc in absurd (omega arith)
 
-pub outcome-held : (s rs : List ℕ) (set : Settings) (d : Lent) (o : Output) → outcome s rs set d ≡ made o → RoomForAll (roomIn d) o
+pub outcome-held : (s rs : List ℕ) (set : Settings) (d : Lent) (o : Output) → outcome s rs set d ≡ made o → RoomForAll (outputRoom d) o
 unfolding outcome assemble
 outcome-held s rs set d o =
-    pick-cases (λ x. x ≡ made o → RoomForAll (roomIn d) o) (ltb limit (length s)) (λ t e. let z : _≡_ {A = ℕ} 0 1 = cc in absurd (omega arith))
+    pick-cases (λ x. x ≡ made o → RoomForAll (outputRoom d) o) (ltb limit (length s)) (λ t e. let z : _≡_ {A = ℕ} 0 1 = cc in absurd (omega arith))
     (λ t e.
     let (xs, f) = last (overall (segmentsOf s rs)) _ o e in
     let (r, g) = last (assembled set xs) _ o f in

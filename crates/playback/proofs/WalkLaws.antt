@@ -18,7 +18,7 @@ use Rattle.bitio.proofs.ParseLaws.{and-both}
 use Rattle.pictures.specs.Segments.{Segment, segmentsOf}
 use Rattle.pictures.specs.declared.settings.Settings.{Settings}
 use Rattle.pictures.specs.Assemble.{Outcome, stopped, made, andAlso, overall, Output, OutputRoom, outputFits, assembled, assemble, unitsOf}
-use Rattle.assemble.specs.Whole.{counts, countsOf, assembledSays, Lent, outcome, lentAfter, Handed}
+use Rattle.assemble.specs.Whole.{counts, countsOf, assembledSays, Lent, outcome, lentAfter, Handed, outputRoom}
 use Rattle.assemble.specs.declared.multi.Counts.{Counts}
 use Rattle.assemble.specs.declared.multi.Assembled.{Assembled}
 use Rattle.assemble.specs.declared.multi.Assembled.the-variants.{Made}
@@ -129,7 +129,7 @@ module _ (c : Container) (cue : ℕ) (s rs : List ℕ) (set : Settings) (l l′ 
     t-is : t ≡ counts o
     t-is = makes x t (ap assembledSays (sym made-it) ∙ h .answer) .2
 
-    has : Has (record { list = length (l .list); cues = length (l .cues); picture = length (l .pictures); ends = length (l .ends); shows = length (l .shows); header = length (l .header) }) o
+    has : Has (outputRoom l) o
     unfolding outcome
     has = assemble-has _ set s rs o o-is
 
