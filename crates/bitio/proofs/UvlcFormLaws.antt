@@ -32,7 +32,7 @@ pub record HighestBit (x z : ℕ) : Type 0 where
   pub below : x < 2 ^ (z + 1)
 
 -- the halvings of x are the place of its highest bit
-halve-place : (k x : ℕ) → 1 ≤ x → x < 2 ^ suc k → HighestBit x (halvings k x)
+pub halve-place : (k x : ℕ) → 1 ≤ x → x < 2 ^ suc k → HighestBit x (halvings k x)
 unfolding halvings
 halve-place zero x h l = record { above = h; below = l }
 halve-place (suc k) x h l =
@@ -50,7 +50,7 @@ halve-place (suc k) x h l =
     ]
 
 -- at most k halvings
-halve-le : (k x : ℕ) → halvings k x ≤ k
+pub halve-le : (k x : ℕ) → halvings k x ≤ k
 unfolding halvings
 halve-le zero x = omega arith
 halve-le (suc k) x =

@@ -52,7 +52,7 @@ fn put_bits(out: &mut [u8], pos: usize, n: usize, v: u64)
 }
 
 // How often x, at most 2 ^ 32, can be halved before it is below 2.
-fn log2(x: u64) -> usize
+pub fn log2(x: u64) -> usize
     requires { ⌜ x ≤ 2 ^ 32 ⌝ }
     ensures { λ r. ⌜ r ≡ halvings 32 x ⌝ }
 {

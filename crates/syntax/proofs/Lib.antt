@@ -1,0 +1,8 @@
+pub mod CursorLaws
+pub mod LinkLaws
+pub mod RepeatLaws
+pub mod NearLaws
+pub mod LocalLaws
+pub mod BothLaws
+pub mod EndLaws
+pub mod TimesLaws

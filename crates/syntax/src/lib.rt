@@ -1,0 +1,5 @@
+// Bit syntax read field by field: a cursor that keeps its first refusal, choices without branches, and ns(n).
+pub mod choice;
+pub mod cursor;
+pub mod near;
+pub mod signed;
