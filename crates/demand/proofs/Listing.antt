@@ -24,7 +24,8 @@ use Rattle.header.specs.SequenceCoding.{frameSize, frameIds, codingTools, scree
 use Rattle.header.specs.Sequence.{Sequence, sequenceHeader, parseSequence}
 use Rattle.header.specs.Support.{support, supportedSequence}
 use Rattle.header.specs.Timed.{retimed, withTiming}
-use Rattle.frame.specs.Frame.{showExisting, frameStart, orderHint, removalTimes, bufferRemoval, frameInfo, frameBits, frameHeader, parseFrame}
+use Rattle.syntax.specs.Syntax.{run}
+use Rattle.frame.specs.Frame.{showExisting, frameStart, frameModes, frameFront, removalTimes, bufferRemoval, refreshFlags, frameInfo, frameBits, frameHeader, parseFrame}
 use Rattle.container.specs.Stream.{cut, group, others, join, behind, joined, units, streamUnits, flat, streamBytes}
 use Rattle.container.specs.AnnexB.{innerObuOf, lengthObuOf, frameUnitOf, temporalUnitOf, annexbUnitsOf, annexbUnit, annexbBytes}
 use Rattle.container.specs.Container.{Container, stream, annexb, read, write}
@@ -35,7 +36,8 @@ use Rattle.pictures.specs.declared.settings.Settings.{Settings}
 use Rattle.pictures.specs.Assemble.{Outcome, stopped, Output, named, unitsOf}
 use Rattle.assemble.specs.Examples.{unitK, unitG, timedPayload, timedK, otherK, otherG, timedOtherK, pictureKG, rangesKG, roomKG, settingsKG, outputKG, pictureTwo, rangesTwo, pictureTimed, rangesTimed, roomTwo, outputTwo, payloadK, ordered}
 use Rattle.frame.specs.UnitFrame.{framePayload, unitFrame}
-use Rattle.player.specs.Player.{State, start, refresh, keepAs, play, stateAfter}
+use Rattle.frame.specs.Refresh.{refresh}
+use Rattle.player.specs.Player.{State, start, keepAs, play, stateAfter}
 use Rattle.demand.specs.Kinds.{unitKind, unitAt}
 use Rattle.demand.specs.Premises.{listHeader, Premise, Formed, Premises}
 use Rattle.demand.specs.Courses.{Course, done, plays, noise, Throughout}
@@ -201,7 +203,7 @@ kinds-are
     : (kindsBy settingsKG (unitsOf outputKG) (parseSequence (listHeader segmentsKG)) ∷ kindsBy settingsKG (unitsOf outputTwo) (parseSequence (listHeader segmentsTwo))
     ∷ kindsBy settingsKG (unitsOf outputTwo) (parseSequence (listHeader segmentsTimed)) ∷ [])
     ≡ map accepted kindsKG ∷ map accepted kindsTwo ∷ map accepted kindsTwo ∷ []
-unfolding many manyF andNext bitAt bitsAt bitsWithin readBits leadingZeros uvlcSuffix uvlc lebRead readLeb sized passes headObuOf obusOf isType count firstPayload readFlag readOr flagOr uvlcOr timingInfo decoderModelInfo opening operatingPoint operatingPoints frameSize frameIds codingTools screenTools filters colorDescription colorSampling coding sequenceHeader parseSequence support retimed withTiming showExisting frameStart orderHint removalTimes bufferRemoval frameInfo frameBits frameHeader parseFrame framePayload unitFrame unitKind part named unitsOf
+unfolding many manyF andNext bitAt bitsAt bitsWithin readBits leadingZeros uvlcSuffix uvlc lebRead readLeb sized passes headObuOf obusOf isType count firstPayload readFlag readOr flagOr uvlcOr timingInfo decoderModelInfo opening operatingPoint operatingPoints frameSize frameIds codingTools screenTools filters colorDescription colorSampling coding sequenceHeader parseSequence support retimed withTiming run showExisting frameStart frameModes frameFront removalTimes bufferRemoval refreshFlags frameInfo frameBits frameHeader parseFrame framePayload unitFrame unitKind part named unitsOf
 kinds-are = refl
 
 abbrev modelAt : ℕ → List Bool → Bool
@@ -293,7 +295,7 @@ rekeyed = stateAfter (stateAfter (stateAfter goldened 3 (showUnit 3)) 4 (showUni
 -- Refused in between: a show unit before there is a header, one of a slot that holds a key not showable, the other segment's show unit before
 -- its golden, and bytes that are no OBU.
 pub noisy : Course start 1 (unitsOf outputTwo)
-unfolding many manyF andNext bitAt bitsAt bitsWithin readBits leadingZeros uvlcSuffix uvlc lebRead readLeb sized passes headObuOf obusOf isType count firstPayload readFlag readOr flagOr uvlcOr timingInfo decoderModelInfo opening operatingPoint operatingPoints frameSize frameIds codingTools screenTools filters colorDescription colorSampling coding sequenceHeader parseSequence support showExisting frameStart orderHint removalTimes bufferRemoval frameInfo frameBits frameHeader parseFrame refresh supportedSequence keepAs framePayload part named unitsOf play
+unfolding many manyF andNext bitAt bitsAt bitsWithin readBits leadingZeros uvlcSuffix uvlc lebRead readLeb sized passes headObuOf obusOf isType count firstPayload readFlag readOr flagOr uvlcOr timingInfo decoderModelInfo opening operatingPoint operatingPoints frameSize frameIds codingTools screenTools filters colorDescription colorSampling coding sequenceHeader parseSequence support run showExisting frameStart frameModes frameFront removalTimes bufferRemoval refreshFlags frameInfo frameBits frameHeader parseFrame refresh supportedSequence keepAs framePayload part named unitsOf play
 noisy =
     noise {st = start} 3 (showUnit 3) 26 refl
     (plays

@@ -1,7 +1,7 @@
 -- Laws of the player: the slots that a frame fills, the header that a unit leaves, and the outcome of an accepted play.
 use Prim.Native.Nat.{ℕ, suc, _/_, _%_, _^_, _≤_, _<_}
 use native.Mathlib.Omega.{arith}
-use mathlib.Core.Path.{_≡_, refl, ap}
+use mathlib.Core.Path.{_≡_, refl}
 use mathlib.Core.List.{List, [], _∷_}
 use mathlib.Core.Bool.{Bool, true, false, cond as pick, _||_}
 use mathlib.Core.Option.{Option, some}
@@ -20,14 +20,10 @@ use Rattle.frame.specs.Frame.{parseFrame}
 use Rattle.frame.specs.declared.frame_header.FrameHeaderInfo.{FrameHeaderInfo}
 use Rattle.pictures.specs.Prepare.{isSequence, lowest}
 use Rattle.frame.specs.UnitFrame.{framePayload}
-use Rattle.player.specs.Player.{empty, refresh, Shown, act, State, keepAs, keep, play}
+use Rattle.frame.specs.Refresh.{refresh}
+use Rattle.player.specs.Player.{empty, Shown, act, State, keepAs, keep, play}
 use Rattle.player.specs.declared.slots.Slot.{Slot}
 use Rattle.demand.specs.Premises.{SequenceIs}
-
-pub length-refresh : (flags : ℕ) (new : Slot) (ss : List Slot) → length (refresh flags new ss) ≡ length ss
-unfolding refresh
-length-refresh flags new [] = refl
-length-refresh flags new (s ∷ ss) = ap suc (length-refresh (flags / 2) new ss)
 
 -- a frame that refreshes something fills its lowest slot
 pub record Hit (flags : ℕ) (new : Slot) (ss : List Slot) : Type 0 where

@@ -24,7 +24,8 @@ use Rattle.pictures.specs.Prepare.{isSequence, effective, renewal, Prepared, sh
 use Rattle.pictures.specs.declared.settings.Settings.{Settings}
 use Rattle.pictures.specs.Assemble.{pictureOf, endsFrom, showsOf, named}
 use Rattle.frame.specs.UnitFrame.{unitFrame}
-use Rattle.player.specs.Player.{empty, filled, refresh, State, start, play, stateAfter}
+use Rattle.frame.specs.Refresh.{refresh}
+use Rattle.player.specs.Player.{empty, filled, State, start, play, stateAfter}
 use Rattle.player.specs.declared.slots.Slot.{Slot}
 use Rattle.demand.specs.Kinds.{unitKind, saysKey, isKeyUnit, unitAt, segmentOf}
 use Rattle.demand.specs.Premises.{sequencePayload, Premise}
@@ -35,7 +36,8 @@ use Rattle.demand.proofs.ListLaws.{getD-map-lt, map-both, isKey, positi
 use Rattle.demand.proofs.HandedLaws.{noUnits, unitOf, unitBy, UnitsWithin, named-is}
 use Rattle.frame.proofs.FrameLaws.{flags-lt, shown-showable}
 use Rattle.demand.proofs.HeaderLaws.{show-frame}
-use Rattle.demand.proofs.PlayerLaws.{length-refresh, hit, keep-same, keep-first, play-is}
+use Rattle.frame.proofs.RefreshLaws.{length-refresh}
+use Rattle.demand.proofs.PlayerLaws.{hit, keep-same, keep-first, play-is}
 use Rattle.demand.proofs.UnitLaws.{first-same, show-unit, show-payload}
 use Rattle.demand.proofs.AssembleLaws.{FrameSays, Paired, frame-is, matches-length, matches-at, Boards}
 

@@ -7,7 +7,7 @@ use mathlib.Core.Bool.{Bool, false}
 use Rattle.bitio.specs.Parse.{accepted}
 use Rattle.bitio.specs.Bits.{reads, readBits}
 use Rattle.bitio.proofs.BitLaws.{bits-byte, read-there}
-use Rattle.header.specs.Fields.{readFlag}
+use Rattle.syntax.specs.Syntax.{run}
 use Rattle.header.specs.Sequence.{Sequence}
 use Rattle.header.specs.Support.{hasPointInfo, support}
 use Rattle.frame.specs.Frame.{showByte, showExisting, frameBits, frameHeader, parseFrame}
@@ -38,7 +38,7 @@ supported-plain h e = let q = supports h e in record { full = q .full; noIds = q
 module _ (q : Sequence) (plain : Plain (q .header)) (slot : ℕ) (rest : List ℕ) where
   -- any byte that begins with a one and the slot
   pub byte-reads : (has : OperatingPoint → Bool) (b : ℕ) → b / 128 % 2 ≡ 1 → b / 16 % 8 ≡ slot → frameHeader has (b ∷ rest) 0 q ≡ reads (Existing slot) 4
-  unfolding frameHeader frameBits showExisting readFlag
+  unfolding run frameHeader frameBits showExisting
   byte-reads has b one k = rw (plain .full, plain .noIds, first-bit b rest, one, next-three b rest, k, plain .noPointInfo)
 
   -- a show unit's byte, whatever stands behind it

@@ -1,24 +1,29 @@
 -- Where a frame header reads the same by 01's removal times and by AV1's own.
-use Prim.Native.Nat.{ℕ}
-use mathlib.Core.Path.{_≡_, refl, sym, ap, _∙_}
+use Prim.Native.Nat.{ℕ, _+_, _<_}
+use native.Mathlib.Omega.{arith}
+use mathlib.Core.Path.{_≡_, refl, ap, _∙_}
 use mathlib.Core.List.{List}
-use mathlib.Core.Bool.{Bool, true, false, true≢false, and-true, cond as pick}
-use Rattle.bitio.specs.Bits.{Reading, fails, reads, andThen}
+use mathlib.Core.Bool.{Bool, true, false, and-true, cond as pick}
+use lib.Dec.{eqb}
+use borrow.Author.Tests.{eqb-true, eqb-false}
+use Rattle.bitio.specs.Bits.{Reading, fails, reads, andThen, readBits}
 use Rattle.bitio.specs.Every.{Every, nothing, also}
-use Rattle.header.specs.Fields.{readFlag, readOr, flagOr}
+use Rattle.syntax.specs.Syntax.{Syntax, field, readOver, run}
 use Rattle.header.specs.Sequence.{Sequence}
+use Rattle.header.proofs.ReadLaws.{bits-lt}
 use Rattle.header.specs.Support.{hasPointInfo}
-use Rattle.frame.specs.Frame.{modelled, layered, showExisting, frameStart, orderHint, removalTimes, bufferRemoval, frameInfo, frameBits, frameHeader, readFrame, specFrame}
-use Rattle.frame.specs.code.RemovalFlag.{removalFlag}
 use Rattle.header.specs.declared.seq_header.OperatingPoint.{OperatingPoint}
 use Rattle.header.specs.declared.seq_header.DecoderModelInfo.{DecoderModelInfo}
+use Rattle.frame.specs.Frame.{modelled, layered, showExisting, frameFront, removalTimes, bufferRemoval, refreshFlags, frameInfo, frameBits, frameHeader, readFrame, specFrame}
+use Rattle.frame.specs.code.RemovalFlag.{removalFlag}
 use Rattle.frame.specs.declared.frame_header.FrameStart.{FrameStart}
+use Rattle.frame.specs.declared.frame_header.FrameFront.{FrameFront}
 use Rattle.frame.specs.declared.frame_header.FrameInfo.{FrameInfo}
 use Rattle.frame.specs.declared.frame_header.FrameHeaderInfo.{FrameHeaderInfo}
-use Rattle.frame.specs.declared.frame_header.FrameHeaderInfo.the-variants.{Existing, Frame}
+use Rattle.frame.specs.declared.frame_header.FrameHeaderInfo.the-variants.{Frame}
 
 -- what follows is the same for whatever was read
-then-same : {A B : Type 0} (x : Reading A) (k k' : A → ℕ → Reading B) → ((a : A) (p : ℕ) → x ≡ reads a p → k a p ≡ k' a p) → andThen x k ≡ andThen x k'
+pub then-same : {A B : Type 0} (x : Reading A) (k k' : A → ℕ → Reading B) → ((a : A) (p : ℕ) → x ≡ reads a p → k a p ≡ k' a p) → andThen x k ≡ andThen x k'
 then-same (fails n) k k' f = refl
 then-same (reads a p) k k' f = f a p refl
 
@@ -32,75 +37,79 @@ pick-first : {A : Type 0} (t : Bool) (a a' b : A) → (t ≡ true → a ≡ a') 
 pick-first true a a' b f = f refl
 pick-first false a a' b f = refl
 
+-- the reading of buffer_removal_time_present_flag, at p
+abbrev flagAt : List ℕ → ℕ → DecoderModelInfo → Reading ℕ
+flagAt s p m = pick (m .«decoder_model_info_present») (readBits s p 1) (reads 0 p)
+
+-- a flag that is not there is no 1
+flag-absent : (p r : ℕ) → _≡_ {A = Reading ℕ} (reads 0 p) (reads 1 r) → ⊥
+flag-absent p r g = let z : _≡_ {A = ℕ} 0 1 = cc in omega arith
+
+-- a bit that is not 1 is 0
+bit-zero : (s : List ℕ) (p v r : ℕ) → readBits s p 1 ≡ reads v r → eqb v 1 ≡ false → v ≡ 0
+bit-zero s p v r g e =
+    let l : v < 2 = (rw g at (bits-lt s p 1)) in
+    omega (arith, eqb-false v 1 e)
+
 module _ (has has' : OperatingPoint → Bool) (s : List ℕ) where
   -- the same points have a time
-  times-same : (n : ℕ) {xs : List OperatingPoint} → Every (λ x. has x ≡ has' x) xs → (p : ℕ) → removalTimes has s p n xs ≡ removalTimes has' s p n xs
+  times-same : (n : ℕ) {xs : List OperatingPoint} → Every (λ x. has x ≡ has' x) xs → removalTimes has n xs ≡ removalTimes has' n xs
   unfolding removalTimes
-  times-same n nothing p = refl
-  times-same n (also {a = x} {l = xs} e es) p =
-      ap (λ on. andThen (readOr s p on n 0) (λ time p. removalTimes has s p n xs)) e
-      ∙ then-same (readOr s p (has' x) n 0) _ _ (λ time p g. times-same n es p)
+  times-same n nothing = refl
+  times-same n (also {a = x} {l = xs} e es) =
+      ap (λ (on : Bool). field on n (λ time. removalTimes has n xs)) e ∙ ap (λ (y : Syntax ℕ). field (has' x) n (λ time. y)) (times-same n es)
 
-  -- no time is read
-  flag-same : (p : ℕ) (m : DecoderModelInfo) (xs : List OperatingPoint) → ((r : ℕ) → flagOr s p (m .«decoder_model_info_present») false ≡ reads true r → ⊥) → bufferRemoval has s p m xs ≡ bufferRemoval has' s p m xs
-  unfolding bufferRemoval
-  flag-same p m xs never = then-same (flagOr s p (m .«decoder_model_info_present») false) _ _ (λ present r g. pick-first present _ _ _ (λ t. absurd (never r (g ∙ ap (λ v. reads v r) t))))
-
-  -- a flag that is not there is no 1
-  flag-absent : (p r : ℕ) → flagOr s p false false ≡ reads true r → ⊥
-  unfolding flagOr
-  flag-absent p r g = let z : false ≡ true = cc in true≢false (sym z)
-
-  -- the same points have a time, where times are read
-  points-same : (p : ℕ) (m : DecoderModelInfo) {xs : List OperatingPoint} → Every (λ x. has x ≡ has' x) xs → bufferRemoval has s p m xs ≡ bufferRemoval has' s p m xs
-  unfolding bufferRemoval
-  points-same p m es = then-same (flagOr s p (m .«decoder_model_info_present») false) _ _ (λ present r g. pick-first present _ _ _ (λ t. times-same _ es r))
+  module _ (p : ℕ) (m : DecoderModelInfo) (xs : List OperatingPoint) where
+    -- where the flag is 1, the times are the same
+    removal-same : ((r : ℕ) → flagAt s p m ≡ reads 1 r → removalTimes has (m .«buffer_removal_time_length_minus_1» + 1) xs ≡ removalTimes has' (m .«buffer_removal_time_length_minus_1» + 1) xs)
+        → run (bufferRemoval has m xs) s p ≡ run (bufferRemoval has' m xs) s p
+    unfolding run bufferRemoval
+    removal-same same =
+        then-same (flagAt s p m) _ _ (λ present r g.
+        ap (λ (y : Reading ℕ). andThen y (λ last p. reads last p))
+        (pick-first (eqb present 1) _ _ (run readOver s r) (λ t.
+        ap (λ (y : Syntax ℕ). run y s r) (same r (g ∙ ap (λ v. reads v r) (eqb-true present 1 t))))))
 
   module _ (q : Sequence) where
     -- the removal times at this position are read the same
     abbrev SameRemoval : ℕ → Type 0
-    SameRemoval p = bufferRemoval has s p (q .header .opening .model) (q .points) ≡ bufferRemoval has' s p (q .header .opening .model) (q .points)
+    SameRemoval p = run (bufferRemoval has (q .header .opening .model) (q .points)) s p ≡ run (bufferRemoval has' (q .header .opening .model) (q .points)) s p
+
+    flags-same : (p : ℕ) (f : FrameStart) → SameRemoval p → run (refreshFlags has q f) s p ≡ run (refreshFlags has' q f) s p
+    unfolding run refreshFlags
+    flags-same p f e = rw e
 
     -- so is a frame, if they are wherever its fields lead
-    info-same :
-        (p : ℕ)
-        → ((f : FrameStart) (r : ℕ) → frameStart s p (hasPointInfo (q .header .opening)) ≡ reads f r → (hint t : ℕ) → orderHint s r (q .header .coding) f ≡ reads hint t → SameRemoval t)
-        → frameInfo has s p q ≡ frameInfo has' s p q
-    unfolding frameInfo
+    info-same : (p : ℕ) → ((x : FrameFront) (r : ℕ) → run (frameFront true (q .header)) s p ≡ reads x r → SameRemoval r) → run (frameInfo has q) s p ≡ run (frameInfo has' q) s p
+    unfolding run frameInfo
     info-same p same =
-        then-same (frameStart s p (hasPointInfo (q .header .opening))) _ _ (λ f r g.
-        then-same (orderHint s r (q .header .coding) f) _ _ (λ hint t h.
-        rw (same f r g hint t h)))
+        then-same (run (frameFront true (q .header)) s p) _ _ (λ x r g.
+        rw (flags-same r (x .start) (same x r g)))
 
     -- and a header, if the frame behind its first bit is
-    header-same : (p : ℕ) → ((r : ℕ) → readFlag s p ≡ reads false r → frameInfo has s r q ≡ frameInfo has' s r q) → frameHeader has s p q ≡ frameHeader has' s p q
-    unfolding frameHeader frameBits
-    header-same p same =
+    header-same : ((r : ℕ) → readBits s 0 1 ≡ reads 0 r → run (frameInfo has q) s r ≡ run (frameInfo has' q) s r) → frameHeader has s 0 q ≡ frameHeader has' s 0 q
+    unfolding run frameHeader frameBits
+    header-same same =
         pick-same (q .header .opening .«reduced_still_picture_header») _ _ _ (λ u.
         pick-same (q .header .coding .ids .«frame_id_numbers_present») _ _ _ (λ u.
-        then-same (readFlag s p) _ _ (λ existing r g.
-        pick-same existing
-        (andThen (showExisting s r (hasPointInfo (q .header .opening))) (λ slot p. reads (Existing slot) p))
-        (frame (frameInfo has s r q))
-        (frame (frameInfo has' s r q))
-        (λ e. ap frame (same r (g ∙ ap (λ v. reads v r) e))))))
-      where
-        frame : Reading FrameInfo → Reading FrameHeaderInfo
-        frame x = andThen x (λ f p. reads (Frame f) p)
+        then-same (readBits s 0 1) _ _ (λ existing r g.
+        ap (λ (y : Reading FrameHeaderInfo). andThen y (λ x p. reads x p))
+        (pick-same (eqb existing 1) (run (showExisting (hasPointInfo (q .header .opening))) s r) _ _ (λ e.
+        ap (λ (y : Reading FrameInfo). andThen y (λ f p. reads (Frame f) p)) (same r (g ∙ ap (λ v. reads v r) (bit-zero s 0 existing r g e))))))))
 
     -- the same operating points have a removal time
-    pub same-points : Every (λ x. has x ≡ has' x) (q .points) → (p : ℕ) → frameHeader has s p q ≡ frameHeader has' s p q
-    same-points es p = header-same p (λ r u. info-same r (λ f a g hint t h. points-same t (q .header .opening .model) es))
+    pub same-points : Every (λ x. has x ≡ has' x) (q .points) → frameHeader has s 0 q ≡ frameHeader has' s 0 q
+    same-points es = header-same (λ r u. info-same r (λ x t g. removal-same t (q .header .opening .model) (q .points) (λ b h. times-same _ es)))
 
     -- there is no decoder model
-    pub same-no-model : q .header .opening .model .«decoder_model_info_present» ≡ false → (p : ℕ) → frameHeader has s p q ≡ frameHeader has' s p q
-    same-no-model e p = header-same p (λ r u. info-same r (λ f a g hint t h. flag-same t (q .header .opening .model) (q .points) (λ b g. flag-absent t b (rw e at g))))
+    pub same-no-model : q .header .opening .model .«decoder_model_info_present» ≡ false → frameHeader has s 0 q ≡ frameHeader has' s 0 q
+    same-no-model e = header-same (λ r u. info-same r (λ x t g. removal-same t (q .header .opening .model) (q .points) (λ b h. absurd (flag-absent t b (rw e at h)))))
 
     -- the flag is not 1
-    pub same-no-times : ((r : ℕ) → removalFlag q s ≡ reads true r → ⊥) → frameHeader has s 0 q ≡ frameHeader has' s 0 q
-    unfolding removalFlag
+    pub same-no-times : ((r : ℕ) → removalFlag q s ≡ reads 1 r → ⊥) → frameHeader has s 0 q ≡ frameHeader has' s 0 q
+    unfolding run removalFlag
     same-no-times never =
-        header-same 0 (λ r u. info-same r (λ f a g hint t h. flag-same t (q .header .opening .model) (q .points) (λ b k. never b (rw (u, g, h) k))))
+        header-same (λ r u. info-same r (λ x t g. removal-same t (q .header .opening .model) (q .points) (λ b h. absurd (never b (rw (u, g, h))))))
 
 -- ---- 01's removal times and AV1's own
 
@@ -116,7 +125,7 @@ module _ (temporal spatial : ℕ) where
   module _ (q : Sequence) (s : List ℕ) where
     -- every operating point with a model is in the OBU's layers
     pub spec-points : Every (λ x. layered temporal spatial x ≡ modelled x) (q .points) → specFrame temporal spatial q s ≡ readFrame q s
-    spec-points es = same-points (layered temporal spatial) modelled s q es 0
+    spec-points es = same-points (layered temporal spatial) modelled s q es
 
     -- every operating point's idc is 0
     pub spec-idc : Every (λ x. x .idc ≡ 0) (q .points) → specFrame temporal spatial q s ≡ readFrame q s
@@ -124,8 +133,8 @@ module _ (temporal spatial : ℕ) where
 
     -- there is no decoder model
     pub spec-no-model : q .header .opening .model .«decoder_model_info_present» ≡ false → specFrame temporal spatial q s ≡ readFrame q s
-    spec-no-model e = same-no-model (layered temporal spatial) modelled s q e 0
+    spec-no-model e = same-no-model (layered temporal spatial) modelled s q e
 
     -- no removal time is read
-    pub spec-no-times : ((r : ℕ) → removalFlag q s ≡ reads true r → ⊥) → specFrame temporal spatial q s ≡ readFrame q s
+    pub spec-no-times : ((r : ℕ) → removalFlag q s ≡ reads 1 r → ⊥) → specFrame temporal spatial q s ≡ readFrame q s
     spec-no-times never = same-no-times (layered temporal spatial) modelled s q never

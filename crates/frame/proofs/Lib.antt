@@ -1,5 +1,5 @@
-pub mod FrameChain
 pub mod RemovalLaws
+pub mod RefreshLaws
 pub mod FrameLaws
 pub mod FrameShowLaws
 pub mod FrameSpecLaws

@@ -8,24 +8,23 @@ use native.Mathlib.Omega.{arith}
 use native.Mathlib.Decide.{decLt}
 use lib.ListN.{length, take, drop, getD, length-take}
 use lib.Seq.{drop-cons, drop-length, getD-take, take-all}
-use Rattle.bitio.specs.Bits.{reads, andThen}
-use Rattle.header.specs.Fields.{readOr}
-use Rattle.frame.specs.Frame.{removalTimes}
+use Rattle.syntax.specs.Syntax.{field, readOver}
 use Rattle.header.specs.declared.seq_header.OperatingPoint.{OperatingPoint}
+use Rattle.frame.specs.Frame.{removalTimes}
 
-module _ (has : OperatingPoint → Bool) (s : List ℕ) (n count : ℕ) (l : List OperatingPoint) (fits : count ≤ length l) where
+module _ (has : OperatingPoint → Bool) (n count : ℕ) (l : List OperatingPoint) (fits : count ≤ length l) where
   -- what is left before the point i: its time, and what is left behind it
-  pub times-turn : (p i : ℕ) (d : OperatingPoint) → i < count
-      → removalTimes has s p n (drop i (take count l)) ≡ andThen (readOr s p (has (getD l i d)) n 0) (λ time p. removalTimes has s p n (drop (i + 1) (take count l)))
+  pub times-turn : (i : ℕ) (d : OperatingPoint) → i < count
+      → removalTimes has n (drop i (take count l)) ≡ field (has (getD l i d)) n (λ time. removalTimes has n (drop (i + 1) (take count l)))
   unfolding removalTimes
-  times-turn p i d h =
+  times-turn i d h =
       let k : i < length (take count l) = omega (arith, length-take count l) in
       rw (drop-cons (take count l) i d k, getD-take count l i d h, add-one i)
 
   -- behind the last point nothing is left
-  pub times-end : (p i : ℕ) → i ≡ count → removalTimes has s p n (drop i (take count l)) ≡ reads tt p
+  pub times-end : (i : ℕ) → i ≡ count → removalTimes has n (drop i (take count l)) ≡ readOver
   unfolding removalTimes
-  times-end p i e =
+  times-end i e =
       let k : i ≡ length (take count l) = omega (arith, length-take count l) in
       rw (k, drop-length)
 

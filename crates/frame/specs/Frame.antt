@@ -1,18 +1,23 @@
 -- AV1 5.9.2 uncompressed_header up to refresh_frame_flags, under a sequence header.
 use Prim.Native.Nat.{ℕ, _+_, _*_, _/_, _%_, _^_}
 use mathlib.Core.List.{List, [], _∷_}
-use mathlib.Core.Bool.{Bool, true, false, not, _&&_, _||_, cond as pick}
+use mathlib.Core.Bool.{Bool, true, not, _&&_, _||_, cond as pick}
 use lib.Dec.{eqb}
-use Rattle.bitio.specs.Parse.{Answer, refused, accepted}
-use Rattle.bitio.specs.Bits.{Reading, fails, reads, andThen, readBits}
-use Rattle.header.specs.Fields.{readFlag, readOr, flagOr, answerOf}
+use Rattle.bitio.specs.Parse.{Answer, refused, accepted, andNext}
+use Rattle.bitio.specs.Bits.{Reading, fails}
+use Rattle.syntax.specs.Syntax.{Syntax, done, field, refuse, branch, sub, readOver, run}
+use Rattle.header.specs.Fields.{answerOf}
 use Rattle.header.specs.SequenceCoding.{select}
-use Rattle.header.specs.Sequence.{Sequence, readSequence}
+use Rattle.header.specs.Sequence.{Sequence, parseSequence}
 use Rattle.header.specs.Support.{hasPointInfo}
 use Rattle.header.specs.declared.seq_header.OperatingPoint.{OperatingPoint}
 use Rattle.header.specs.declared.seq_header.DecoderModelInfo.{DecoderModelInfo}
+use Rattle.header.specs.declared.seq_header.Opening.{Opening}
 use Rattle.header.specs.declared.seq_header.Coding.{Coding}
+use Rattle.header.specs.declared.seq_header.SequenceHeader.{SequenceHeader}
 use Rattle.frame.specs.declared.frame_header.FrameStart.{FrameStart}
+use Rattle.frame.specs.declared.frame_header.FrameModes.{FrameModes}
+use Rattle.frame.specs.declared.frame_header.FrameFront.{FrameFront}
 use Rattle.frame.specs.declared.frame_header.FrameInfo.{FrameInfo}
 use Rattle.frame.specs.declared.frame_header.FrameHeaderInfo.{FrameHeaderInfo}
 use Rattle.frame.specs.declared.frame_header.FrameHeaderInfo.the-variants.{Existing, Frame}
@@ -36,6 +41,10 @@ allSlots type shown = eqb type switchFrame || (eqb type keyFrame && shown)
 abbrev pub isIntra : ℕ → Bool
 isIntra type = eqb type intraOnlyFrame || eqb type keyFrame
 
+-- AV1 6.8.2 primary_ref_frame: PRIMARY_REF_NONE
+abbrev pub primaryNone : ℕ
+primaryNone = 7
+
 -- ---- which operating points have a buffer removal time in a frame header
 
 -- the Rust's, and 01 follows it: those that have a model, whatever their layers
@@ -51,74 +60,121 @@ layered temporal spatial x =
 -- ---- the sections
 
 -- show_existing_frame: frame_to_show_map_idx; 19: temporal_point_info would follow
-unfoldable pub showExisting : List ℕ → ℕ → Bool → Reading ℕ
-showExisting s p pointInfo =
-    andThen (readBits s p 3) (λ slot p.
-    pick pointInfo (fails 19) (reads slot p))
+unfoldable pub showExisting : Bool → Syntax FrameHeaderInfo
+showExisting pointInfo =
+    field true 3 (λ slot.
+    refuse pointInfo 19 (
+    done (Existing slot)))
 
 -- the byte that shows a slot again: show_existing_frame 1, frame_to_show_map_idx in three bits, and trailing bits
 abbrev pub showByte : ℕ → ℕ
 showByte slot = 128 + 16 * slot + 8
 
--- frame_type to error_resilient_mode; 19: a shown frame's temporal_point_info would follow
-unfoldable pub frameStart : List ℕ → ℕ → Bool → Reading FrameStart
-frameStart s p pointInfo =
-    andThen (readBits s p 2) (λ type p.
-    andThen (readFlag s p) (λ shown p.
-    pick (shown && pointInfo) (fails 19) (
-    andThen (flagOr s p (not shown) (not (eqb type keyFrame))) (λ showable p.
-    andThen (flagOr s p (not (allSlots type shown)) true) (λ resilient p.
-    reads (record {
-      «frame_type» = type;
-      «show_frame» = shown;
-      «showable_frame» = showable;
-      «error_resilient_mode» = resilient;
-    }) p)))))
+abbrev pub startOf : ℕ → Bool → Bool → Bool → FrameStart
+startOf type shown showable resilient =
+    record { «frame_type» = type; «show_frame» = shown; «showable_frame» = showable; «error_resilient_mode» = resilient }
 
--- disable_cdf_update to primary_ref_frame, of which the order hint is kept; 7 is PRIMARY_REF_NONE
-unfoldable pub orderHint : List ℕ → ℕ → Coding → FrameStart → Reading ℕ
-orderHint s p c f =
-    andThen (readFlag s p) (λ disable p.
-    andThen (flagOr s p (eqb (c .screen .«seq_force_screen_content_tools») select) (eqb (c .screen .«seq_force_screen_content_tools») 1)) (λ tools p.
-    andThen (flagOr s p (tools && eqb (c .screen .«seq_force_integer_mv») select) false) (λ mv p.
-    andThen (flagOr s p (not (eqb (f .«frame_type») switchFrame)) true) (λ size p.
-    andThen (readOr s p (c .tools .«enable_order_hint») (c .screen .«order_hint_bits_minus_1» + 1) 0) (λ hint p.
-    andThen (readOr s p (not (isIntra (f .«frame_type»)) && not (f .«error_resilient_mode»)) 3 7) (λ primary p.
-    reads hint p))))))
+-- frame_type to error_resilient_mode. A shown frame's temporal_point_info is 19 where strict, else read over
+unfoldable pub frameStart : Bool → Opening → Syntax FrameStart
+frameStart strict o =
+    field true 2 (λ type.
+    field true 1 (λ shown.
+    refuse (strict && (eqb shown 1 && hasPointInfo o)) 19 (
+    field (eqb shown 1 && hasPointInfo o) (o .model .«frame_presentation_time_length_minus_1» + 1) (λ time.
+    field (not (eqb shown 1)) 1 (λ showable.
+    field (not (allSlots type (eqb shown 1))) 1 (λ resilient.
+    done (startOf
+    type
+    (eqb shown 1)
+    ((eqb shown 1 && not (eqb type keyFrame)) || eqb showable 1)
+    (allSlots type (eqb shown 1) || eqb resilient 1))))))))
+
+-- the sequence header's word, or the frame's own bit where it leaves that to each frame
+abbrev pub chosen : ℕ → ℕ → Bool
+chosen force v = eqb force 1 || eqb v 1
+
+abbrev pub modesOf : Bool → Bool → Bool → Bool → ℕ → ℕ → FrameModes
+modesOf disable tools integer over hint primary =
+    record {
+      «disable_cdf_update» = disable;
+      «allow_screen_content_tools» = tools;
+      «force_integer_mv» = integer;
+      «frame_size_override_flag» = over;
+      «order_hint» = hint;
+      «primary_ref_frame» = primary;
+    }
+
+-- disable_cdf_update to primary_ref_frame
+unfoldable pub frameModes : Coding → FrameStart → Syntax FrameModes
+frameModes c f =
+    field true 1 (λ disable.
+    field (eqb (c .screen .«seq_force_screen_content_tools») select) 1 (λ tools.
+    field (chosen (c .screen .«seq_force_screen_content_tools») tools && eqb (c .screen .«seq_force_integer_mv») select) 1 (λ mv.
+    field (not (eqb (f .«frame_type») switchFrame)) 1 (λ over.
+    field (c .tools .«enable_order_hint») (c .screen .«order_hint_bits_minus_1» + 1) (λ hint.
+    field (not (isIntra (f .«frame_type»)) && not (f .«error_resilient_mode»)) 3 (λ primary.
+    done (modesOf
+    (eqb disable 1)
+    (chosen (c .screen .«seq_force_screen_content_tools») tools)
+    (isIntra (f .«frame_type») || (chosen (c .screen .«seq_force_screen_content_tools») tools && chosen (c .screen .«seq_force_integer_mv») mv))
+    (eqb (f .«frame_type») switchFrame || eqb over 1)
+    hint
+    (pick (not (isIntra (f .«frame_type»)) && not (f .«error_resilient_mode»)) primary primaryNone))))))))
+
+abbrev pub frontOf : FrameStart → FrameModes → FrameFront
+frontOf f m = record { start = f; modes = m }
+
+-- frame_type to primary_ref_frame
+unfoldable pub frameFront : Bool → SequenceHeader → Syntax FrameFront
+frameFront strict h =
+    sub (frameStart strict (h .opening)) (λ f.
+    sub (frameModes (h .coding) f) (λ m.
+    done (frontOf f m)))
 
 -- a removal time of n bits for each operating point that has one
-unfoldable pub removalTimes : (OperatingPoint → Bool) → List ℕ → ℕ → ℕ → List OperatingPoint → Reading Unit
-removalTimes has s p n [] = reads tt p
-removalTimes has s p n (x ∷ xs) = andThen (readOr s p (has x) n 0) (λ time p. removalTimes has s p n xs)
+unfoldable pub removalTimes : (OperatingPoint → Bool) → ℕ → List OperatingPoint → Syntax ℕ
+removalTimes has n [] = readOver
+removalTimes has n (x ∷ xs) = field (has x) n (λ time. removalTimes has n xs)
 
 -- buffer_removal_time_present_flag, with decoder model info, and the removal times
-unfoldable pub bufferRemoval : (OperatingPoint → Bool) → List ℕ → ℕ → DecoderModelInfo → List OperatingPoint → Reading Unit
-bufferRemoval has s p m xs =
-    andThen (flagOr s p (m .«decoder_model_info_present») false) (λ present p.
-    pick present (removalTimes has s p (m .«buffer_removal_time_length_minus_1» + 1) xs) (reads tt p))
+unfoldable pub bufferRemoval : (OperatingPoint → Bool) → DecoderModelInfo → List OperatingPoint → Syntax ℕ
+bufferRemoval has m xs =
+    field (m .«decoder_model_info_present») 1 (λ present.
+    branch (eqb present 1) (removalTimes has (m .«buffer_removal_time_length_minus_1» + 1) xs) readOver (λ last.
+    done last))
+
+-- the removal times, and refresh_frame_flags
+unfoldable pub refreshFlags : (OperatingPoint → Bool) → Sequence → FrameStart → Syntax ℕ
+refreshFlags has q f =
+    sub (bufferRemoval has (q .header .opening .model) (q .points)) (λ last.
+    field (not (allSlots (f .«frame_type») (f .«show_frame»))) 8 (λ flags.
+    done (pick (allSlots (f .«frame_type») (f .«show_frame»)) 255 flags)))
+
+abbrev pub infoOf : FrameFront → ℕ → FrameInfo
+infoOf x flags =
+    record {
+      «frame_type» = x .start .«frame_type»;
+      «show_frame» = x .start .«show_frame»;
+      «showable_frame» = x .start .«showable_frame»;
+      «refresh_frame_flags» = flags;
+      «order_hint» = x .modes .«order_hint»;
+    }
 
 -- a frame that is not shown again
-unfoldable pub frameInfo : (OperatingPoint → Bool) → List ℕ → ℕ → Sequence → Reading FrameInfo
-frameInfo has s p q =
-    andThen (frameStart s p (hasPointInfo (q .header .opening))) (λ f p.
-    andThen (orderHint s p (q .header .coding) f) (λ hint p.
-    andThen (bufferRemoval has s p (q .header .opening .model) (q .points)) (λ _ p.
-    andThen (readOr s p (not (allSlots (f .«frame_type») (f .«show_frame»))) 8 255) (λ flags p.
-    reads (record {
-      «frame_type» = f .«frame_type»;
-      «show_frame» = f .«show_frame»;
-      «showable_frame» = f .«showable_frame»;
-      «refresh_frame_flags» = flags;
-      «order_hint» = hint;
-    }) p))))
+unfoldable pub frameInfo : (OperatingPoint → Bool) → Sequence → Syntax FrameInfo
+frameInfo has q =
+    sub (frameFront true (q .header)) (λ x.
+    sub (refreshFlags has q (x .start)) (λ flags.
+    done (infoOf x flags)))
 
 -- show_existing_frame, and what follows
-unfoldable pub frameBits : (OperatingPoint → Bool) → List ℕ → ℕ → Sequence → Reading FrameHeaderInfo
-frameBits has s p q =
-    andThen (readFlag s p) (λ existing p.
-    pick existing
-    (andThen (showExisting s p (hasPointInfo (q .header .opening))) (λ slot p. reads (Existing slot) p))
-    (andThen (frameInfo has s p q) (λ f p. reads (Frame f) p)))
+unfoldable pub frameBits : (OperatingPoint → Bool) → Sequence → Syntax FrameHeaderInfo
+frameBits has q =
+    field true 1 (λ existing.
+    branch (eqb existing 1)
+    (showExisting (hasPointInfo (q .header .opening)))
+    (sub (frameInfo has q) (λ f. done (Frame f)))
+    (λ x. done x))
 
 -- ---- the whole
 
@@ -127,7 +183,7 @@ unfoldable pub frameHeader : (OperatingPoint → Bool) → List ℕ → ℕ → 
 frameHeader has s p q =
     pick (q .header .opening .«reduced_still_picture_header») (fails 17) (
     pick (q .header .coding .ids .«frame_id_numbers_present») (fails 18) (
-    frameBits has s p q))
+    run (frameBits has q) s p))
 
 -- a frame payload under a sequence header
 abbrev pub readFrame : Sequence → List ℕ → Reading FrameHeaderInfo
@@ -143,7 +199,7 @@ parseFrame q f = answerOf (readFrame q f)
 
 -- the same of the two payloads: first the sequence header is read, with its 14 to 16
 unfoldable pub parseFrameFrom : List ℕ → List ℕ → Answer FrameHeaderInfo
-parseFrameFrom s f = answerOf (andThen (readSequence s) (λ q _. readFrame q f))
+parseFrameFrom s f = andNext (parseSequence s) (λ q. parseFrame q f)
 
 -- 01's number and values for each case of FrameAnswer
 abbrev pub frameSays : FrameAnswer → Answer FrameHeaderInfo

@@ -1,3 +1,4 @@
 pub mod Frame
+pub mod Refresh
 pub mod UnitFrame
 pub mod code

@@ -1,2 +1,1 @@
-pub mod FrameSays
 pub mod RemovalFlag

@@ -1,5 +1,5 @@
 -- The player (01, 'Player (added)'): eight slots, a kept sequence header, and what playing one unit does.
-use Prim.Native.Nat.{ℕ, _/_, _%_}
+use Prim.Native.Nat.{ℕ}
 use mathlib.Core.List.{List, [], _∷_}
 use mathlib.Core.Bool.{Bool, true, false, cond as pick}
 use mathlib.Core.Option.{Option, none, some}
@@ -13,6 +13,7 @@ use Rattle.obu.specs.declared.unit.Kind.the-variants.{SequenceHeader}
 use Rattle.header.specs.Sequence.{Sequence}
 use Rattle.header.specs.Support.{supportedSequence}
 use Rattle.frame.specs.Frame.{keyFrame, parseFrame}
+use Rattle.frame.specs.Refresh.{refresh}
 use Rattle.frame.specs.UnitFrame.{framePayload}
 use Rattle.frame.specs.declared.frame_header.FrameHeaderInfo.{FrameHeaderInfo}
 use Rattle.frame.specs.declared.frame_header.FrameHeaderInfo.the-variants.{Existing, Frame}
@@ -26,11 +27,6 @@ empty = record { «is_filled» = false; position = 0; showable = false; key = fa
 
 abbrev pub filled : ℕ → Bool → Bool → Slot
 filled q showable key = record { «is_filled» = true; position = q; showable = showable; key = key }
-
--- AV1 7.20: each slot whose bit is set in the refresh flags takes the frame
-unfoldable pub refresh : ℕ → Slot → List Slot → List Slot
-refresh flags new [] = []
-refresh flags new (s ∷ ss) = pick (eqb (flags % 2) 1) new s ∷ refresh (flags / 2) new ss
 
 -- the position shown, if any, and the slots afterwards
 pub record Shown : Type 0 where

@@ -1,7 +1,8 @@
 // The eight slots, and what a frame does to them (AV1 7.20 and 7.21).
 ghost use mathlib.Core.Path.{_≡_};
 ghost use lib.ListN.{getD};
-ghost use Rattle.player.specs.Player.{empty, refresh, showSlot, act};
+ghost use Rattle.frame.specs.Refresh.{refresh};
+ghost use Rattle.player.specs.Player.{empty, showSlot, act};
 ghost use Rattle.player.specs.Values.{actedOn};
 use frame::frame_header::FrameHeaderInfo;
 use frame::frame_header::KEY_FRAME;

@@ -1,18 +1,19 @@
--- AV1 5.9.2 buffer_removal_time_present_flag of a frame header: whether removal times are read.
+-- AV1 5.9.2 buffer_removal_time_present_flag of a frame header: 1 if removal times are read.
 use Prim.Native.Nat.{ℕ}
 use mathlib.Core.List.{List}
-use mathlib.Core.Bool.{Bool, false, cond as pick}
-use Rattle.bitio.specs.Bits.{Reading, reads, andThen}
-use Rattle.header.specs.Fields.{readFlag, flagOr}
+use mathlib.Core.Bool.{true}
+use lib.Dec.{eqb}
+use Rattle.bitio.specs.Bits.{Reading}
+use Rattle.syntax.specs.Syntax.{done, field, branch, sub, readOver, run}
 use Rattle.header.specs.Sequence.{Sequence}
-use Rattle.header.specs.Support.{hasPointInfo}
-use Rattle.frame.specs.Frame.{frameStart, orderHint}
+use Rattle.frame.specs.Frame.{frameFront}
 
--- false where the flag is not in the bits: show_existing_frame, or no decoder model
-unfoldable pub removalFlag : Sequence → List ℕ → Reading Bool
+-- 0 where the flag is not in the bits: show_existing_frame, or no decoder model
+unfoldable pub removalFlag : Sequence → List ℕ → Reading ℕ
 removalFlag q s =
-    andThen (readFlag s 0) (λ existing p.
-    pick existing (reads false p) (
-    andThen (frameStart s p (hasPointInfo (q .header .opening))) (λ f p.
-    andThen (orderHint s p (q .header .coding) f) (λ hint p.
-    flagOr s p (q .header .opening .model .«decoder_model_info_present») false))))
+    run
+    (field true 1 (λ existing.
+    branch (eqb existing 1) readOver
+    (sub (frameFront true (q .header)) (λ x. field (q .header .opening .model .«decoder_model_info_present») 1 (λ v. done v)))
+    (λ v. done v)))
+    s 0

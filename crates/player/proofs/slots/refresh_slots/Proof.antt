@@ -4,7 +4,7 @@ use Prim.Native.Nat.{_-_, _≤_}
 use mathlib.Core.Path.{_≡_, refl, sym, _∙_}
 use mathlib.Core.Logic.{⊎-elim}
 use lib.ListN.{length, length-set}
-use Rattle.player.proofs.SlotLaws.{sweep, sweep-end, sweep-set, sweep-skip}
+use Rattle.frame.proofs.RefreshLaws.{sweep, sweep-end, sweep-set, sweep-skip}
 use Rattle.player.proofs.slots.refresh_slots.Statement.{statement}
 use Rattle.player.proofs.slots.refresh_slots.Tie as tie
 

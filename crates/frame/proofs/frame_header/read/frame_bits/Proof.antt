@@ -1,46 +1,27 @@
-use borrow.Author.Needs.{needs}
-use mathlib.Core.Path.{refl, sym, _∙_}
-use denote.Ref.{now}
-use Rattle.bitio.specs.Parse.{Answer}
-use Rattle.header.specs.Fields.{flagSays, answerOf}
-use Rattle.header.specs.Sequence.{sequenceOf}
-use Rattle.frame.specs.Frame.{modelled, frameBits}
-use Rattle.frame.specs.declared.frame_header.FrameHeaderInfo.{FrameHeaderInfo}
-use Rattle.header.proofs.ReadLaws.{Chain}
-use Rattle.frame.proofs.FrameChain.{on-in, at-test-in}
+use borrow.Author.Tests.{eq-eqb, ne-eqb}
+use Rattle.syntax.specs.code.Cursor.{follow}
+use Rattle.frame.specs.Frame.{frameBits}
 use Rattle.frame.proofs.frame_header.read.frame_bits.Statement.{statement}
 use Rattle.frame.proofs.frame_header.read.frame_bits.Tie as tie
 
-abbrev s-again : tie.After-again → Chain (Answer FrameHeaderInfo)
-unfolding frameBits
-s-again c =
-    let a = c .before .before .before .before .args in
-    (answerOf (frameBits modelled (now (a .s)) (a .b .pos) (sequenceOf (a .header) (a .points))), _, on-in answerOf flagSays _ refl (c .before .before .read-flag .ensures) (c .again .given .1))
-
 returns : tie.Need-returns
-unfolding frameBits
-returns c = sym (on-in answerOf flagSays _ refl (c .before .before .read-flag .ensures) (c .enum-told .given .1))
+unfolding follow frameBits
+returns c =
+    rw (
+      ← c .before .before .before .before .f .ensures .0,
+      eq-eqb _ _ (c .before .before .if1 .taken),
+      ← c .before .has-point-info .ensures,
+      ← c .show-existing .ensures,
+    )
 
 returns-2 : tie.Need-returns-2
-unfolding frameBits
+unfolding follow frameBits
 returns-2 c =
-    (rw (c .before .has-point-info .ensures) at (c .show-existing .ensures))
-    ∙ sym (at-test-in answerOf _ _ (s-again (c .before .before .before .before) .2) (c .before .before .if1 .taken))
-
-returns-3 : tie.Need-returns-3
-unfolding frameBits
-returns-3 c = c .frame-info .ensures ∙ sym (at-test-in answerOf _ _ (s-again (c .before .before .before) .2) (c .before .if1 .left))
+    rw (
+      ← c .before .before .before .before .before .f .ensures .0,
+      ne-eqb _ _ (c .before .before .before .if1 .left),
+      ← c .before .before .frame-info .ensures,
+    )
 
 pub frame-bits-spec : {M : Type 1} → statement M
-frame-bits-spec =
-    tie.close
-    (tie.spec
-    (λ c κs. search needs)
-    (λ c. search needs)
-    (λ c. search needs)
-    returns
-    (λ c κs. search needs)
-    (λ c κs. search needs)
-    returns-2
-    (λ c κs. search needs)
-    returns-3)
+frame-bits-spec = tie.close (tie.spec _ _ _ returns _ returns-2)

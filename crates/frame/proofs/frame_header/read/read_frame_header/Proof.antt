@@ -1,21 +1,10 @@
-use borrow.Author.Needs.{needs}
-use mathlib.Core.Path.{refl, sym, _∙_}
-use denote.Ref.{now}
-use Rattle.bitio.specs.Parse.{Answer}
+use mathlib.Core.Path.{sym, ap, _∙_}
 use Rattle.header.specs.Fields.{answerOf}
-use Rattle.header.specs.Sequence.{sequenceOf}
-use Rattle.frame.specs.Frame.{frameHeader, parseFrame}
-use Rattle.frame.specs.declared.frame_header.FrameHeaderInfo.{FrameHeaderInfo}
-use Rattle.header.proofs.ReadLaws.{Chain}
-use Rattle.frame.proofs.FrameChain.{at-test-in}
+use Rattle.syntax.proofs.CursorLaws.{refused, accepted}
+use Rattle.frame.proofs.FrameLaws.{header-bits}
+use Rattle.frame.specs.Frame.{modelled, frameHeader, parseFrame}
 use Rattle.frame.proofs.frame_header.read.read_frame_header.Statement.{statement}
 use Rattle.frame.proofs.frame_header.read.read_frame_header.Tie as tie
-
-abbrev s-neither : tie.Else2 → Chain (Answer FrameHeaderInfo)
-unfolding parseFrame frameHeader
-s-neither c =
-    let a = c .before .before .before .args in
-    (parseFrame (sequenceOf (a .header) (a .points)) (now (a .payload)), _, at-test-in answerOf _ _ (at-test-in answerOf _ _ refl (c .before .if1 .left)) (c .if2 .left))
 
 returns : tie.Need-returns
 unfolding parseFrame frameHeader
@@ -25,12 +14,19 @@ returns-2 : tie.Need-returns-2
 unfolding parseFrame frameHeader
 returns-2 c = rw (c .before .if1 .left, c .if2 .taken)
 
-frame-bits-requires : tie.Need-frame-bits-requires
-frame-bits-requires c κs = search needs
-
 returns-3 : tie.Need-returns-3
-unfolding parseFrame frameHeader
-returns-3 c = c .frame-bits .ensures ∙ sym (s-neither (c .before) .2)
+unfolding parseFrame
+returns-3 c =
+    ap answerOf
+    (refused _ _ 0 (c .before .before .before .frame-bits .ensures) (c .if3 .taken)
+    ∙ sym (header-bits modelled _ 0 _ (c .before .before .before .before .before .if1 .left) (c .before .before .before .before .if2 .left)))
+
+returns-4 : tie.Need-returns-4
+unfolding parseFrame
+returns-4 c =
+    ap answerOf
+    (accepted _ _ 0 (c .before .before .before .frame-bits .ensures) (c .if3 .left)
+    ∙ sym (header-bits modelled _ 0 _ (c .before .before .before .before .before .if1 .left) (c .before .before .before .before .if2 .left)))
 
 pub read-frame-header-spec : {M : Type 1} → statement M
-read-frame-header-spec = tie.close (tie.spec returns returns-2 frame-bits-requires returns-3)
+read-frame-header-spec = tie.close (tie.spec returns returns-2 _ returns-3 returns-4)
