@@ -1,0 +1,2 @@
+mod SizeLaws
+mod TileLaws
