@@ -1,0 +1,4 @@
+pub mod SubexpLaws
+pub mod FoldLaws
+pub mod LosslessLaws
+pub mod SignLaws

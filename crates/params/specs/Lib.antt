@@ -1,0 +1,10 @@
+pub mod Quantization
+pub mod Segmentation
+pub mod Deltas
+pub mod Lossless
+pub mod LoopFilter
+pub mod Cdef
+pub mod Restoration
+pub mod SkipMode
+pub mod Motion
+pub mod code
