@@ -1,0 +1,8 @@
+pub mod WithinLaws
+pub mod MapLaws
+pub mod ScanLaws
+pub mod ReadingLaws
+pub mod GivesLaws
+pub mod AgreeLaws
+pub mod KeyLaws
+pub mod RuleLaws
