@@ -8,11 +8,12 @@ use lib.ListN.{length, getD, take, drop}
 use lib.Dec.{leb, eqb}
 use borrow.Author.Tests.{leb-true, eq-eqb, ne-eqb}
 use Rattle.bitio.specs.Limits.{capped}
-use Rattle.protocol.specs.Kinds.{separatorOf, refilledOf, restOf}
+use Rattle.protocol.specs.Kinds.{separatorOf, refilledOf}
 use Rattle.protocol.specs.Marked.{isClean}
+use Rattle.protocol.specs.Text.{ascii}
 use Rattle.protocol.specs.Told.{Told}
 use Rattle.protocol.specs.Typed.{Typed, typed, decimalText, bytesText}
-use Rattle.protocol.specs.Printed.{dirtyText, partEnd, partStart, partText, valueText, itemText, isPrinted, openedOf, pastOf, itemsText, printStart, formatOf, headText, endText, answerText}
+use Rattle.protocol.specs.Printed.{dirtyText, partEnd, partStart, partText, valueText, itemText, isPrinted, openedAt, openedOf, pastOf, itemsText, printStart, formatOf, headText, endText, answerText}
 use Rattle.protocol.specs.declared.answer.Answer.{Answer as Line}
 use Rattle.protocol.specs.declared.kinds.Format.{Format}
 use Rattle.protocol.specs.declared.printer.Printed.{Printed}
@@ -50,9 +51,17 @@ module _ (kind v : ℕ) where
     unfolding valueText
     printed-refused k = rw (h, eq-eqb kind 8 k)
 
-    pub printed-plain : (kind ≡ 8 → ⊥) → decimalText v ≡ valueText kind v
+    pub printed-negative : kind ≡ 10 → (45 ∷ []) ++ decimalText v ≡ valueText kind v
     unfolding valueText
-    printed-plain k = rw (h, ne-eqb kind 8 k)
+    printed-negative k = rw (h, ne-eqb kind 8 (λ j. omega arith), eq-eqb kind 10 k)
+
+    pub printed-slots : kind ≡ 11 → ascii "slots" ≡ valueText kind v
+    unfolding valueText
+    printed-slots k = rw (h, ne-eqb kind 8 (λ j. omega arith), ne-eqb kind 10 (λ j. omega arith), eq-eqb kind 11 k)
+
+    pub printed-plain : (kind ≡ 8 → ⊥) → (kind ≡ 10 → ⊥) → (kind ≡ 11 → ⊥) → decimalText v ≡ valueText kind v
+    unfolding valueText
+    printed-plain i j k = rw (h, ne-eqb kind 8 i, ne-eqb kind 10 j, ne-eqb kind 11 k)
 
 -- ---- items
 
@@ -74,15 +83,15 @@ module _ (l : Told) (p : Printed) {c : ℕ} (sep : c ≡ separatorOf (p .kind)) 
   unfolding itemText
   item-count k = rw (sep, ne-eqb (p .kind % 16) 1 (λ h. omega arith), ne-eqb (p .kind % 16) 7 (λ h. omega arith), eq-eqb (p .kind % 16) 6 k)
 
-module _ (ns : List ℕ) (p : Printed) {f g : Format} (head : f ≡ refilledOf (p .format)) (rest : g ≡ restOf f) where
+module _ (ns : List ℕ) (p : Printed) {f : Format} (head : f ≡ refilledOf (p .format)) where
   pub opened-told : {k n : ℕ} → f .kinds % 256 ≡ 9 → k ≡ getD ns (p .numbers) 0 → n ≡ capped (p .numbers + 1)
-      → record { kind = k; format = g; parts = p .parts; numbers = n } ≡ openedOf ns p
+      → openedAt p (record { kinds = k; repeated = f .repeated }) n ≡ openedOf ns p
   unfolding openedOf
-  opened-told h e m = rw (e, m, rest, ← head, eq-eqb (f .kinds % 256) 9 h)
+  opened-told h e m = rw (e, m, ← head, eq-eqb (f .kinds % 256) 9 h)
 
-  pub opened-plain : (f .kinds % 256 ≡ 9 → ⊥) → record { kind = f .kinds % 256; format = g; parts = p .parts; numbers = p .numbers } ≡ openedOf ns p
+  pub opened-plain : (f .kinds % 256 ≡ 9 → ⊥) → openedAt p f (p .numbers) ≡ openedOf ns p
   unfolding openedOf
-  opened-plain h = rw (rest, ← head, ne-eqb (f .kinds % 256) 9 h)
+  opened-plain h = rw (← head, ne-eqb (f .kinds % 256) 9 h)
 
 -- ---- all items
 

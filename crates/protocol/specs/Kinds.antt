@@ -38,9 +38,16 @@ namedKind = 7
 abbrev pub refusedKind : ℕ
 refusedKind = 8
 
--- and an item whose kind stands among the numbers, before it
+-- items whose kinds stand among the numbers, before theirs, as one number
 abbrev pub toldKind : ℕ
 toldKind = 9
+
+-- a number below 0, told without its sign, and the word `slots`, whatever the number
+abbrev pub negativeKind : ℕ
+negativeKind = 10
+
+abbrev pub slotsKind : ℕ
+slotsKind = 11
 
 -- no field is of this one
 abbrev pub noKind : ℕ

@@ -5,7 +5,7 @@ use mathlib.Core.Bool.{Bool, _&&_, _||_, cond as pick}
 use lib.ListN.{length, take, drop, getD}
 use lib.Dec.{leb, ltb, eqb}
 use Rattle.bitio.specs.Limits.{capped}
-use Rattle.protocol.specs.Kinds.{bytesKind, numberKind, optionalByteKind, noByte, countKind, namedKind, refusedKind, toldKind, any, separatorOf, refilledOf, restOf}
+use Rattle.protocol.specs.Kinds.{bytesKind, numberKind, optionalByteKind, noByte, countKind, namedKind, refusedKind, toldKind, negativeKind, slotsKind, any, separatorOf, refilledOf, restOf}
 use Rattle.protocol.specs.Marked.{isClean}
 use Rattle.protocol.specs.Text.{ascii}
 use Rattle.protocol.specs.Told.{Told}
@@ -34,10 +34,13 @@ rangeText s a e = pick (leb a e && leb e (length s)) (bytesText (take (e - a) (d
 unfoldable pub partText : Line → List ℕ → List ℕ → ℕ → List ℕ
 partText a s es i = rangeText s (partStart a es i) (partEnd a es i)
 
--- a number, `-` for a byte that is not given, or `no` and a number
+-- `-` for a byte that is not given, `no` and a number, one below 0, `slots`, or a number
 unfoldable pub valueText : ℕ → ℕ → List ℕ
 valueText kind v =
-    pick (eqb kind optionalByteKind && eqb v noByte) (45 ∷ []) (pick (eqb kind refusedKind) (ascii "no " ++ decimalText v) (decimalText v))
+    pick (eqb kind optionalByteKind && eqb v noByte) (ascii "-") (
+    pick (eqb kind refusedKind) (ascii "no " ++ decimalText v) (
+    pick (eqb kind negativeKind) (ascii "-" ++ decimalText v) (
+    pick (eqb kind slotsKind) (ascii "slots") (decimalText v))))
 
 -- an item of a kind
 abbrev pub bodyText : Told → ℕ → ℕ → ℕ → List ℕ
@@ -61,11 +64,15 @@ isPrinted a p =
     pick (eqb (p .format .repeated % 16) bytesKind) (eqb (p .format .kinds) 0 && leb (a .ends) (p .parts))
     (eqb (p .format .kinds) 0 && (leb (a .numbers) (p .numbers) || eqb (p .format .repeated) 0))
 
+-- at an item of the first of these kinds, n numbers being behind
+abbrev pub openedAt : Printed → Format → ℕ → Printed
+openedAt p f n = record { kind = f .kinds % 256; format = restOf f; parts = p .parts; numbers = n }
+
 abbrev pub openedBy : List ℕ → Printed → Format → Printed
 openedBy ns p f =
     pick (eqb (f .kinds % 256) toldKind)
-    (record { kind = getD ns (p .numbers) 0; format = restOf f; parts = p .parts; numbers = afterOf (p .numbers) })
-    (record { kind = f .kinds % 256; format = restOf f; parts = p .parts; numbers = p .numbers })
+    (openedAt p (record { kinds = getD ns (p .numbers) 0; repeated = f .repeated }) (afterOf (p .numbers)))
+    (openedAt p f (p .numbers))
 
 -- at the next item, whose kind may stand among the numbers, before it
 unfoldable pub openedOf : List ℕ → Printed → Printed

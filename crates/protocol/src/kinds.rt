@@ -25,10 +25,19 @@ pub const NAMED: u64 = 7;
 // `no` and a number,
 pub const REFUSED: u64 = 8;
 
-// and an item whose kind stands among the numbers, before it.
+// items whose kinds stand among the numbers, before theirs, as one number,
 pub(crate) const TOLD: u64 = 9;
 
-// Put to a kind: a comma stands before it.
+// a number below 0, told without its sign,
+pub const NEGATIVE: u64 = 10;
+
+// and the word `slots`, whatever the number.
+pub const SLOTS: u64 = 11;
+
+// Put to a kind: a colon stands before it,
+pub const COLON: u64 = 0x10;
+
+// or a comma.
 pub const COMMA: u64 = 0x20;
 
 // What stands before an item of the first of these kinds.

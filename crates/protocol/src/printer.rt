@@ -3,16 +3,18 @@ ghost use mathlib.Core.Path.{_≡_};
 ghost use Prim.Native.Nat.{_-_, _^_};
 ghost use Rattle.protocol.specs.Told.{told};
 ghost use Rattle.protocol.specs.Typed.{typing, typed};
-ghost use Rattle.protocol.specs.Printed.{partEnd, partStart, partText, valueText, itemText, isPrinted, openedOf, pastOf, itemsText, printStart, formatOf, headText, answerText, badLine};
+ghost use Rattle.protocol.specs.Printed.{partEnd, partStart, partText, valueText, itemText, isPrinted, openedAt, openedOf, pastOf, itemsText, printStart, formatOf, headText, answerText, badLine};
 use crate::answer::Answer;
 use crate::kinds::BYTES;
 use crate::kinds::COUNT;
 use crate::kinds::Format;
 use crate::kinds::NAMED;
+use crate::kinds::NEGATIVE;
 use crate::kinds::NO_BYTE;
 use crate::kinds::NUMBER;
 use crate::kinds::OPTIONAL_BYTE;
 use crate::kinds::REFUSED;
+use crate::kinds::SLOTS;
 use crate::kinds::TOLD;
 use crate::kinds::separator;
 use crate::lent::is_clean;
@@ -47,27 +49,29 @@ impl Printed {
         (format.kinds == 0) & is_used
     }
 
+    // At an item of the first of these kinds, so many numbers being behind.
+    fn opened_at(self, format: Format, numbers: usize) -> Printed
+        ensures { λ r. ⌜ r ≡ openedAt self format numbers ⌝ }
+    {
+        Printed {
+            kind: format.kinds % 256,
+            format: format.rest(),
+            parts: self.parts,
+            numbers,
+        }
+    }
+
     // At the next item.
     fn opened(self, numbers: &[u64]) -> Printed
         ensures { λ r. ⌜ r ≡ openedOf (now (numbers .entry)) self ⌝ }
     {
         let format = self.format.refilled();
-        let rest = format.rest();
-        let kind = format.kinds % 256;
-        if kind == TOLD {
-            return Printed {
-                kind: number_at(numbers, self.numbers),
-                format: rest,
-                parts: self.parts,
-                numbers: plus(self.numbers, 1),
-            };
+        if format.kinds % 256 == TOLD {
+            let mut told = format;
+            told.kinds = number_at(numbers, self.numbers);
+            return self.opened_at(told, plus(self.numbers, 1));
         }
-        Printed {
-            kind,
-            format: rest,
-            parts: self.parts,
-            numbers: self.numbers,
-        }
+        self.opened_at(format, self.numbers)
     }
 
     // Behind an item that took a part or a number.
@@ -134,6 +138,13 @@ fn put_value(kind: u64, v: u64, out: &mut Buffer, at: usize) -> usize
     if kind == REFUSED {
         let to = put_text(out, at, b"no ");
         return put_number(out, to, v);
+    }
+    if kind == NEGATIVE {
+        let to = put_text(out, at, b"-");
+        return put_number(out, to, v);
+    }
+    if kind == SLOTS {
+        return put_text(out, at, b"slots");
     }
     put_number(out, at, v)
 }

@@ -15,13 +15,13 @@ use replay_requests::read_request;
 // An end for each of a line's byte strings.
 const FIELDS: usize = 32768;
 
-// What a request may fill: for assembly the pictures, the shows and the header, an end for every entry that there could be,
-// and two numbers for each cue and each entry.
+// What a request may fill: for assembly the pictures, the shows and the header, and an end for every entry that there could
+// be. Numbers for a scan of the shortest frames, as many as a line has room for: three bytes, and 25 numbers each.
 const BYTES: usize = 0x3_0000;
 
 const ENDS: usize = 0x1_0000;
 
-const NUMBERS: usize = 0x2_0010;
+const NUMBERS: usize = 0x4_0000;
 
 // The line of a request's answer, in memory that is lent exactly.
 fn answer_in(

@@ -12,6 +12,7 @@ use Rattle.replay_headers.specs.Headers.{bitsTold, uvlcTold, lebTold, lebputTol
 use Rattle.replay_units.specs.Containers.{streamTold, annexbTold, wstreamTold, wannexbTold, canonTold, packetsTold}
 use Rattle.replay_lists.specs.Lists.{assembleTold}
 use Rattle.replay_lists.specs.Plays.{playTold}
+use Rattle.replay_scan.specs.Scans.{scanTold}
 use Rattle.replay_requests.specs.Table.{found}
 
 -- no operation refuses with this
@@ -40,6 +41,7 @@ operations a b room s es ns m e n =
     ∷ ("packets", packetsTold s es ns m e n)
     ∷ ("assemble", assembleTold room s es ns m e n)
     ∷ ("play", numbersTold m e (playTold s es ns n))
+    ∷ ("scan", numbersTold m e (scanTold s es n))
     ∷ []
 
 abbrev pub operatedWith : ℕ → (a b : ℕ) → Lent → (s es ns m e n : List ℕ) → Told

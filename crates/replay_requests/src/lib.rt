@@ -22,6 +22,7 @@ use replay_headers::header_ops;
 use replay_headers::obu_ops;
 use replay_lists::assemble_ops;
 use replay_lists::play_ops;
+use replay_scan::scan_ops;
 use replay_units::container_ops;
 
 // Each name as word_key has it: the codes of its characters.
@@ -63,6 +64,8 @@ const ASSEMBLE: u64 = 0x6173_7365_6d62_6c65;
 
 const PLAY: u64 = 0x706c_6179;
 
+const SCAN: u64 = 0x7363_616e;
+
 // No operation refuses with this number: a line whose name is none of these is no request, and is never operated on.
 const NO_REQUEST: u32 = u32::MAX;
 
@@ -92,6 +95,7 @@ fn row_of(key: u64) -> Row
         PACKETS => Row(0, 0x0102, 0x06, 0x0102, 0x111),
         ASSEMBLE => Row(0x030302, 0x020101, 0x070202, 0x09, 0x1111),
         PLAY => Row(0, 0x1102, 0, 0x09, 0x1000),
+        SCAN => Row(0x01, 0x01, 0, 0x09, 0x1000),
         _ => Row(0x0f, 0, 0, 0, 0),
     }
 }
@@ -190,6 +194,7 @@ pub fn operate(
         PACKETS => container_ops::packets(s, ends, numbers, memory, out_ends, out_numbers),
         ASSEMBLE => assemble_ops::assemble(lent, s, ends, numbers, memory, out_ends, out_numbers),
         PLAY => play_ops::play(s, ends, numbers, out_numbers),
+        SCAN => scan_ops::scan(s, ends, out_numbers),
         _ => refused(NO_REQUEST),
     }
 }

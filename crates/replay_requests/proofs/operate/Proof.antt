@@ -86,13 +86,18 @@ unfolding operations found wordKey keyFrom
 returns-19 c = as-named _ _ _ _ _ _ _ "play" _ _ (c .before .before .before .before .match .keys19) refl refl (ap (numbersTold _ _) (c .before .before .play .ensures))
 
 returns-20 : tie.Need-returns-20
+unfolding operations found wordKey keyFrom
+returns-20 c = as-named _ _ _ _ _ _ _ "scan" _ _ (c .before .before .before .before .match .keys20) refl refl (ap (numbersTold _ _) (c .before .before .scan .ensures))
+
+returns-21 : tie.Need-returns-21
 unfolding operations wordKey keyFrom
-returns-20 c = as-none _ _ _ _ _ _ _ _ _ (c .before .match .rest) (c .refused .ensures)
+returns-21 c = as-none _ _ _ _ _ _ _ _ _ (c .before .match .rest) (c .refused .ensures)
 
 pub operate-spec : {M : Type 1} → statement M
 operate-spec =
     tie.close
     (tie.spec
+    (λ c κs. search needs)
     (λ c κs. search needs)
     (λ c κs. search needs)
     (λ c κs. search needs)
@@ -162,4 +167,6 @@ operate-spec =
     returns-18
     (λ c. search needs)
     returns-19
-    returns-20)
+    (λ c. search needs)
+    returns-20
+    returns-21)

@@ -76,10 +76,14 @@ unfolding rowOf rows found wordKey keyFrom
 returns-17 c = ap rowOf (sym (c .match .keys17))
 
 returns-18 : tie.Need-returns-18
+unfolding rowOf rows found wordKey keyFrom
+returns-18 c = ap rowOf (sym (c .match .keys18))
+
+returns-19 : tie.Need-returns-19
 unfolding rowOf rows wordKey keyFrom
-returns-18 c =
-    let ((((((before, split), write), canon), packets), assemble), play) = c .match .rest in
-    found-none _ _ rows _ ((((((((before, λ h. split (inr h)), λ h. split (inl h)), λ h. write (inr h)), λ h. write (inl h)), canon), packets), assemble), play)
+returns-19 c =
+    let (((((((before, split), write), canon), packets), assemble), play), scan) = c .match .rest in
+    found-none _ _ rows _ (((((((((before, λ h. split (inr h)), λ h. split (inl h)), λ h. write (inr h)), λ h. write (inl h)), canon), packets), assemble), play), scan)
 
 pub row-of-spec : {M : Type 1} → statement M
 row-of-spec =
@@ -102,4 +106,5 @@ row-of-spec =
     returns-15
     returns-16
     returns-17
-    returns-18)
+    returns-18
+    returns-19)

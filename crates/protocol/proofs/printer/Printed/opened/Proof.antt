@@ -1,14 +1,15 @@
 use borrow.Author.Needs.{needs}
+use mathlib.Core.Path.{_∙_}
 use denote.Ref.{now}
 use Rattle.protocol.proofs.PrintLaws.{opened-told, opened-plain}
 use Rattle.protocol.proofs.printer.Printed.opened.Statement.{statement}
 use Rattle.protocol.proofs.printer.Printed.opened.Tie as tie
 
 returns : tie.Need-returns
-returns c = let a = c .before .before .before .before .before .before .before .args in opened-told (now (a .numbers)) (a .self) (c .before .before .before .before .before .refilled .ensures) (c .before .before .before .before .rest .ensures) (c .before .before .if1 .taken) (c .before .number-at .ensures) (c .plus .ensures)
+returns c = let a = c .before .before .before .before .before .before .before .args in c .opened-at .ensures ∙ opened-told (now (a .numbers)) (a .self) (c .before .before .before .before .before .refilled .ensures) (c .before .before .before .if1 .taken) (c .before .before .number-at .ensures) (c .before .plus .ensures)
 
 returns-2 : tie.Need-returns-2
-returns-2 c = let a = c .before .before .before .before .before .args in opened-plain (now (a .numbers)) (a .self) (c .before .before .before .refilled .ensures) (c .before .before .rest .ensures) (c .if1 .left)
+returns-2 c = let a = c .before .before .before .before .before .args in c .opened-at2 .ensures ∙ opened-plain (now (a .numbers)) (a .self) (c .before .before .before .refilled .ensures) (c .before .if1 .left)
 
 pub opened-spec : {M : Type 1} → statement M
 opened-spec =
@@ -19,4 +20,5 @@ opened-spec =
     (λ c κs. search needs)
     (λ c κs. search needs)
     returns
+    (λ c κs. search needs)
     returns-2)

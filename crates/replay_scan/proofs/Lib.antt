@@ -1,0 +1,2 @@
+mod SignLaws
+mod ScanLaws
