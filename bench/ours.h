@@ -22,6 +22,10 @@ size_t bench_merge_packets(const uint8_t *packets, size_t len, const uint32_t *e
                            uint64_t *out_times, size_t out_times_len);
 size_t bench_canonicalize_tu(const uint8_t *unit, size_t len, uint8_t *out, size_t out_len);
 
+/* Where frame headers end, in bits, summed; 0 for a refused one, and for all under a refused sequence header. */
+uint64_t bench_scan(const uint8_t *sequence, size_t sequence_len, const uint8_t *frames, size_t len, const uint32_t *ends,
+                    size_t n);
+
 /* magbelo_assemble by way of a local array of segment structs, and without its counts. Answers 4294967295 where the numbers are
    no five a segment, or are those of more than 64. */
 uint64_t bench_assemble_segments(const uint8_t *picture, size_t picture_bytes, const uint64_t *segments,

@@ -1,2 +1,3 @@
 pub mod BoardLaws
 pub mod Front
+pub mod ScanLaws

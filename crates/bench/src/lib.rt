@@ -1,5 +1,6 @@
 // What bench/ measures and oracle/ compares, exported to C.
 mod boards;
+mod scans;
 
 ghost use mathlib.Core.Path.{_≡_};
 ghost use mathlib.Core.Bool.{cond as pick};
@@ -15,12 +16,14 @@ ghost use Rattle.packets.specs.PacketLists.{bytesOf, lentRoom, mergedAt, timesA
 ghost use Rattle.assemble.specs.Whole.{six};
 ghost use Rattle.bench.specs.Boards.{boardsOutcome, Told};
 ghost use Rattle.bench.specs.Counts.{unitsOrNone, bytesOrNone};
+ghost use Rattle.bench.specs.Scans.{scanSum};
 use assemble::multi::Assembled;
 use boards::assemble_numbers;
 use container::units::ByteCount;
 use container::units::Split;
 use packets::packets::Merged;
 use pictures::settings::Settings;
+use scans::scan_sum;
 
 // The copy that every writer makes: src to the front of out, or nothing and 0 if it has no room.
 #[no_mangle]
@@ -151,4 +154,13 @@ pub extern "C" fn bench_assemble_segments(
         Assembled::RefusedIn(k, i) => k as u64 + (i as u64 % 4294967295 + 1) * 4294967296,
         Assembled::Made(_) => 0,
     }
+}
+
+// The ends of all frame headers, in bits, each frame scanned from the slots that those before it left: summed modulo 2^64,
+// nothing for a refused one.
+#[no_mangle]
+pub extern "C" fn bench_scan(sequence: &[u8], frames: &[u8], frame_ends: &[u32]) -> u64
+    ensures { λ r. ⌜ r ≡ scanSum (now (sequence .entry)) (now (frames .entry)) (now («frame_ends» .entry)) ⌝ }
+{
+    scan_sum(sequence, frames, frame_ends)
 }
