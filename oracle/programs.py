@@ -25,9 +25,12 @@ BATCH = 50_000
 KNOWN = [
     ('timed', 'timing a reduced header', lambda line, rust, ours: rust.startswith('ok ') and ours == 'no 17'),
     ('annexb', 'sizes inside Annex B', lambda line, rust, ours: ignores_sizes(line, rust, ours)),
+    ('scan', 'explicit tiles of no width', lambda line, rust, ours: divides_by_zero(line, rust)),
 ]
 
 REFUSED = re.compile('no ([0-9]+)(?: ([0-9]+))?')
+# Of a frame within a scan.
+REFUSED_FRAME = re.compile('no {([^}]*)}')
 
 # The Rust's errors are texts. The first of these that is found in one gives the refusal's number.
 RUST_TEXTS = {
@@ -43,6 +46,7 @@ RUST_TEXTS = {
     'output frames exceeds': 25, 'must contain a sequence header OBU': 26, 'has a different sequence header': 27,
     'contains no frame OBU': 28, 'must contain a shown KEY_FRAME': 29, 'cannot be show_existing': 30,
     'golden frame must be shown': 31, 'golden frame is not showable': 32, 'refreshes no reference slots': 33,
+    'film grain streams unsupported': 20, 'frame_refs_short_signaling needs': 41, 'show_existing_frame inputs': 42,
 }
 SEGMENT = re.compile('segment ([0-9]+)')
 
@@ -107,7 +111,7 @@ def rust_agrees(rust, answer):
     """A refusal has the number of the Rust's text, and its segment if the text has one."""
     refusal = REFUSED.fullmatch(answer)
     if not refusal or not rust.startswith('no '):
-        return rust == answer
+        return REFUSED_FRAME.sub(lambda frame: f'no {rust_refusal(frame[1])[0]}', rust) == answer
     number, segment = rust_refusal(rust[3:])
     return number == int(refusal[1]) and segment in (None, refusal[2])
 
@@ -117,6 +121,11 @@ def ignores_sizes(line, rust, ours):
     if rust_agrees(rust, ours) or not model.is_annexb_with_sizes(line):
         return False
     return rust_agrees(rust, model.answer(rust_request(line), model.AS_RUST))
+
+
+def divides_by_zero(line, rust):
+    """The Rust panics at a frame with explicit tiles of no width, and there alone."""
+    return 'panic' in rust and rust_agrees(rust, model.answer(rust_request(line), model.AS_RUST))
 
 
 def speaks_of_room(line, answer):

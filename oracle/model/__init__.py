@@ -10,6 +10,7 @@ from .bitio import bits, leb, lebput, shortest_leb128, uvlc
 from .container import annexb, annexb_as_rust, canon, has_inner_size, packets, stream, wannexb, wstream
 from .header import emit, frame, seq, support, timed
 from .obu import PASSING_TYPES, obuput, obus
+from .uheader import scan, scan_as_rust, scan_by_av1
 from .words import NoRequest, Refused, byte, byte_string, hexadecimal, number, number32, optional_byte
 
 NO_ROOM = 35
@@ -30,6 +31,7 @@ OPERATIONS = {
     'emit': (emit, [byte_string], []),
     'timed': (timed, [byte_string, number32, number32], []),
     'frame': (frame, [byte_string, byte_string], []),
+    'scan': (scan, [byte_string], [byte_string]),
     'stream': (stream, [byte_string], []),
     'annexb': (annexb, [byte_string], []),
     'wstream': (wstream, [], [byte_string]),
@@ -40,7 +42,14 @@ OPERATIONS = {
 }
 
 # The same with the Rust's own readings, where ours differs by intent.
-AS_RUST = {**OPERATIONS, 'annexb': (annexb_as_rust, [byte_string], [])}
+AS_RUST = {
+    **OPERATIONS,
+    'annexb': (annexb_as_rust, [byte_string], []),
+    'scan': (scan_as_rust, [byte_string], [byte_string]),
+}
+
+# The same by AV1's own rules, where the scan follows the Rust.
+BY_AV1 = {**OPERATIONS, 'scan': (scan_by_av1, [byte_string], [byte_string])}
 
 
 # What an answer needs of lent memory: bytes, ends or list entries, times or cues; from its text and the values asked with.

@@ -1,8 +1,10 @@
 //! Answers the line protocol of `replay` by the Rust under comparison: `ok ..`, `no` (its errors
 //! have no numbers), `panic`, or `bad line` where the line is no request. With the argument
-//! `--texts` a `no` is followed by the Rust's error text.
+//! `--texts` a `no` is followed by the Rust's error text. A frame that `scan` refuses always has its
+//! text, in braces, or `panic`.
 
 mod operations;
+mod scan;
 mod text;
 
 // The Rust under comparison, put here by oracle/build.

@@ -7,6 +7,7 @@ use crate::bitio::{leb128_encode, BitReader};
 use crate::container;
 use crate::frame_header::parse_frame_header_info;
 use crate::obu::{parse_obus, Obu, ObuType};
+use crate::scan::scan;
 use crate::seq_header::{
     emit_sequence_header, parse_sequence_header, with_timing_info_rate, OperatingPoint,
     SequenceHeader,
@@ -29,6 +30,7 @@ pub fn perform(operation: &str, args: &[&str]) -> Answer {
         ("emit", [payload]) => Some(emit(&bytes(payload)?)),
         ("timed", [payload, num, den]) => Some(timed(&bytes(payload)?, number(num)?, number(den)?)),
         ("frame", [seq, frame]) => Some(frame_header(&bytes(seq)?, &bytes(frame)?)),
+        ("scan", [seq, frames @ ..]) => Some(scan(&bytes(seq)?, &byte_strings(frames)?)),
         ("stream", [data]) => Some(container::split_obu_stream(&bytes(data)?).map(units)),
         ("annexb", [data]) => Some(container::split_annexb(&bytes(data)?).map(units)),
         ("wstream", list) => done(hex(&container::write_obu_stream(&byte_strings(list)?))),

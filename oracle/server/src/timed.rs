@@ -1,10 +1,11 @@
-// The Rust's containers and assembly for the C programs of bench/: a static library. A handle is freed by its own function.
+// The Rust's containers, assembly and header scan for the C programs of bench/: a static library. A handle is freed by its own function.
 pub mod assemble;
 pub mod bitio;
 pub mod container;
 pub mod frame_header;
 pub mod ivf;
 pub mod obu;
+pub mod quiet; // uheader, its trace! made empty by oracle/build
 pub mod seq_header;
 pub mod uheader;
 
@@ -225,3 +226,45 @@ pub unsafe extern "C" fn rust_listing_is(
 pub unsafe extern "C" fn rust_assembly_free(found: *mut AssembleOutput) {
     drop(Box::from_raw(found));
 }
+
+/// A shown key frame resets the slots before it can be refused; no other frame changes them before its end.
+fn is_shown_key(frame: &[u8]) -> bool {
+    frame.first().is_some_and(|byte| byte >> 4 == 1)
+}
+
+/// The ends of all frame headers, in bits, summed: each scanned from the slots that those before it left, nothing for a
+/// refused one, which leaves the slots as they were. They are kept aside for every frame, or where `$kept` says so.
+macro_rules! scan {
+    ($name:ident, $module:ident, $kept:expr) => {
+        #[no_mangle]
+        pub unsafe extern "C" fn $name(
+            sequence: *const u8,
+            sequence_len: usize,
+            frames: *const u8,
+            frames_len: usize,
+            ends: *const u32,
+            n: usize,
+        ) -> u64 {
+            let Ok(header) = seq_header::parse_sequence_header(lent(sequence, sequence_len)) else {
+                return 0;
+            };
+            let frames = lent(frames, frames_len);
+            let mut dpb = $module::Dpb::default();
+            let (mut at, mut sum) = (0, 0u64);
+            for &end in lent(ends, n) {
+                let frame = frames.get(at..end as usize).unwrap_or(&[]);
+                at = end as usize;
+                let before = $kept(frame).then(|| dpb.clone());
+                match $module::scan_uncompressed_header(frame, &header, &mut dpb) {
+                    Ok(scan) => sum = sum.wrapping_add(scan.end_pos as u64),
+                    Err(_) => dpb = before.unwrap_or(dpb),
+                }
+            }
+            sum
+        }
+    };
+}
+
+scan!(rust_scan, uheader, |_: &[u8]| true);
+scan!(rust_scan_quiet, quiet, |_: &[u8]| true);
+scan!(rust_scan_quiet_few, quiet, is_shown_key);
