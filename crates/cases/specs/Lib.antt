@@ -6,3 +6,5 @@ pub mod PacketRows
 pub mod PlayerRows
 pub mod LineRows
 pub mod Cases
+pub mod ScanRows
+pub mod ScanCases
