@@ -6,8 +6,8 @@
  *   aligned as their type asks.
  * - What is written may overlap no other argument. A pointer may be null where its length is 0; those to single numbers
  *   never.
- * - A refusal changes nothing. docs/REFUSALS.md has every number in plain words; 6 to 13 and 40 are those of Annex B, which
- *   neither function reads.
+ * - A refusal changes nothing. docs/REFUSALS.md has every number in plain words; 6 to 13 and 40 are those of Annex B, 41 and 42 those of
+ *   scanning a frame header, and neither function does either.
  * - There is no state: calls from several threads are fine, each with memory of its own.
  * - A call takes no memory but what is lent to it and its stack: some 40 KB for assembly, under 1 KB for reading a stream.
  */
