@@ -10,8 +10,8 @@ use lib.Seq.{drop-cons, drop-drop}
 use lib.Dec.{leb, eqb}
 use borrow.Author.Tests.{le-leb, lt-leb, leb-true, leb-false}
 use Rattle.bitio.specs.Parse.{Answer, refused, accepted, onto}
+use Rattle.bitio.specs.Lent.{span}
 use Rattle.container.specs.Units.{unitsFrom, unitsAt}
-use Rattle.annexb.specs.code.Spans.{span}
 use Rattle.container.specs.Lists.{accepts}
 use Rattle.annexb.proofs.SpanLaws.{ahead, ahead-nil, ahead-onto, ahead-split}
 

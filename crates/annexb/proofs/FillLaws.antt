@@ -6,7 +6,7 @@ use mathlib.Core.List.{List, [], _∷_, _++_, map, flatMap, append-assoc, append
 use mathlib.Core.Option.{Option}
 use lib.ListN.{length, set, length-append, length-map, length-set}
 use Rattle.bitio.specs.Parse.{Answer, refused, accepted, answer, Head, stop, item, before, many, acceptedList}
-use Rattle.bitio.specs.Lent.{pasted}
+use Rattle.bitio.specs.Lent.{span, pasted}
 use Rattle.bitio.specs.Leb.{sized}
 use Rattle.bitio.proofs.LentLaws.{pasted-one, wrote-none, wrote-length, wrote-more}
 use Rattle.bitio.proofs.ParseLaws.{Shrinks}
@@ -16,7 +16,6 @@ use Rattle.container.specs.Stream.{flat, streamBytes}
 use Rattle.container.specs.AnnexB.{lengthObu, frameUnitOf, frameUnit, temporalUnitOf, temporalUnit}
 use Rattle.bitio.specs.Limits.{limit}
 use Rattle.container.specs.Units.{endsOf}
-use Rattle.annexb.specs.code.Spans.{span}
 use Rattle.annexb.specs.code.Fill.{ObusRoom, UnitsRoom, Filled}
 use Rattle.bitio.specs.Lent.{Wrote}
 use Rattle.container.proofs.StreamLaws.{bytes-flat}

@@ -20,8 +20,7 @@ use Rattle.obu.proofs.PlaceLaws.{slice-to-end, Placed, IsPlaced}
 use Rattle.container.specs.AnnexB.{innerBytes, annexbUnit, wrote, annexbBytes}
 use Rattle.bitio.specs.Limits.{limit}
 use Rattle.container.specs.Units.{unitsAt, countOf, outAfter}
-use Rattle.annexb.specs.code.Spans.{span}
-use Rattle.bitio.specs.Lent.{Wrote}
+use Rattle.bitio.specs.Lent.{span, Wrote}
 use Rattle.container.specs.Lists.{accepts}
 use Rattle.annexb.specs.code.Fill.{ObusRoom}
 use Rattle.annexb.specs.code.Join.{innerLength, framedLength, AnnexbRoom}

@@ -17,7 +17,7 @@ use Rattle.obu.proofs.LengthLaws.{obu-length}
 use Rattle.container.specs.Stream.{flat, streamBytes}
 use Rattle.container.specs.AnnexB.{lengthObu, frameUnitOf, frameUnit, temporalUnitOf, temporalUnit}
 use Rattle.bitio.specs.Limits.{limit, capped}
-use Rattle.annexb.specs.code.Spans.{span}
+use Rattle.bitio.specs.Lent.{span}
 use Rattle.annexb.specs.code.Fill.{unitsRead}
 use Rattle.container.specs.Units.{sizesOf}
 use Rattle.container.proofs.StreamLaws.{bytes-append, bytes-flat, flat-append}

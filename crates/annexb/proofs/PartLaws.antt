@@ -13,12 +13,13 @@ use Rattle.bitio.specs.Leb.{Number, noLeb, lebThen, readLeb, lebAnswer, sized}
 use Rattle.bitio.specs.declared.leb128.Leb.the-variants.{Value}
 use Rattle.bitio.proofs.ParseLaws.{pick-both, pick-cases, Parts}
 use Rattle.bitio.proofs.LebLaws.{LebParts, read-parts, Sized, sized-parts, is-number}
+use Rattle.bitio.specs.Lent.{span}
 use Rattle.obu.specs.Obu.{Obu, flag, obuType, passes, obuWith}
 use types.Run.{OneOf}
 use denote.Enum.Declared.{tagOf}
 use Rattle.obu.specs.Place.{wrong, lies, placeRefusal}
 use Rattle.container.specs.AnnexB.{withSize, typed, extendedB, innerObuOf, innerObu, lengthObuOf, lengthObu}
-use Rattle.annexb.specs.code.Spans.{span, noSpot, spot, spotOf, placeTo, placeUpTo, spotRefusal, partSays, innerSays}
+use Rattle.annexb.specs.code.Spans.{noSpot, spot, spotOf, placeTo, placeUpTo, spotRefusal, partSays, innerSays}
 use Rattle.annexb.specs.declared.annexb.part.PartAt.{PartAt}
 use Rattle.annexb.specs.declared.annexb.part.PartAt.the-variants.{Part, Refused as PartRefused}
 use Rattle.annexb.specs.declared.annexb.part.InnerAt.{InnerAt}

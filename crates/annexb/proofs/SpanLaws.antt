@@ -8,7 +8,7 @@ use lib.ListN.{length, getD, take, drop, length-drop, length-take}
 use lib.Seq.{take-all, take-nil, take-take, drop-drop, drop-cons, take-append-seam, drop-append-seam}
 use Rattle.bitio.specs.Parse.{Answer, refused, accepted, answer, Head, stop, item, onto, many}
 use Rattle.bitio.proofs.ParseLaws.{Shrinks, many-item, many-stop, many-nil, Parts, parts-length}
-use Rattle.annexb.specs.code.Spans.{span}
+use Rattle.bitio.specs.Lent.{span}
 
 drop-take : (n m : ℕ) (l : List ℕ) → drop n (take m l) ≡ take (m - n) (drop n l)
 drop-take zero m l = let k : m - 0 ≡ m = omega arith in rw k

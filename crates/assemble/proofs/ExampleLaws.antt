@@ -7,6 +7,7 @@ use Rattle.bitio.specs.Bits.{bitAt, bitsAt, bitsWithin, readBits}
 use Rattle.bitio.specs.Uvlc.{leadingZeros, uvlcSuffix, uvlc}
 use Rattle.bitio.specs.Write.{bitsOf, halvings, uvlcZeros}
 use Rattle.bitio.specs.Leb.{lebRead, readLeb, lebWrite, lebBytes, sized, framed}
+use Rattle.bitio.specs.Lent.{span}
 use Rattle.obu.specs.Obu.{passes, headObuOf, obusOf, obuBytes, unitBytes}
 use Rattle.obu.specs.Unit.{isType, has, lastPayload, count, firstPayload}
 use Rattle.obu.specs.Place.{part}
@@ -33,5 +34,5 @@ use Rattle.assemble.specs.Examples.{pictureKG, rangesKG, roomKG, outputK
 pub examples-made
     : (assemble roomKG settingsKG pictureKG (rangesKG 4 1) ∷ assemble roomTwo settingsKG pictureTwo rangesTwo ∷ assemble roomTwo settingsKG pictureTimed rangesTimed ∷ [])
     ≡ made outputKG ∷ made outputTwo ∷ made outputTwo ∷ []
-unfolding many manyF andNext bitAt bitsAt bitsWithin readBits leadingZeros uvlcSuffix uvlc bitsOf halvings uvlcZeros lebRead readLeb lebWrite lebBytes sized framed passes headObuOf obusOf obuBytes unitBytes isType has lastPayload part readFlag readOr flagOr uvlcOr timingInfo decoderModelInfo opening operatingPoint operatingPoints frameSize frameIds codingTools screenTools filters colorDescription colorSampling coding sequenceHeader parseSequence support retimed withTiming put putOr putFlag putFlagOr putUvlcOr putTiming putModel putOpening putPoint putPoints putSize putIds putTools putScreen putFilters putColor putSampling putCoding putSequence ofBits packN pack trailed sequenceBytes run showExisting frameStart frameModes frameFront removalTimes bufferRemoval refreshFlags frameInfo frameBits frameHeader parseFrame blocks layout positions total segmentAt segmentsFrom segmentsOf firstOf sent unitFrame framePayload lowest prepare andAlso inSegment overall noneEmpty sizes supportedSequence sameBytes sameHeaders prepareAll endsFrom outputFits assembled assemble flatMap count firstPayload
+unfolding many manyF andNext bitAt bitsAt bitsWithin readBits leadingZeros uvlcSuffix uvlc bitsOf halvings uvlcZeros lebRead readLeb lebWrite lebBytes sized framed passes headObuOf obusOf obuBytes unitBytes isType has lastPayload part span readFlag readOr flagOr uvlcOr timingInfo decoderModelInfo opening operatingPoint operatingPoints frameSize frameIds codingTools screenTools filters colorDescription colorSampling coding sequenceHeader parseSequence support retimed withTiming put putOr putFlag putFlagOr putUvlcOr putTiming putModel putOpening putPoint putPoints putSize putIds putTools putScreen putFilters putColor putSampling putCoding putSequence ofBits packN pack trailed sequenceBytes run showExisting frameStart frameModes frameFront removalTimes bufferRemoval refreshFlags frameInfo frameBits frameHeader parseFrame blocks layout positions total segmentAt segmentsFrom segmentsOf firstOf sent unitFrame framePayload lowest prepare andAlso inSegment overall noneEmpty sizes supportedSequence sameBytes sameHeaders prepareAll endsFrom outputFits assembled assemble flatMap count firstPayload
 examples-made = refl

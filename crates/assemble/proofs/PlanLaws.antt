@@ -10,10 +10,10 @@ use lib.Dec.{eqb}
 use borrow.Author.Tests.{lt-ltb, le-ltb, le-leb, eqb-true}
 use Rattle.bitio.specs.Parse.{Answer, refused, accepted, answer, andNext}
 use Rattle.bitio.specs.Limits.{limit, capped}
-use Rattle.bitio.specs.Lent.{pasted}
+use Rattle.bitio.specs.Lent.{span, pasted}
 use Rattle.bitio.proofs.LentLaws.{placed-room, lent-room, pasted-length, pasted-front}
 use Rattle.obu.specs.Obu.{Obu, obus, obuBytes}
-use Rattle.obu.specs.Unit.{isType}
+use Rattle.obu.specs.Unit.{isType, isSequence}
 use Rattle.obu.specs.Place.{part, extensionSays}
 use Rattle.obu.specs.Write.{obu}
 use Rattle.obu.specs.declared.reader.Obu.{Obu as CodeObu}
@@ -27,7 +27,7 @@ use Rattle.header.specs.SequencePoints.{noPoint}
 use Rattle.header.specs.declared.seq_header.OperatingPoint.{OperatingPoint}
 use Rattle.header.proofs.TimedLaws.{timed-of}
 use Rattle.blocks.specs.Numbers.{headKey, framesIn}
-use Rattle.pictures.specs.Prepare.{isSequence, firstOf, timedSequence, Prepared}
+use Rattle.pictures.specs.Prepare.{firstOf, timedSequence, Prepared}
 use Rattle.pictures.specs.declared.settings.Settings.{Settings}
 use Rattle.pictures.specs.Assemble.{Outcome, stopped, made, andAlso, inSegment, sameHeaders, headerObu, prepareAll, pictureOf}
 use Rattle.pictures.specs.Sizes.{sizedAll, ranged}
@@ -227,7 +227,7 @@ module _ (h : SequenceHeader) (points : List OperatingPoint) (set : Settings) (w
 -- ---- a payload emitted at the head of an array
 
 headed : (d xs : List ℕ) → 0 + length xs ≤ length d → part (pasted d 0 xs) 0 (length xs) ≡ xs
-unfolding part
+unfolding part span
 headed d xs h =
     let z : length xs - 0 ≡ length xs = omega arith in
     let l : length xs ≤ length (pasted d 0 xs) = omega (arith, h, pasted-length d 0 xs h) in

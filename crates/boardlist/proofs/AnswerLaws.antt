@@ -6,7 +6,7 @@ use mathlib.Core.List.{List}
 use mathlib.Core.Option.{none, some}
 use lib.ListN.{length}
 use Rattle.bitio.specs.Parse.{accepted}
-use Rattle.bitio.specs.Lent.{pasted, placed, lent}
+use Rattle.bitio.specs.Lent.{span, pasted, placed, lent}
 use Rattle.bitio.proofs.LentLaws.{pasted-front, pasted-length, placed-says-room}
 use Rattle.pictures.specs.Assemble.{Outcome, stopped, made, andAlso, Output}
 use denote.Triple.Both.{Both}
@@ -22,7 +22,7 @@ use Rattle.listing.specs.File.{FileReading, bad, full, readLayout, fileNumbers,
 use Rattle.listing.specs.Text.{refusedText, refusedInText, badFile}
 use Rattle.listing.specs.declared.file.Layout.{Layout}
 use Rattle.listing.proofs.FileLaws.{read-is}
-use Rattle.boardlist.specs.Printed.{textOf, between, madeText, CountsFit, Texted, settingsOf, printedOf, printed, slicesAfterOf, slicesAfter}
+use Rattle.boardlist.specs.Printed.{textOf, madeText, CountsFit, Texted, settingsOf, printedOf, printed, slicesAfterOf, slicesAfter}
 
 -- the same text by another name
 pub retold : {t u : List ℕ} {r : Put} {out : Both (List ℕ) (List ℕ)} → t ≡ u → Texted t r out → Texted u r out
@@ -33,7 +33,8 @@ pub texted : {t d d′ : List ℕ} {r : Put} → (putSays r ≡ placed d 0 t) ×
 texted w = record { answer = w .0; bytes = w .1 }
 
 -- what was put at the head of lent memory
-front-is : (d xs : List ℕ) (n : ℕ) → n ≡ length xs → between 0 n (pasted d 0 xs) ≡ xs
+front-is : (d xs : List ℕ) (n : ℕ) → n ≡ length xs → span (pasted d 0 xs) 0 n ≡ xs
+unfolding span
 front-is d xs n e = pasted-front d xs (n - 0) (omega arith)
 
 head-room : (d xs : List ℕ) (n : ℕ) → n ≡ length xs → length xs ≤ length d → n ≤ length (pasted d 0 xs)
@@ -93,19 +94,19 @@ module _ (s numbers : List ℕ) (d : Lent) where
   full-left e = ap (λ (r : FileReading). slicesAfterOf r s d) e
 
   module _ (l : Layout) (numbers′ : List ℕ) (e : readLayout l ≡ readInto numbers s) (w : numbers′ ≡ fileNumbersAfter numbers s) where
-    numbers-are : between 0 (width * l .segments) numbers′ ≡ fileNumbers s
+    numbers-are : span numbers′ 0 (width * l .segments) ≡ fileNumbers s
     numbers-are =
         let a = read-is numbers s l e in
-        ap (between 0 (width * l .segments)) (w ∙ a .after) ∙ front-is numbers (fileNumbers s) (width * l .segments) (sym (a .count))
+        ap (λ (x : List ℕ). span x 0 (width * l .segments)) (w ∙ a .after) ∙ front-is numbers (fileNumbers s) (width * l .segments) (sym (a .count))
 
     abbrev from : List ℕ → Outcome Output
-    from rs = outcome (between (l .start) (l .end) s) rs (settingsOf l) d
+    from rs = outcome (span s (l .start) (l .end)) rs (settingsOf l) d
 
-    pub read-text : textOf (from (between 0 (width * l .segments) numbers′)) ≡ fileText
+    pub read-text : textOf (from (span numbers′ 0 (width * l .segments))) ≡ fileText
     unfolding printed
     read-text = ap (λ (rs : List ℕ). textOf (from rs)) numbers-are ∙ ap (λ (r : FileReading). printedOf r s d) e
 
-    pub read-left : lentAfter (from (between 0 (width * l .segments) numbers′)) d ≡ slicesAfter s numbers d
+    pub read-left : lentAfter (from (span numbers′ 0 (width * l .segments))) d ≡ slicesAfter s numbers d
     unfolding slicesAfter
     read-left = ap (λ (rs : List ℕ). lentAfter (from rs) d) numbers-are ∙ ap (λ (r : FileReading). slicesAfterOf r s d) e
 

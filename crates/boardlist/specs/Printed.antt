@@ -1,11 +1,11 @@
 -- What boardlist prints for any bytes (01, 'Unit list and cue list').
-use Prim.Native.Nat.{ℕ, _-_, _≤_}
+use Prim.Native.Nat.{ℕ, _≤_}
 use mathlib.Core.Path.{_≡_}
 use mathlib.Core.List.{List}
 use mathlib.Core.Option.{none, some}
-use lib.ListN.{length, take, drop}
+use lib.ListN.{length}
 use denote.Triple.Both.{Both}
-use Rattle.bitio.specs.Lent.{placed, lent}
+use Rattle.bitio.specs.Lent.{span, placed, lent}
 use Rattle.bitio.specs.Leb.{putSays}
 use Rattle.bitio.specs.declared.leb128.Put.{Put}
 use Rattle.pictures.specs.Assemble.{Outcome, stopped, made, Output}
@@ -22,17 +22,13 @@ textOf (made o) = listing (o .list) (length (o .cues)) (o .picture) (o .ends) (o
 textOf (stopped k none) = refusedText k
 textOf (stopped k (some i)) = refusedInText k i
 
--- the elements from a to e
-abbrev pub between : ℕ → ℕ → List ℕ → List ℕ
-between a e l = take (e - a) (drop a l)
-
 abbrev pub settingsOf : Layout → Settings
 settingsOf l = record { gop = l .«gop_size»; fps = l .fps; den = l .«fps_den» }
 
 abbrev pub printedOf : FileReading → List ℕ → Lent → List ℕ
 printedOf bad s d = badFile
 printedOf full s d = refusedText 35
-printedOf (readLayout l) s d = textOf (outcome (between (l .start) (l .end) s) (fileNumbers s) (settingsOf l) d)
+printedOf (readLayout l) s d = textOf (outcome (span s (l .start) (l .end)) (fileNumbers s) (settingsOf l) d)
 
 -- the text for the bytes s, with these lent slices
 unfoldable pub printed : (s numbers : List ℕ) → Lent → List ℕ
@@ -42,7 +38,7 @@ printed s numbers d = printedOf (readInto numbers s) s d
 abbrev pub slicesAfterOf : FileReading → List ℕ → Lent → Lent
 slicesAfterOf bad s d = d
 slicesAfterOf full s d = d
-slicesAfterOf (readLayout l) s d = lentAfter (outcome (between (l .start) (l .end) s) (fileNumbers s) (settingsOf l) d) d
+slicesAfterOf (readLayout l) s d = lentAfter (outcome (span s (l .start) (l .end)) (fileNumbers s) (settingsOf l) d) d
 
 unfoldable pub slicesAfter : (s numbers : List ℕ) → Lent → Lent
 slicesAfter s numbers d = slicesAfterOf (readInto numbers s) s d
@@ -52,7 +48,7 @@ slicesAfter s numbers d = slicesAfterOf (readInto numbers s) s d
 -- the listing of what counts tell of lent memory
 abbrev pub madeText : Counts → (list pictures ends shows : List ℕ) → List ℕ
 madeText c list pictures ends shows =
-    listing (between 0 (c .units) list) (c .cues) (between 0 (c .picture) pictures) (between 0 (c .ends) ends) (between 0 (c .shows) shows)
+    listing (span list 0 (c .units)) (c .cues) (span pictures 0 (c .picture)) (span ends 0 (c .ends)) (span shows 0 (c .shows))
 
 pub record CountsFit (c : Counts) (list pictures ends shows : List ℕ) : Type 0 where
   pub units : c .units ≤ length list

@@ -1,9 +1,10 @@
 // The text that boardlist prints for any bytes, made in lent memory.
 ghost use Prim.Native.Nat.{_*_};
+ghost use Rattle.bitio.specs.Lent.{span};
 ghost use Rattle.blocks.specs.Numbers.{width};
 ghost use Rattle.assemble.specs.Whole.{outcome, six};
 ghost use Rattle.listing.specs.File.{LayoutFits};
-ghost use Rattle.boardlist.specs.Printed.{settingsOf, between, madeText, CountsFit, Texted, Prints, Answers};
+ghost use Rattle.boardlist.specs.Printed.{settingsOf, madeText, CountsFit, Texted, Prints, Answers};
 use assemble::multi::Assembled;
 use assemble::multi::Counts;
 use assemble::multi::assemble_multi;
@@ -58,7 +59,7 @@ fn put_assembly(
     out: &mut [u8],
 ) -> Put
     requires { ⌜ LayoutFits layout (now file) (now numbers) ⌝ }
-    ensures { λ r. ⌜ Prints (outcome (between (layout .start) (layout .end) (now (file .entry))) (between 0 (width * layout .segments) (now (numbers .entry))) (settingsOf layout)) r (record { entry = now (out .entry); exit = now (out .exit) }) (record {
+    ensures { λ r. ⌜ Prints (outcome (span (now (file .entry)) (layout .start) (layout .end)) (span (now (numbers .entry)) 0 (width * layout .segments)) (settingsOf layout)) r (record { entry = now (out .entry); exit = now (out .exit) }) (record {
       entry = six (list .entry) (cues .entry) (pictures .entry) (ends .entry) (shows .entry) (header .entry);
       exit = six (list .exit) (cues .exit) (pictures .exit) (ends .exit) (shows .exit) (header .exit);
     }) ⌝ }

@@ -4,16 +4,17 @@ use native.Mathlib.Omega.{arith}
 use mathlib.Core.Path.{_≡_, refl, sym, ap, ap₂, _∙_}
 use mathlib.Core.List.{List, [], _∷_, _++_}
 use mathlib.Core.Bool.{Bool, true, false, cond as pick}
-use mathlib.Core.Option.{none, some}
+use mathlib.Core.Option.{none, some, orElse}
 use lib.Dec.{leb}
 use Rattle.bitio.specs.Parse.{Answer, refused, accepted, answer, andNext}
 use Rattle.obu.specs.Obu.{Obu, obus}
-use Rattle.obu.specs.Unit.{isFrame, count, has, firstPayload, ofUnit}
+use Rattle.obu.specs.Unit.{isSequence, isFrame, count, has, firstPayload, ofUnit, sequencePayload}
+use Rattle.bitio.proofs.ParseLaws.{next-none}
 use Rattle.obu.proofs.UnitLaws.{has-count}
 use Rattle.geometry.specs.declared.slots.RefSlot.{RefSlot}
 use Rattle.uheader.specs.Scan.{scanPayloads, slotsAfter, scanAnswer, emptySlots}
 use Rattle.uheader.specs.declared.scan.HeaderScan.{HeaderScan}
-use Rattle.boardscan.specs.Scans.{Behind, behind, scanFrame, scanObus, Left, sized, scanAll, scanUnder, isHeader, hasHeader, leadHeader, headerFor, scanUnit, framesSay, withFrame, stopped, unitScan, headless, unitBehind, segmentScan, scanSegment}
+use Rattle.boardscan.specs.Scans.{Behind, behind, scanFrame, scanObus, Left, sized, scanAll, scanUnder, hasHeader, headerFor, scanUnit, framesSay, withFrame, stopped, unitScan, headless, unitBehind, segmentScan, scanSegment}
 use Rattle.boardscan.specs.declared.scan.Frames.{Frames}
 use Rattle.boardscan.specs.declared.scan.Frames.the-variants.{Nothing, First, Refused}
 use Rattle.boardscan.specs.declared.scan.UnitScan.{UnitScan}
@@ -22,7 +23,7 @@ use Rattle.boardscan.specs.declared.scan.UnitScan.{UnitScan}
 
 pub frame-more : (q f : List ℕ) (slots : List RefSlot) (b : Frames)
     → framesSay (withFrame b (scanAnswer (scanPayloads q slots f))) (slotsAfter slots (scanPayloads q slots f)) ≡ andNext (framesSay b slots) (scanFrame q f)
-unfolding andNext scanFrame
+unfolding andNext scanFrame orElse
 frame-more q f slots (Refused k) = refl
 frame-more q f slots Nothing = go (scanPayloads q slots f)
   where
@@ -34,11 +35,6 @@ frame-more q f slots (First z) = go (scanPayloads q slots f)
     go : (x : Answer HeaderScan) → framesSay (withFrame (First z) (scanAnswer x)) (slotsAfter slots x) ≡ andNext x (λ y. accepted (behind (record { first = some z; slots = slots }) y))
     go (refused k) = refl
     go (accepted y) = refl
-
-next-none : {A : Type 0} (x : Answer A) → andNext x (λ a. accepted a) ≡ x
-unfolding andNext
-next-none (refused k) = refl
-next-none (accepted a) = refl
 
 -- ---- one OBU more
 
@@ -78,11 +74,11 @@ whole-unit q slots u w h = ap (λ y. unitScan slots (andNext y sized)) h ∙ ap 
 
 -- ---- the sequence header
 
-pub counted-has : (x : Answer (List Obu)) (n : ℕ) → answer (count isHeader) x ≡ accepted n → leb 1 n ≡ ofUnit false (has isHeader) x
+pub counted-has : (x : Answer (List Obu)) (n : ℕ) → answer (count isSequence) x ≡ accepted n → leb 1 n ≡ ofUnit false (has isSequence) x
 counted-has (refused k) n e = let z : _≡_ {A = ℕ} 0 1 = cc in absurd (omega arith)
-counted-has (accepted os) n e = let i : n ≡ count isHeader os = cc in ap (leb 1) i ∙ has-count isHeader os
+counted-has (accepted os) n e = let i : n ≡ count isSequence os = cc in ap (leb 1) i ∙ has-count isSequence os
 
-pub refused-has : (x : Answer (List Obu)) (k : ℕ) → answer (count isHeader) x ≡ refused k → false ≡ ofUnit false (has isHeader) x
+pub refused-has : (x : Answer (List Obu)) (k : ℕ) → answer (count isSequence) x ≡ refused k → false ≡ ofUnit false (has isSequence) x
 refused-has (refused j) k e = refl
 refused-has (accepted os) k e = let z : _≡_ {A = ℕ} 0 1 = cc in absurd (omega arith)
 
@@ -99,19 +95,19 @@ module _ (lead : List ℕ) (slots : List RefSlot) (u : List ℕ) where
   abbrev taken : Answer (List Obu) → Answer Left
   taken x = andNext x (λ os. andNext (headerFor lead os) (λ q. scanAll q slots os))
 
-  pub scan-own : {q : List ℕ} → q ≡ leadHeader u → hasHeader u ≡ true → unitScan slots (scanUnder q slots u) ≡ unitScan slots (scanUnit lead slots u)
+  pub scan-own : {q : List ℕ} → q ≡ sequencePayload u → hasHeader u ≡ true → unitScan slots (scanUnder q slots u) ≡ unitScan slots (scanUnit lead slots u)
   unfolding scanUnder scanUnit headerFor andNext
   scan-own e t = ap (λ q. unitScan slots (scanUnder q slots u)) e ∙ ap (unitScan slots) (go (obus u) t)
     where
-      go : (x : Answer (List Obu)) → ofUnit false (has isHeader) x ≡ true → andNext x (scanAll (ofUnit [] (firstPayload isHeader) x) slots) ≡ taken x
+      go : (x : Answer (List Obu)) → ofUnit false (has isSequence) x ≡ true → andNext x (scanAll (ofUnit [] (firstPayload isSequence) x) slots) ≡ taken x
       go (refused k) t = refl
       go (accepted os) t = rw t
 
-  pub scan-led : {q : List ℕ} → q ≡ leadHeader lead → hasHeader u ≡ false → hasHeader lead ≡ true → unitScan slots (scanUnder q slots u) ≡ unitScan slots (scanUnit lead slots u)
+  pub scan-led : {q : List ℕ} → q ≡ sequencePayload lead → hasHeader u ≡ false → hasHeader lead ≡ true → unitScan slots (scanUnder q slots u) ≡ unitScan slots (scanUnit lead slots u)
   unfolding scanUnder scanUnit headerFor andNext
   scan-led e t l = ap (λ q. unitScan slots (scanUnder q slots u)) e ∙ ap (unitScan slots) (go (obus u) t)
     where
-      go : (x : Answer (List Obu)) → ofUnit false (has isHeader) x ≡ false → andNext x (scanAll (leadHeader lead) slots) ≡ taken x
+      go : (x : Answer (List Obu)) → ofUnit false (has isSequence) x ≡ false → andNext x (scanAll (sequencePayload lead) slots) ≡ taken x
       go (refused k) t = refl
       go (accepted os) t = rw (t, l)
 
@@ -119,7 +115,7 @@ module _ (lead : List ℕ) (slots : List RefSlot) (u : List ℕ) where
   unfolding scanUnit headerFor andNext unitScan
   scan-headless t l = go (obus u) t
     where
-      go : (x : Answer (List Obu)) → ofUnit false (has isHeader) x ≡ false → stopped slots (headless x) ≡ unitScan slots (taken x)
+      go : (x : Answer (List Obu)) → ofUnit false (has isSequence) x ≡ false → stopped slots (headless x) ≡ unitScan slots (taken x)
       go (refused k) t = refl
       go (accepted os) t = rw (t, l)
 

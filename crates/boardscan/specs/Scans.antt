@@ -2,11 +2,10 @@
 use Prim.Native.Nat.{ℕ}
 use mathlib.Core.List.{List, [], _∷_}
 use mathlib.Core.Bool.{Bool, false, cond as pick}
-use mathlib.Core.Option.{Option, none, some}
+use mathlib.Core.Option.{Option, none, some, orElse}
 use Rattle.bitio.specs.Parse.{Answer, refused, accepted, andNext}
 use Rattle.obu.specs.Obu.{Obu, obus}
-use Rattle.obu.specs.Unit.{isKind, isFrame, has, firstPayload, orElse, ofUnit}
-use Rattle.obu.specs.declared.unit.Kind.the-variants.{SequenceHeader}
+use Rattle.obu.specs.Unit.{isSequence, isFrame, has, firstPayload, ofUnit, sequencePayload}
 use Rattle.geometry.specs.declared.size.Size.{Size}
 use Rattle.geometry.specs.declared.slots.RefSlot.{RefSlot}
 use Rattle.uheader.specs.Scan.{scanPayloads, slotsAfter, emptySlots}
@@ -60,18 +59,12 @@ scanAll q slots os = andNext (scanObus q (record { first = none; slots = slots }
 unfoldable pub scanUnder : List ℕ → List RefSlot → List ℕ → Answer Left
 scanUnder q slots u = andNext (obus u) (scanAll q slots)
 
-abbrev pub isHeader : Obu → Bool
-isHeader o = isKind SequenceHeader o
-
 abbrev pub hasHeader : List ℕ → Bool
-hasHeader u = ofUnit false (has isHeader) (obus u)
-
-abbrev pub leadHeader : List ℕ → List ℕ
-leadHeader u = ofUnit [] (firstPayload isHeader) (obus u)
+hasHeader u = ofUnit false (has isSequence) (obus u)
 
 -- the first sequence header of a unit, or else of the unit that leads it; 26: neither has one
 unfoldable pub headerFor : List ℕ → List Obu → Answer (List ℕ)
-headerFor lead os = pick (has isHeader os) (accepted (firstPayload isHeader os)) (pick (hasHeader lead) (accepted (leadHeader lead)) (refused 26))
+headerFor lead os = pick (has isSequence os) (accepted (firstPayload isSequence os)) (pick (hasHeader lead) (accepted (sequencePayload lead)) (refused 26))
 
 unfoldable pub scanUnit : List ℕ → List RefSlot → List ℕ → Answer Left
 scanUnit lead slots u = andNext (obus u) (λ os. andNext (headerFor lead os) (λ q. scanAll q slots os))

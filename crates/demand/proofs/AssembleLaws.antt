@@ -16,7 +16,7 @@ use Rattle.bitio.proofs.ParseLaws.{onto-is}
 use Rattle.assemble.proofs.RenewLaws.{header-read}
 use Rattle.obu.proofs.PlaceLaws.{part-short}
 use Rattle.obu.specs.Obu.{Obu, obus}
-use Rattle.obu.specs.Unit.{isFrame, has, lastPayload, firstPayload, ofUnit}
+use Rattle.obu.specs.Unit.{isFrame, has, lastPayload, firstPayload, ofUnit, isSequence}
 use Rattle.header.specs.Sequence.{Sequence, parseSequence}
 use Rattle.header.specs.Support.{support}
 use Rattle.header.specs.Timed.{isTimed}
@@ -28,7 +28,7 @@ use Rattle.frame.specs.declared.frame_header.FrameHeaderInfo.the-variants.{Exis
 use Rattle.blocks.specs.Blocks.{total}
 use Rattle.blocks.specs.Numbers.{headInside, rest, segmentCount, isWhole}
 use Rattle.pictures.specs.Segments.{Segment, framesOf, segmentIn, segmentAt, segmentsFrom, segmentsOf}
-use Rattle.pictures.specs.Prepare.{isSequence, timedSequence, effective, renewal, sent, keyOk, goldenFlags, slotOf, Prepared, prepare}
+use Rattle.pictures.specs.Prepare.{timedSequence, effective, renewal, sent, keyOk, goldenFlags, slotOf, Prepared, prepare}
 use Rattle.pictures.specs.declared.settings.Settings.{Settings}
 use Rattle.pictures.specs.Assemble.{Outcome, stopped, made, andAlso, inSegment, overall, noneEmpty, sizes, sameBytes, sameHeader, sameHeaders, headerObu, prepareAll, Output, outputOf, OutputRoom, outputFits, assembled, assemble}
 use Rattle.player.proofs.StepLaws.{link}

@@ -8,6 +8,7 @@ use lib.ListN.{length, getD, length-append}
 use lib.Seq.{take-append-seam, drop-append-seam}
 use lib.Dec.{eqb, ltb}
 use borrow.Author.Tests.{le-leb}
+use Rattle.bitio.specs.Lent.{span}
 use Rattle.obu.specs.Place.{part, partIn}
 use Rattle.blocks.specs.Blocks.{Kind, Key, Golden, Show, Entry, code, number, cuesOf}
 use Rattle.pictures.specs.Prepare.{Prepared, showUnit}
@@ -38,7 +39,7 @@ UnitsWithin n bs = (i : ℕ) → i < length bs → (length ((getD bs i noUnits) 
 
 -- a part in the middle
 pub part-mid : (f m r : List ℕ) → part (f ++ (m ++ r)) (length f) (length f + length m) ≡ m
-unfolding part
+unfolding part span
 part-mid f m r =
     let n = length-append f (m ++ r) in
     let k = length-append m r in

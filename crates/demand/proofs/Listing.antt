@@ -14,6 +14,7 @@ use Rattle.bitio.specs.Uvlc.{leadingZeros, uvlcSuffix, uvlc}
 use Rattle.bitio.specs.Leb.{lebRead, readLeb, sized, lebWrite, lebBytes, framed}
 use Rattle.bitio.specs.Every.{Every}
 use Rattle.bitio.specs.Every.Every.{nothing, also}
+use Rattle.bitio.specs.Lent.{span}
 use Rattle.obu.specs.Obu.{Obu, passes, headObuOf, obusOf, obuBytes, unitBytes, Written}
 use Rattle.obu.specs.Unit.{isType, count, has, firstPayload}
 use Rattle.obu.specs.Place.{part}
@@ -203,7 +204,7 @@ kinds-are
     : (kindsBy settingsKG (unitsOf outputKG) (parseSequence (listHeader segmentsKG)) ∷ kindsBy settingsKG (unitsOf outputTwo) (parseSequence (listHeader segmentsTwo))
     ∷ kindsBy settingsKG (unitsOf outputTwo) (parseSequence (listHeader segmentsTimed)) ∷ [])
     ≡ map accepted kindsKG ∷ map accepted kindsTwo ∷ map accepted kindsTwo ∷ []
-unfolding many manyF andNext bitAt bitsAt bitsWithin readBits leadingZeros uvlcSuffix uvlc lebRead readLeb sized passes headObuOf obusOf isType count firstPayload readFlag readOr flagOr uvlcOr timingInfo decoderModelInfo opening operatingPoint operatingPoints frameSize frameIds codingTools screenTools filters colorDescription colorSampling coding sequenceHeader parseSequence support retimed withTiming run showExisting frameStart frameModes frameFront removalTimes bufferRemoval refreshFlags frameInfo frameBits frameHeader parseFrame framePayload unitFrame unitKind part named unitsOf
+unfolding many manyF andNext bitAt bitsAt bitsWithin readBits leadingZeros uvlcSuffix uvlc lebRead readLeb sized passes headObuOf obusOf isType count firstPayload readFlag readOr flagOr uvlcOr timingInfo decoderModelInfo opening operatingPoint operatingPoints frameSize frameIds codingTools screenTools filters colorDescription colorSampling coding sequenceHeader parseSequence support retimed withTiming run showExisting frameStart frameModes frameFront removalTimes bufferRemoval refreshFlags frameInfo frameBits frameHeader parseFrame framePayload unitFrame unitKind part span named unitsOf
 kinds-are = refl
 
 abbrev modelAt : ℕ → List Bool → Bool
@@ -215,7 +216,7 @@ premises-of xs f e = record { formed = f; noModel = λ q r. sym (ap hasModel r) 
 -- ---- demand 3 of the three
 
 given : (segmentsOf pictureKG (rangesKG 4 1) ∷ segmentsOf pictureTwo rangesTwo ∷ segmentsOf pictureTimed rangesTimed ∷ []) ≡ accepted segmentsKG ∷ accepted segmentsTwo ∷ accepted segmentsTimed ∷ []
-unfolding segmentAt segmentsFrom segmentsOf part andNext
+unfolding segmentAt segmentsFrom segmentsOf part span andNext
 given = refl
 
 abbrev cutAt : ℕ → List (Answer (List Segment)) → Answer (List Segment)
@@ -269,7 +270,7 @@ CarriedOwn c = (write c (record { bytes = 96; ends = 7 }) (unitsOf outputTwo) �
     × (read c (record { bytes = 96; ends = 7 }) (acceptedList (write c (record { bytes = 96; ends = 7 }) (unitsOf outputTwo))) ≡ accepted (unitsOf outputTwo))
 
 carried-both : (CarriedOwn stream) × (CarriedOwn annexb)
-unfolding many manyF lebRead readLeb sized lebWrite lebBytes framed passes headObuOf obusOf obuBytes unitBytes flatMap isType count has part named unitsOf cut group others join behind joined units streamUnits flat streamBytes innerObuOf lengthObuOf frameUnitOf temporalUnitOf annexbUnitsOf annexbUnit annexbBytes read write
+unfolding many manyF lebRead readLeb sized lebWrite lebBytes framed passes headObuOf obusOf obuBytes unitBytes flatMap isType count has part span named unitsOf cut group others join behind joined units streamUnits flat streamBytes innerObuOf lengthObuOf frameUnitOf temporalUnitOf annexbUnitsOf annexbUnit annexbBytes read write
 carried-both = ((refl, refl), (refl, refl))
 
 carries-own : (c : Container) → CarriedOwn c → ReadBack (unitsOf outputTwo) (unitsOf outputTwo)
@@ -295,7 +296,7 @@ rekeyed = stateAfter (stateAfter (stateAfter goldened 3 (showUnit 3)) 4 (showUni
 -- Refused in between: a show unit before there is a header, one of a slot that holds a key not showable, the other segment's show unit before
 -- its golden, and bytes that are no OBU.
 pub noisy : Course start 1 (unitsOf outputTwo)
-unfolding many manyF andNext bitAt bitsAt bitsWithin readBits leadingZeros uvlcSuffix uvlc lebRead readLeb sized passes headObuOf obusOf isType count firstPayload readFlag readOr flagOr uvlcOr timingInfo decoderModelInfo opening operatingPoint operatingPoints frameSize frameIds codingTools screenTools filters colorDescription colorSampling coding sequenceHeader parseSequence support run showExisting frameStart frameModes frameFront removalTimes bufferRemoval refreshFlags frameInfo frameBits frameHeader parseFrame refresh supportedSequence keepAs framePayload part named unitsOf play
+unfolding many manyF andNext bitAt bitsAt bitsWithin readBits leadingZeros uvlcSuffix uvlc lebRead readLeb sized passes headObuOf obusOf isType count firstPayload readFlag readOr flagOr uvlcOr timingInfo decoderModelInfo opening operatingPoint operatingPoints frameSize frameIds codingTools screenTools filters colorDescription colorSampling coding sequenceHeader parseSequence support run showExisting frameStart frameModes frameFront removalTimes bufferRemoval refreshFlags frameInfo frameBits frameHeader parseFrame refresh supportedSequence keepAs framePayload part span named unitsOf play
 noisy =
     noise {st = start} 3 (showUnit 3) 26 refl
     (plays

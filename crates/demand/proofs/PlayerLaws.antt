@@ -13,12 +13,12 @@ use Rattle.bitio.specs.Limits.{limit}
 use Rattle.bitio.specs.Every.{Every}
 use Rattle.bitio.specs.Every.Every.{nothing, also}
 use Rattle.obu.specs.Obu.{Obu, obus}
-use Rattle.obu.specs.Unit.{isFrame, has, count, firstPayload}
+use Rattle.obu.specs.Unit.{isFrame, has, count, firstPayload, isSequence}
 use Rattle.header.specs.Sequence.{Sequence, parseSequence}
 use Rattle.header.specs.Support.{support, supportedSequence}
 use Rattle.frame.specs.Frame.{parseFrame}
 use Rattle.frame.specs.declared.frame_header.FrameHeaderInfo.{FrameHeaderInfo}
-use Rattle.pictures.specs.Prepare.{isSequence, lowest}
+use Rattle.pictures.specs.Prepare.{lowest}
 use Rattle.frame.specs.UnitFrame.{framePayload}
 use Rattle.frame.specs.Refresh.{refresh}
 use Rattle.player.specs.Player.{empty, Shown, act, State, keepAs, keep, play}

@@ -13,14 +13,14 @@ use borrow.Author.Tests.{ne-eqb, ltb-true, ltb-false}
 use Rattle.bitio.specs.Parse.{accepted, andNext}
 use Rattle.bitio.specs.Limits.{limit}
 use Rattle.bitio.specs.Every.{Every}
-use Rattle.obu.specs.Unit.{firstPayload, ofUnit}
+use Rattle.obu.specs.Unit.{firstPayload, ofUnit, isSequence, sequencePayload}
 use Rattle.header.specs.Sequence.{Sequence, parseSequence}
 use Rattle.header.specs.Support.{support}
 use Rattle.frame.specs.declared.frame_header.FrameHeaderInfo.{FrameHeaderInfo}
 use Rattle.frame.specs.declared.frame_header.FrameHeaderInfo.the-variants.{Existing}
 use Rattle.blocks.specs.Blocks.{Kind, Key, Golden, Show, Entry, number, positions, cuesOf, isKeyEntry}
 use Rattle.pictures.specs.Segments.{Segment, framesOf}
-use Rattle.pictures.specs.Prepare.{isSequence, effective, renewal, Prepared, showUnit}
+use Rattle.pictures.specs.Prepare.{effective, renewal, Prepared, showUnit}
 use Rattle.pictures.specs.declared.settings.Settings.{Settings}
 use Rattle.pictures.specs.Assemble.{pictureOf, endsFrom, showsOf, named}
 use Rattle.frame.specs.UnitFrame.{unitFrame}
@@ -28,7 +28,7 @@ use Rattle.frame.specs.Refresh.{refresh}
 use Rattle.player.specs.Player.{empty, filled, State, start, play, stateAfter}
 use Rattle.player.specs.declared.slots.Slot.{Slot}
 use Rattle.demand.specs.Kinds.{unitKind, saysKey, isKeyUnit, unitAt, segmentOf}
-use Rattle.demand.specs.Premises.{sequencePayload, Premise}
+use Rattle.demand.specs.Premises.{Premise}
 use Rattle.demand.specs.Courses.{Course, done, plays, noise, Throughout}
 use Rattle.demand.specs.Demand.{Rising, emptySegment, IsUnit, Listed, PlaysRight}
 use Rattle.demand.proofs.Following.{entry, first, Following, first-key, segment-in, Since, show-led}

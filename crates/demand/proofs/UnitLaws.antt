@@ -13,13 +13,13 @@ use Rattle.bitio.specs.Leb.{lebWrite, lebBytes, framed}
 use Rattle.bitio.specs.Every.{Every}
 use Rattle.bitio.specs.Every.Every.{nothing, also}
 use Rattle.obu.specs.Obu.{Obu, passes, obuBytes, unitBytes}
-use Rattle.obu.specs.Unit.{isFrame, isDelimiter, isType, has, count, firstPayload}
+use Rattle.obu.specs.Unit.{isFrame, isDelimiter, isType, has, count, firstPayload, isSequence}
 use Rattle.obu.specs.declared.unit.Kind.the-variants.{TemporalDelimiter, Frame as FrameObu}
 use Rattle.obu.proofs.ObuLaws.{Allowed, obus-allowed, unit-written}
 use Rattle.container.proofs.StreamLaws.{leads}
 use Rattle.container.proofs.RoundTrip.{Whole}
 use Rattle.frame.specs.Frame.{showByte}
-use Rattle.pictures.specs.Prepare.{isSequence, firstOf, renewed, sent, showUnit}
+use Rattle.pictures.specs.Prepare.{firstOf, renewed, sent, showUnit}
 use Rattle.demand.specs.Premises.{Delimited, SequenceIs, Premise}
 
 -- ---- the first OBU of a kind

@@ -8,6 +8,7 @@ use mathlib.Core.Bool.{Bool, true}
 use mathlib.Core.Option.{some}
 use lib.ListN.{length, getD, take, drop}
 use Rattle.bitio.specs.Parse.{refused, accepted}
+use Rattle.obu.specs.Unit.{sequencePayload}
 use Rattle.header.specs.Sequence.{Sequence, parseSequence}
 use Rattle.frame.specs.declared.frame_header.FrameInfo.{FrameInfo}
 use Rattle.frame.specs.declared.frame_header.FrameHeaderInfo.the-variants.{Existing, Frame}
@@ -23,7 +24,7 @@ use Rattle.pictures.specs.Assemble.{Output, unitsOf}
 use Rattle.frame.specs.UnitFrame.{unitFrame}
 use Rattle.player.specs.Player.{empty, filled, State, start, play}
 use Rattle.demand.specs.Kinds.{unitKind, isKeyUnit, unitAt, segmentOf}
-use Rattle.demand.specs.Premises.{sequencePayload, listHeader}
+use Rattle.demand.specs.Premises.{listHeader}
 use Rattle.demand.specs.Courses.{Course, Throughout}
 
 -- rising, the first at lo or above

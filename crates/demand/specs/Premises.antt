@@ -5,16 +5,11 @@ use mathlib.Core.List.{List, [], _∷_}
 use mathlib.Core.Bool.{true, false}
 use Rattle.bitio.specs.Parse.{accepted}
 use Rattle.bitio.specs.Every.{Every}
-use Rattle.obu.specs.Obu.{Obu, obus, Written}
-use Rattle.obu.specs.Unit.{isFrame, isDelimiter, count, firstPayload, ofUnit}
+use Rattle.obu.specs.Obu.{Obu, Written}
+use Rattle.obu.specs.Unit.{isSequence, isFrame, isDelimiter, count, sequencePayload}
 use Rattle.header.specs.Sequence.{Sequence, parseSequence}
 use Rattle.pictures.specs.Segments.{Segment}
-use Rattle.pictures.specs.Prepare.{isSequence}
 use Rattle.pictures.specs.declared.settings.Settings.{Settings}
-
--- the first sequence payload of a unit
-abbrev pub sequencePayload : List ℕ → List ℕ
-sequencePayload u = ofUnit [] (firstPayload isSequence) (obus u)
 
 -- 01, 'What demand 3 speaks of': the list's sequence header is that of the first key
 abbrev pub listHeader : List Segment → List ℕ

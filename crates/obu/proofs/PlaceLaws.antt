@@ -13,6 +13,7 @@ use borrow.Author.Tests.{lt-ltb, le-ltb, ltb-true, ltb-false, lt-leb, le-leb, ne
 use Rattle.bitio.specs.Parse.{refused, accepted, Head, stop, item}
 use Rattle.bitio.specs.Leb.{noLeb, lebThen, readLeb, sized}
 use Rattle.bitio.proofs.ParseLaws.{pick-both, pick-cases, parts-length}
+use Rattle.bitio.specs.Lent.{span}
 use Rattle.obu.specs.Obu.{Obu, passes, sizedBody, headObuOf, headObu, obus}
 use types.Run.{OneOf}
 use denote.Enum.Declared.{tagOf}
@@ -207,11 +208,11 @@ not-found s at (Refused n) k l e = sym e
 -- ---- the payload
 
 pub part-none : (s : List ℕ) → part s 0 0 ≡ []
-unfolding part
+unfolding part span
 part-none s = rw (le-leb 0 (length s) (omega arith))
 
 pub part-placed : {s : List ℕ} {at : ℕ} {o : Obu} {a b : ℕ} → Placed s at o a b → part s a b ≡ o .payload
-unfolding part
+unfolding part span
 part-placed {s} {at} {o} {a} {b} p = rw (le-leb a b (p .ends), le-leb b (length s) (p .within)) (p .payload)
 
 -- an OBU as its place says
@@ -222,7 +223,7 @@ placed-obu {s} {at} {t} {a} {b} {e} g =
 
 -- a part is no longer than the bytes
 pub part-short : (s : List ℕ) (a e : ℕ) → length (part s a e) ≤ length s
-unfolding part
+unfolding part span
 part-short s a e =
     let P : List ℕ → Type 0 = λ l. length l ≤ length s in
     pick-both P (leb a e) (pick-both P (leb e (length s)) (omega (arith, length-take (e - a) (drop a s), length-drop a s)) (omega arith)) (omega arith)

@@ -3,7 +3,7 @@ use Prim.Native.Nat.{ℕ, suc, _-_, _≤_, _<_}
 use native.Mathlib.Omega.{arith}
 use mathlib.Core.Path.{_≡_, refl, sym, ap, _∙_}
 use mathlib.Core.List.{List, [], _∷_, _++_, map, append-nil}
-use mathlib.Core.Option.{Option, none, some, Option·map}
+use mathlib.Core.Option.{Option, none, some, Option·map, orElse}
 use mathlib.Core.Bool.{Bool, true, false, cond as pick, not, _||_, _&&_}
 use mathlib.Core.Logic.{inl, inr}
 use lib.Dec.{leb, leb·suc-suc}
@@ -18,7 +18,7 @@ use Rattle.obu.specs.declared.reader.ObuAt.{ObuAt}
 use Rattle.obu.specs.declared.reader.ObuAt.the-variants.{Found, End, Refused}
 use Rattle.obu.specs.Obu.{Obu, passes, headObu, obusOf, obus}
 use Rattle.obu.specs.Place.{obuPlace, obuSays}
-use Rattle.obu.specs.Unit.{isDelimiter, count, has, firstPayload, lastPayload, Located, located, locatedObus, orElse, sought, foundSays, payloadFound, strayIn, ofUnit}
+use Rattle.obu.specs.Unit.{isDelimiter, count, has, firstPayload, lastPayload, Located, located, locatedObus, sought, foundSays, payloadFound, strayIn, ofUnit}
 use Rattle.obu.proofs.ObuLaws.{obu-shrinks, obus-item, infront, infront-next, infront-nil}
 use Rattle.obu.proofs.PlaceLaws.{Placed, is-wrong, is-end, walk-start, walk-end, walk-stop}
 
@@ -116,7 +116,7 @@ isSome (some a) = true
 module _ {A : Type 0} (last : Bool) (p : A → Bool) where
   -- one more takes the place of what is kept, or not
   pub sought-next : (l : List A) (x : A) → sought last p (l ++ (x ∷ [])) ≡ pick ((last || not (isSome (sought last p l))) && p x) (some x) (sought last p l)
-  unfolding sought
+  unfolding sought orElse
   sought-next [] x = go last (p x)
     where
       go : (n t : Bool) → pick n (orElse none (pick t (some x) none)) (orElse (pick t (some x) none) none) ≡ pick ((n || true) && t) (some x) none
@@ -147,7 +147,7 @@ seen-next false t x (some y) = refl
 -- what is sought among OBUs that are located is what is sought among OBUs
 module _ (last : Bool) (p : Obu → Bool) where
   sought-map : (l : List Located) → Option·map obuAt (sought last (λ o. p (o .obu)) l) ≡ sought last p (map obuAt l)
-  unfolding sought
+  unfolding sought orElse
   sought-map [] = refl
   sought-map (a ∷ l) = rw (← sought-map l) (go last (p (a .obu)) (sought last (λ o. p (o .obu)) l))
     where
@@ -175,7 +175,7 @@ payloadOf (some o) = o .payload
 
 module _ (p : Obu → Bool) where
   first-is : (os : List Obu) → payloadOf (sought false p os) ≡ firstPayload p os
-  unfolding sought firstPayload
+  unfolding sought orElse firstPayload
   first-is [] = refl
   first-is (o ∷ os) = go (p o) (first-is os)
     where
@@ -185,7 +185,7 @@ module _ (p : Obu → Bool) where
       go false e = e
 
   last-is : (os : List Obu) → (payloadOf (sought true p os) ≡ lastPayload p os) × (isSome (sought true p os) ≡ has p os)
-  unfolding sought lastPayload has
+  unfolding sought orElse lastPayload has
   last-is [] = (refl, refl)
   last-is (o ∷ os) = let (e, h) = last-is os in rw (← e, ← h) (go (p o) (sought true p os))
     where

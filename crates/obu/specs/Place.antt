@@ -3,9 +3,10 @@ use Prim.Native.Nat.{ℕ, _-_}
 use mathlib.Core.List.{List, [], _∷_}
 use mathlib.Core.Option.{Option, none, some}
 use mathlib.Core.Bool.{cond as pick}
-use lib.ListN.{length, take, drop, getD}
+use lib.ListN.{length, getD, drop}
 use lib.Dec.{leb, ltb}
 use Rattle.bitio.specs.Parse.{Head, stop, item}
+use Rattle.bitio.specs.Lent.{span}
 use Rattle.obu.specs.Obu.{Obu, headObu}
 use Rattle.obu.specs.declared.reader.Extension.{Extension}
 use Rattle.obu.specs.declared.reader.Extension.the-variants.{Absent, Byte}
@@ -44,7 +45,7 @@ obuSays (Refused k) = wrong k
 
 -- the bytes from a to e, or none where they are not there
 unfoldable pub part : List ℕ → ℕ → ℕ → List ℕ
-part s a e = pick (leb a e) (pick (leb e (length s)) (take (e - a) (drop a s)) []) []
+part s a e = pick (leb a e) (pick (leb e (length s)) (span s a e) []) []
 
 -- part i of bytes whose parts lie one behind the other, each with its end in es
 abbrev pub partIn : List ℕ → List ℕ → ℕ → List ℕ

@@ -1,12 +1,12 @@
 -- Questions on the OBUs of a unit.
 use Prim.Native.Nat.{ℕ, suc, _-_}
 use mathlib.Core.List.{List, [], _∷_}
-use mathlib.Core.Option.{Option, none, some}
+use mathlib.Core.Option.{Option, none, some, orElse}
 use mathlib.Core.Bool.{Bool, true, false, cond as pick, _||_}
 use lib.ListN.{length}
 use lib.Dec.{eqb}
 use Rattle.bitio.specs.Parse.{Answer, refused, accepted, Head, stop, item, many}
-use Rattle.obu.specs.Obu.{Obu, headObu}
+use Rattle.obu.specs.Obu.{Obu, headObu, obus}
 use Rattle.obu.specs.Place.{extensionSays, part}
 use Rattle.obu.specs.Write.{obu as obuOf}
 use Rattle.obu.specs.declared.reader.ObuAt.{ObuAt}
@@ -25,6 +25,9 @@ isType Frame t = eqb t 3 || eqb t 6
 
 abbrev pub isKind : Kind → Obu → Bool
 isKind k o = isType k (o .type)
+
+abbrev pub isSequence : Obu → Bool
+isSequence o = isKind SequenceHeader o
 
 abbrev pub isDelimiter : Obu → Bool
 isDelimiter o = isKind TemporalDelimiter o
@@ -66,10 +69,6 @@ located n (item o r) = item (record { obu = o; start = n - length r - length (o 
 unfoldable pub locatedObus : List ℕ → Answer (List Located)
 locatedObus s = many (λ l. located (length s) (headObu l)) s
 
-abbrev pub orElse : {A : Type 0} → Option A → Option A → Option A
-orElse none y = y
-orElse (some a) y = some a
-
 -- the first that p holds of, or the last
 unfoldable pub sought : {A : Type 0} → Bool → (A → Bool) → List A → Option A
 sought last p [] = none
@@ -98,6 +97,10 @@ strayIn (o ∷ os) = has isDelimiter os
 abbrev pub ofUnit : {A : Type 0} → A → (List Obu → A) → Answer (List Obu) → A
 ofUnit d f (refused k) = d
 ofUnit d f (accepted os) = f os
+
+-- the payload of a unit's first sequence header, or none
+abbrev pub sequencePayload : List ℕ → List ℕ
+sequencePayload u = ofUnit [] (firstPayload isSequence) (obus u)
 
 -- 01's number and values for each case of Counted
 abbrev pub countedSays : Counted → Answer ℕ

@@ -21,6 +21,7 @@ use Rattle.bitio.specs.Limits.{limit}
 use Rattle.container.specs.Lists.{accepts}
 use Rattle.packets.specs.PacketLists.{stamped, packetsAt, bytesOf, timesOf}
 use Rattle.bitio.specs.Every.{Every}
+use Rattle.bitio.specs.Lent.{span}
 use Rattle.packets.specs.code.PacketRuns.{listedFrom, listed, closes, Waits, Empty, packetsOf}
 use Rattle.packets.proofs.SliceLaws.{slice-more, every-more}
 use Rattle.packets.proofs.PacketLaws.{Short, waits}
@@ -50,7 +51,7 @@ onto-given u false l = refl
 
 -- the units that ends give, or 36
 units-given : (at : ℕ) (s es : List ℕ) → at ≤ length s → unitsFrom at (drop at s) es ≡ given at s es
-unfolding unitsFrom rising listedFrom part
+unfolding unitsFrom rising listedFrom part span
 units-given at s [] h = go (eqb at (length s)) refl
   where
     go : (b : Bool) → eqb at (length s) ≡ b → _≡_ {A = Answer (List (List ℕ))} (pick (eqb (length (drop at s)) 0) (accepted []) (refused 36)) (pick b (accepted []) (refused 36))

@@ -3,10 +3,10 @@ use Prim.Native.Nat.{ℕ}
 use mathlib.Core.Path.{_≡_, refl, sym, ap, _∙_}
 use mathlib.Core.List.{List, [], _∷_}
 use mathlib.Core.Bool.{Bool, true, false, cond as pick}
-use mathlib.Core.Option.{Option, none, some, Option·map}
+use mathlib.Core.Option.{Option, none, some, Option·map, orElse}
 use Rattle.bitio.specs.Parse.{Answer, refused, accepted, answer, andNext}
 use Rattle.obu.specs.Obu.{Obu, obus}
-use Rattle.obu.specs.Unit.{locatedObus, orElse, sought, foundSays}
+use Rattle.obu.specs.Unit.{locatedObus, sought, foundSays, isSequence}
 use Rattle.obu.specs.declared.reader.ObuAt.{ObuAt}
 use Rattle.obu.proofs.UnitLaws.{obuAt, sought-obus}
 use Rattle.header.specs.Sequence.{Sequence, sequenceOf, sequenceRead}
@@ -17,7 +17,7 @@ use Rattle.header.specs.declared.seq_header.OperatingPoint.{OperatingPoint}
 use Rattle.header.specs.declared.seq_header.SequenceRead.{SequenceRead}
 use Rattle.header.proofs.SupportLaws.{supported-read}
 use Rattle.frame.proofs.FrameFromLaws.{read-whole}
-use Rattle.pictures.specs.Prepare.{isSequence, firstOf}
+use Rattle.pictures.specs.Prepare.{firstOf}
 use Rattle.pictures.specs.Flat.{firstSequence}
 
 -- ---- the first OBU that passes, as it is sought
@@ -27,7 +27,7 @@ orRefused n none = refused n
 orRefused n (some o) = accepted o
 
 first-sought : (n : ℕ) (pass : Obu → Bool) (os : List Obu) → orRefused n (sought false pass os) ≡ firstOf n pass os
-unfolding firstOf sought
+unfolding firstOf sought orElse
 first-sought n pass [] = refl
 first-sought n pass (o ∷ os) = go (pass o) (first-sought n pass os)
   where

@@ -6,11 +6,11 @@ use mathlib.Core.Bool.{Bool, true, false, cond as pick}
 use Rattle.bitio.specs.Parse.{Answer, refused, accepted, andNext}
 use Rattle.bitio.proofs.ParseLaws.{next-chain}
 use Rattle.obu.specs.Obu.{Obu, obus, unitBytes}
-use Rattle.obu.specs.Unit.{has}
+use Rattle.obu.specs.Unit.{has, isSequence}
 use Rattle.header.specs.Sequence.{Sequence}
 use Rattle.pictures.specs.Segments.{Segment}
 use Rattle.frame.specs.UnitFrame.{unitFrame}
-use Rattle.pictures.specs.Prepare.{isSequence, renewed, sent, keyOk, goldenFlags, asked, Prepared, prepare}
+use Rattle.pictures.specs.Prepare.{renewed, sent, keyOk, goldenFlags, asked, Prepared, prepare}
 use Rattle.pictures.specs.Assemble.{verdict}
 use Rattle.pictures.specs.Flat.{judged, renewing, answerOr, sentBytes}
 

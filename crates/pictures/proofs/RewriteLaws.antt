@@ -15,7 +15,8 @@ use Rattle.obu.specs.Place.{wrong, noMore, obuPlace, part}
 use Rattle.obu.specs.Write.{obu}
 use Rattle.obu.proofs.ObuLaws.{infront}
 use Rattle.obu.proofs.PlaceLaws.{IsPlaced, Walked, walk-start, walk-next, walk-end, walk-stop, part-placed}
-use Rattle.pictures.specs.Prepare.{isSequence, renewed}
+use Rattle.obu.specs.Unit.{isSequence}
+use Rattle.pictures.specs.Prepare.{renewed}
 use Rattle.pictures.specs.Assemble.{verdict}
 use Rattle.pictures.specs.Flat.{readable}
 use Rattle.pictures.specs.code.Rewrite.{renewedBytes, rewritten}

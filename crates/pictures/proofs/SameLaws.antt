@@ -12,10 +12,9 @@ use lib.Dec.{eqb, leb}
 use borrow.Author.Tests.{eq-eqb, ne-eqb, le-leb, not-true, not-false}
 use Rattle.bitio.specs.Parse.{Answer, refused, accepted, answer, andNext}
 use Rattle.obu.specs.Obu.{Obu, obus}
-use Rattle.obu.specs.Unit.{count, has, lastPayload, ofUnit}
+use Rattle.obu.specs.Unit.{count, has, lastPayload, ofUnit, isSequence}
 use Rattle.obu.proofs.UnitLaws.{has-count}
 use Rattle.blocks.specs.Numbers.{segmentCount, keyAt, goldenAt}
-use Rattle.pictures.specs.Prepare.{isSequence}
 use Rattle.pictures.specs.Assemble.{Outcome, stopped, made, andAlso, verdict, inSegment, sameBytes, sameHeader, sameHeaders}
 use Rattle.pictures.specs.Flat.{laterSegments}
 use Rattle.pictures.proofs.SegmentLaws.{segmentsBehind, segments-end, segments-next}

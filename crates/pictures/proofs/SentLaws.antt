@@ -8,9 +8,9 @@ use lib.Dec.{leb}
 use borrow.Author.Tests.{le-leb, not-true, not-false}
 use Rattle.bitio.specs.Parse.{Answer, refused, accepted, answer, andNext}
 use Rattle.obu.specs.Obu.{Obu, obus}
-use Rattle.obu.specs.Unit.{count, has, ofUnit}
+use Rattle.obu.specs.Unit.{count, has, ofUnit, isSequence}
 use Rattle.obu.proofs.UnitLaws.{has-count}
-use Rattle.pictures.specs.Prepare.{isSequence, sent}
+use Rattle.pictures.specs.Prepare.{sent}
 use Rattle.pictures.specs.Assemble.{verdict}
 use Rattle.pictures.specs.Flat.{readable, answerOr, sentBytes}
 use Rattle.pictures.specs.code.Rewrite.{renewedBytes, rewritten}

@@ -8,13 +8,13 @@ use lib.Dec.{eqb, ltb, leb}
 use Rattle.bitio.specs.Parse.{Answer, refused, accepted, answer, andNext}
 use Rattle.bitio.specs.Limits.{limit}
 use Rattle.obu.specs.Obu.{Obu, obus, obuBytes}
-use Rattle.obu.specs.Unit.{has, lastPayload}
+use Rattle.obu.specs.Unit.{has, lastPayload, isSequence}
 use Rattle.obu.specs.Place.{part, partIn}
 use Rattle.header.specs.Sequence.{Sequence}
 use Rattle.header.specs.Support.{supportedSequence}
 use Rattle.blocks.specs.Blocks.{listOf, cuesOf, total}
 use Rattle.pictures.specs.Segments.{Segment, framesOf, segmentsOf}
-use Rattle.pictures.specs.Prepare.{isSequence, firstOf, Settings, effective, renewal, Prepared, prepare, showUnit}
+use Rattle.pictures.specs.Prepare.{firstOf, Settings, effective, renewal, Prepared, prepare, showUnit}
 
 -- ---- answers
 

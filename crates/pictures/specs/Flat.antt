@@ -7,12 +7,12 @@ use lib.ListN.{length}
 use Rattle.bitio.specs.Parse.{Answer, refused, accepted, answer, andNext}
 use Rattle.bitio.specs.Limits.{capped}
 use Rattle.obu.specs.Obu.{Obu, obus}
-use Rattle.obu.specs.Unit.{isKind, count}
+use Rattle.obu.specs.Unit.{isKind, count, isSequence}
 use Rattle.obu.specs.declared.unit.Kind.the-variants.{Any}
 use Rattle.header.specs.Sequence.{Sequence}
 use Rattle.blocks.specs.Numbers.{records, recordsBehind}
 use Rattle.pictures.specs.Segments.{Segment, segmentIn}
-use Rattle.pictures.specs.Prepare.{isSequence, firstOf, sent, asked, Prepared}
+use Rattle.pictures.specs.Prepare.{firstOf, sent, asked, Prepared}
 use Rattle.pictures.specs.Assemble.{Outcome, made, andAlso, verdict, sameHeader, prepareAll, pictureOf}
 
 -- ---- segments

@@ -6,8 +6,7 @@ use mathlib.Core.Option.{Option, none, some}
 use lib.Dec.{eqb}
 use Rattle.bitio.specs.Parse.{Answer, refused, accepted, andNext}
 use Rattle.obu.specs.Obu.{Obu, obus, unitBytes}
-use Rattle.obu.specs.Unit.{isKind, has}
-use Rattle.obu.specs.declared.unit.Kind.the-variants.{SequenceHeader}
+use Rattle.obu.specs.Unit.{isSequence, has}
 use Rattle.header.specs.Sequence.{Sequence}
 use Rattle.header.specs.Timed.{isTimed, timedAt}
 use Rattle.emit.specs.Emit.{sequenceBytes}
@@ -18,9 +17,6 @@ use Rattle.frame.specs.declared.frame_header.FrameHeaderInfo.the-variants.{Exis
 use Rattle.pictures.specs.Segments.{Segment}
 -- gop_size, fps and fps_den, as the code has them
 pub use Rattle.pictures.specs.declared.settings.Settings.{Settings}
-
-abbrev pub isSequence : Obu → Bool
-isSequence o = isKind SequenceHeader o
 
 -- the first OBU that passes; n: there is none
 unfoldable pub firstOf : ℕ → (Obu → Bool) → List Obu → Answer Obu

@@ -12,7 +12,7 @@ use lib.Dec.{leb, ltb, eqb}
 use borrow.Author.Tests.{le-leb, lt-leb, leb-true, ltb-true, ltb-false}
 use Rattle.bitio.specs.Limits.{limit}
 use Rattle.bitio.specs.Parse.{Answer, refused, accepted, answer, onto, andNext}
-use Rattle.bitio.specs.Lent.{pasted}
+use Rattle.bitio.specs.Lent.{span, pasted}
 use Rattle.bitio.proofs.ParseLaws.{or-neither, onto-is}
 use Rattle.bitio.proofs.LentLaws.{pasted-nil, pasted-set, pasted-length}
 use Rattle.obu.specs.Place.{part, partIn}
@@ -54,7 +54,7 @@ pub record IsCut (b : List ℕ) (at : ℕ) (es : List ℕ) (us : List (List ℕ)
   pub parts : (i : ℕ) → i < length es → getD us i [] ≡ part b (getD (at ∷ es) i 0) (getD es i 0)
 
 part-is : (b : List ℕ) (at e : ℕ) → at ≤ e → e ≤ length b → take (e - at) (drop at b) ≡ part b at e
-unfolding part
+unfolding part span
 part-is b at e x y = rw (le-leb at e x, le-leb e (length b) y)
 
 is-cut : (b es : List ℕ) (at : ℕ) (us : List (List ℕ)) → at ≤ length b → unitsFrom at (drop at b) es ≡ accepted us → IsCut b at es us

@@ -7,8 +7,8 @@ use mathlib.Core.Bool.{Bool, true, false, cond as pick}
 use mathlib.Core.Option.{Option, some}
 use Rattle.bitio.specs.Parse.{Answer, refused, accepted, answer, andNext}
 use Rattle.obu.specs.Obu.{Obu, obus}
-use Rattle.obu.specs.Unit.{isKind}
-use Rattle.obu.specs.declared.unit.Kind.the-variants.{SequenceHeader}
+use Rattle.bitio.proofs.ParseLaws.{next-none}
+use Rattle.obu.specs.Unit.{isSequence}
 use Rattle.header.specs.Sequence.{Sequence, sequenceRead}
 use Rattle.header.specs.SequencePoints.{padded}
 use Rattle.header.specs.Support.{supportedSequence}
@@ -51,16 +51,11 @@ module _ (s : List ℕ) (r : SequenceRead) (p : r ≡ sequenceRead (supportedSeq
 
 -- ---- one OBU more
 
-next-none : {A : Type 0} (x : Answer A) → andNext x (λ a. accepted a) ≡ x
-unfolding andNext
-next-none (refused k) = refl
-next-none (accepted a) = refl
-
 module _ (o : Obu) (f : Kept → Answer Kept) (e : (k : Kept) → keepAs keptOf k (o ∷ []) ≡ f k) where
   keep-next : (front : List Obu) (k : Kept) → keepAs keptOf k (front ++ (o ∷ [])) ≡ andNext (keepAs keptOf k front) f
   unfolding keepAs andNext
   keep-next [] k = e k
-  keep-next (x ∷ xs) k = go (isKind SequenceHeader x) (supportedSequence (x .payload)) (keep-next xs)
+  keep-next (x ∷ xs) k = go (isSequence x) (supportedSequence (x .payload)) (keep-next xs)
     where
       go : (b : Bool) (a : Answer Sequence) → ((k : Kept) → keepAs keptOf k (xs ++ (o ∷ [])) ≡ andNext (keepAs keptOf k xs) f)
           → pick b (andNext a (λ q. keepAs keptOf (keptOf q) (xs ++ (o ∷ [])))) (keepAs keptOf k (xs ++ (o ∷ [])))
@@ -76,7 +71,7 @@ module _ (k : Kept) (front : List Obu) (o : Obu) {x : Keeping} (h : x ≡ keepin
   so-far (accepted j) b = refl
 
   -- a sequence header
-  pub turn-header : {p : List ℕ} {y : Keeping} → isKind SequenceHeader o ≡ true → p ≡ o .payload → y ≡ keeping k (andNext (headersSay (x .answer)) (λ _. headerKept p)) → y ≡ keeping k (keepAs keptOf k (front ++ (o ∷ [])))
+  pub turn-header : {p : List ℕ} {y : Keeping} → isSequence o ≡ true → p ≡ o .payload → y ≡ keeping k (andNext (headersSay (x .answer)) (λ _. headerKept p)) → y ≡ keeping k (keepAs keptOf k (front ++ (o ∷ [])))
   unfolding keepAs headerKept
   turn-header {p = p} t e g =
       g ∙ ap (λ z. keeping k (andNext (headersSay (z .answer)) (λ _. headerKept p))) h
@@ -86,7 +81,7 @@ module _ (k : Kept) (front : List Obu) (o : Obu) {x : Keeping} (h : x ≡ keepin
       one k = rw t
 
   -- any other OBU
-  pub turn-other : isKind SequenceHeader o ≡ false → x ≡ keeping k (keepAs keptOf k (front ++ (o ∷ [])))
+  pub turn-other : isSequence o ≡ false → x ≡ keeping k (keepAs keptOf k (front ++ (o ∷ [])))
   unfolding keepAs
   turn-other t = h ∙ ap (keeping k) (sym (keep-next o (λ j. accepted j) one front k ∙ next-none (keepAs keptOf k front)))
     where
@@ -98,7 +93,7 @@ module _ (k : Kept) (front : List Obu) (o : Obu) {x : Keeping} (h : x ≡ keepin
 keep-says : (os : List Obu) (k : Kept) → answer keptSays (keepAs keptOf k os) ≡ keep (keptSays k) os
 unfolding keepAs andNext
 keep-says [] k = refl
-keep-says (o ∷ os) k = go (isKind SequenceHeader o) (supportedSequence (o .payload)) refl (keep-says os)
+keep-says (o ∷ os) k = go (isSequence o) (supportedSequence (o .payload)) refl (keep-says os)
   where
     go : (b : Bool) (a : Answer Sequence) → supportedSequence (o .payload) ≡ a → ((k : Kept) → answer keptSays (keepAs keptOf k os) ≡ keep (keptSays k) os)
         → answer keptSays (pick b (andNext a (λ q. keepAs keptOf (keptOf q) os)) (keepAs keptOf k os)) ≡ pick b (andNext a (λ q. keep (some q) os)) (keep (keptSays k) os)

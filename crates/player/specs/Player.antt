@@ -8,8 +8,7 @@ use lib.Dec.{eqb}
 use Rattle.bitio.specs.Parse.{Answer, refused, accepted, andNext}
 use Rattle.bitio.specs.Limits.{led34}
 use Rattle.obu.specs.Obu.{Obu, obus}
-use Rattle.obu.specs.Unit.{isKind}
-use Rattle.obu.specs.declared.unit.Kind.the-variants.{SequenceHeader}
+use Rattle.obu.specs.Unit.{isSequence}
 use Rattle.header.specs.Sequence.{Sequence}
 use Rattle.header.specs.Support.{supportedSequence}
 use Rattle.frame.specs.Frame.{keyFrame, parseFrame}
@@ -63,7 +62,7 @@ start = record { slots = replicate 8 empty; kept = none }
 unfoldable pub keepAs : {K : Type 0} → (Sequence → K) → K → List Obu → Answer K
 keepAs f k [] = accepted k
 keepAs f k (o ∷ os) =
-    pick (isKind SequenceHeader o)
+    pick (isSequence o)
     (andNext (supportedSequence (o .payload)) (λ q. keepAs f (f q) os))
     (keepAs f k os)
 

@@ -7,6 +7,7 @@ use native.Mathlib.Omega.{arith}
 use lib.ListN.{length, getD, take, drop}
 use lib.Dec.{leb, eqb}
 use borrow.Author.Tests.{leb-true, eq-eqb, ne-eqb}
+use Rattle.bitio.specs.Lent.{span}
 use Rattle.bitio.specs.Limits.{capped}
 use Rattle.protocol.specs.Kinds.{separatorOf, refilledOf}
 use Rattle.protocol.specs.Marked.{isClean}
@@ -32,7 +33,7 @@ inside a e n = go (leb a e) refl (leb e n) refl
 
 module _ (a : Line) (s es : List ℕ) (i : ℕ) {x y : ℕ} (p : x ≡ partStart a es i) (q : y ≡ partEnd a es i) where
   pub part-inside : leb x y && leb y (length s) ≡ true → bytesText (take (y - x) (drop x s)) ≡ partText a s es i
-  unfolding partText
+  unfolding partText span
   part-inside h = rw (← p, ← q, h)
 
   pub part-outside : leb x y && leb y (length s) ≡ false → dirtyText ≡ partText a s es i

@@ -2,9 +2,10 @@
 use Prim.Native.Nat.{ℕ, zero, suc, _+_, _-_, _%_, _^_}
 use mathlib.Core.List.{List, [], _∷_, _++_}
 use mathlib.Core.Bool.{Bool, _&&_, _||_, cond as pick}
-use lib.ListN.{length, take, drop, getD}
+use lib.ListN.{length, getD}
 use lib.Dec.{leb, ltb, eqb}
 use Rattle.bitio.specs.Limits.{capped}
+use Rattle.bitio.specs.Lent.{span}
 use Rattle.protocol.specs.Kinds.{bytesKind, numberKind, optionalByteKind, noByte, countKind, namedKind, refusedKind, toldKind, negativeKind, slotsKind, any, separatorOf, refilledOf, restOf}
 use Rattle.protocol.specs.Marked.{isClean}
 use Rattle.protocol.specs.Text.{ascii}
@@ -28,7 +29,7 @@ abbrev pub partStart : Line → List ℕ → ℕ → ℕ
 partStart a es i = pick (eqb i 0) 0 (partEnd a es (i - 1))
 
 abbrev pub rangeText : List ℕ → ℕ → ℕ → List ℕ
-rangeText s a e = pick (leb a e && leb e (length s)) (bytesText (take (e - a) (drop a s))) dirtyText
+rangeText s a e = pick (leb a e && leb e (length s)) (bytesText (span s a e)) dirtyText
 
 -- part i in hexadecimal
 unfoldable pub partText : Line → List ℕ → List ℕ → ℕ → List ℕ

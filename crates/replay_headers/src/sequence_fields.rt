@@ -1,6 +1,6 @@
 // A sequence header's fields, in the protocol's order.
 ghost use mathlib.Core.Path.{_≡_};
-ghost use Prim.Native.Nat.{_+_, min};
+ghost use Prim.Native.Nat.{_+_};
 ghost use lib.ListN.{take};
 ghost use Rattle.header.specs.Sequence.{sequenceOf};
 ghost use Rattle.protocol.specs.Answers.{partsOf, numbered, withNumbers};
@@ -18,6 +18,7 @@ use header::seq_header::ScreenTools;
 use header::seq_header::SequenceHeader;
 use header::seq_header::TimingInfo;
 use header::seq_header::Tools;
+use header::seq_header::read_points::points_in;
 use protocol::answer::Answer;
 use protocol::answer::done;
 
@@ -235,13 +236,6 @@ fn put_point(x: OperatingPoint, so_far: Answer, numbers: &mut [u64]) -> Answer
         x.initial_display_delay_minus_1,
     ];
     so_far.list(&fields, numbers)
-}
-
-// How many of the array's 32 are operating points.
-fn points_in(more: u64) -> usize
-    ensures { λ r. ⌜ r ≡ min (more + 1) 32 ⌝ }
-{
-    if more < 32 { more as usize + 1 } else { 32 }
 }
 
 fn put_points(

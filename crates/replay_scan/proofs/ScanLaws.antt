@@ -8,6 +8,7 @@ use lib.ListN.{length, getD, drop, drop-of-length-le}
 use lib.Seq.{drop-cons}
 use Rattle.bitio.specs.Parse.{Answer, refused, accepted, andNext}
 use Rattle.bitio.specs.Limits.{limited}
+use Rattle.bitio.proofs.ParseLaws.{next-none}
 use Rattle.obu.specs.Place.{partIn}
 use Rattle.header.specs.Sequence.{Sequence, parseSequence}
 use Rattle.geometry.specs.declared.slots.RefSlot.{RefSlot}
@@ -68,11 +69,6 @@ module _ (q s es : List ℕ) where
 
 -- ---- the whole
 
-again : {A : Type 0} (x : Answer A) → andNext x (λ a. accepted a) ≡ x
-unfolding andNext
-again (refused k) = refl
-again (accepted a) = refl
-
 module _ (s es ns q : List ℕ) (first : q ≡ partIn s es 0) where
   pub scan-told : (slots : List RefSlot) (d : Line) (x : Sequence) {t : Numbered} → slots ≡ emptySlots → d ≡ partsOf 0 0 → limited q (parseSequence q) ≡ accepted x
       → t ≡ withNumbers (numbered d ns) (framesFields q s es slots 1 (drop 1 es)) → t ≡ scanTold s es ns
@@ -83,4 +79,4 @@ module _ (s es ns q : List ℕ) (first : q ≡ partIn s es 0) where
 
   pub scan-refused : (r : Line) (k : ℕ) → refused k ≡ limited q (andNext (parseSequence q) (λ x. accepted x)) → r ≡ refusedWith k → numbered r ns ≡ scanTold s es ns
   scan-refused r k h e =
-      refuses _ _ ns k e (ap (λ y. limited y (parseSequence y)) (sym first) ∙ ap (limited q) (sym (again (parseSequence q))) ∙ sym h)
+      refuses _ _ ns k e (ap (λ y. limited y (parseSequence y)) (sym first) ∙ ap (limited q) (sym (next-none (parseSequence q))) ∙ sym h)

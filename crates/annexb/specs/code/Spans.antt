@@ -1,7 +1,7 @@
 -- Parts of lent bytes by position, as the functions of Annex B find them.
 use Prim.Native.Nat.{ℕ, _-_}
 use mathlib.Core.List.{List, []}
-use lib.ListN.{length, take, drop}
+use lib.ListN.{length}
 use Rattle.bitio.specs.Parse.{Answer, Head, stop, item, before}
 use Rattle.obu.specs.Obu.{Obu}
 use Rattle.obu.specs.Place.{Place, wrong, lies, extensionSays}
@@ -9,10 +9,6 @@ use Rattle.annexb.specs.declared.annexb.part.PartAt.{PartAt}
 use Rattle.annexb.specs.declared.annexb.part.PartAt.the-variants.{Part, Refused as PartRefused}
 use Rattle.annexb.specs.declared.annexb.part.InnerAt.{InnerAt}
 use Rattle.annexb.specs.declared.annexb.part.InnerAt.the-variants.{Found, Refused as InnerRefused}
-
--- the bytes from a to e
-unfoldable pub span : List ℕ → ℕ → ℕ → List ℕ
-span s a e = take (e - a) (drop a s)
 
 -- a refusal, or where a part starts and ends
 pub data Spot : Type 0 where

@@ -1,6 +1,6 @@
 // The sections of a frame header (AV1 5.9.2) up to refresh_frame_flags.
 ghost use mathlib.Core.Path.{_≡_};
-ghost use Prim.Native.Nat.{_+_, _≤_, min};
+ghost use Prim.Native.Nat.{_+_, _≤_};
 ghost use lib.ListN.{take};
 ghost use Rattle.syntax.specs.code.Cursor.{follow, here};
 ghost use Rattle.header.specs.Sequence.{sequenceOf};
@@ -19,6 +19,7 @@ use header::seq_header::DecoderModelInfo;
 use header::seq_header::Opening;
 use header::seq_header::OperatingPoint;
 use header::seq_header::SequenceHeader;
+use header::seq_header::read_points::points_in;
 use syntax::choice::either;
 use syntax::cursor::Cursor;
 use syntax::cursor::Got;
@@ -46,13 +47,6 @@ pub(crate) fn has_point_info(o: Opening) -> bool
     ensures { λ r. ⌜ r ≡ hasPointInfo o ⌝ }
 {
     o.model.decoder_model_info_present & !o.timing.equal_picture_interval
-}
-
-// How many of the array's 32 are operating points.
-fn points_in(more: u64) -> usize
-    ensures { λ r. ⌜ r ≡ min (more + 1) 32 ⌝ }
-{
-    if more < 31 { more as usize + 1 } else { 32 }
 }
 
 // Whether a frame refreshes all slots and is error resilient without a bit.

@@ -1,6 +1,6 @@
 // Reading the operating points of a sequence header (AV1 5.5.1).
 ghost use mathlib.Core.Path.{_≡_};
-ghost use Prim.Native.Nat.{_≤_};
+ghost use Prim.Native.Nat.{_+_, _≤_, min};
 ghost use lib.ListN.{replicate};
 ghost use Rattle.header.specs.SequencePoints.{operatingPoint, operatingPoints, delayBits, pointCount, noPoint};
 ghost use Rattle.header.specs.code.ReadSays.{pointSays, pointFrom, pointsRead};
@@ -120,6 +120,13 @@ pub fn no_point() -> OperatingPoint
         initial_display_delay_present: false,
         initial_display_delay_minus_1: 0,
     }
+}
+
+// How many of the array's 32 are operating points.
+pub fn points_in(more: u64) -> usize
+    ensures { λ r. ⌜ r ≡ min (more + 1) 32 ⌝ }
+{
+    if more < 31 { more as usize + 1 } else { 32 }
 }
 
 pub(crate) fn no_points() -> [OperatingPoint; 32]

@@ -1,3 +1,4 @@
+use Rattle.bitio.specs.Lent.{span}
 use Rattle.obu.specs.Place.{part}
 use borrow.Author.Tests.{le-leb, lt-leb}
 use borrow.Author.Needs.{needs}
@@ -5,15 +6,15 @@ use Rattle.obu.proofs.reader.payload.Statement.{statement}
 use Rattle.obu.proofs.reader.payload.Tie as tie
 
 returns : tie.Need-returns
-unfolding part
+unfolding part span
 returns c = simp (le-leb _ _ (c .before .before .if1 .taken), le-leb _ _ (c .before .if2 .taken))
 
 returns-2 : tie.Need-returns-2
-unfolding part
+unfolding part span
 returns-2 c = simp (le-leb _ _ (c .before .before .if1 .taken), lt-leb _ _ (c .before .if2 .left))
 
 returns-3 : tie.Need-returns-3
-unfolding part
+unfolding part span
 returns-3 c = simp (lt-leb _ _ (c .before .if1 .left))
 
 pub payload-spec : {M : Type 1} → statement M

@@ -10,8 +10,7 @@ use Rattle.bitio.specs.Parse.{accepted, answer}
 use Rattle.bitio.specs.Lent.{pasted}
 use Rattle.bitio.proofs.LentLaws.{pasted-nil}
 use Rattle.obu.specs.Obu.{obus}
-use Rattle.obu.specs.Unit.{count, countedSays}
-use Rattle.pictures.specs.Prepare.{isSequence}
+use Rattle.obu.specs.Unit.{count, countedSays, isSequence}
 use Rattle.pictures.specs.Flat.{readable, sentBytes}
 use Rattle.pictures.specs.code.Rewrite.{rewritten}
 use Rattle.pictures.proofs.SentLaws.{sent-plain, sent-refused, sent-copied, sent-rewritten}

@@ -7,7 +7,7 @@ use denote.Ref.{now}
 use Rattle.obu.specs.Obu.{Obu, obuBytes}
 use Rattle.obu.specs.Write.{obu}
 use Rattle.obu.proofs.LengthLaws.{obu-length}
-use Rattle.pictures.specs.Prepare.{isSequence}
+use Rattle.obu.specs.Unit.{isSequence}
 use Rattle.pictures.specs.code.Rewrite.{obuIn}
 use Rattle.pictures.proofs.RewriteLaws.{renewed-some, renewed-none}
 use Rattle.pictures.proofs.rewrite.renewed_len.Statement.{statement}

@@ -8,8 +8,7 @@ use denote.Ref.{now}
 use Rattle.bitio.specs.Parse.{accepted, answer}
 use Rattle.bitio.specs.Limits.{capped}
 use Rattle.obu.specs.Obu.{obus}
-use Rattle.obu.specs.Unit.{count, countedSays}
-use Rattle.pictures.specs.Prepare.{isSequence}
+use Rattle.obu.specs.Unit.{count, countedSays, isSequence}
 use Rattle.pictures.proofs.SentLaws.{sent-plain, sent-refused, sent-copied, sent-rewritten}
 use Rattle.pictures.proofs.rewrite.sent_len.Statement.{statement}
 use Rattle.pictures.proofs.rewrite.sent_len.Tie as tie

@@ -9,7 +9,7 @@ use lib.ListN.{length}
 use Rattle.bitio.specs.Parse.{andNext}
 use Rattle.obu.specs.Obu.{Obu}
 use Rattle.obu.specs.Place.{obuSays, extensionSays}
-use Rattle.obu.specs.Unit.{isType, isKind}
+use Rattle.obu.specs.Unit.{isType, isSequence}
 use Rattle.obu.specs.declared.unit.Kind.the-variants.{SequenceHeader}
 use Rattle.obu.proofs.PlaceLaws.{IsPlaced, is-placed, at-end, Walked, walk-start, walk-next, walk-end, walk-stop, not-found, part-placed}
 use Rattle.player.specs.Player.{keepAs}
@@ -50,7 +50,7 @@ loop-again c =
     let l = b .before .before .before .before .loop in
     let g = got b in
     let front = l .inv .0 in
-    let t : isKind SequenceHeader (g .obu) ≡ true = ap (isType SequenceHeader) (g .type) ∙ sym (c .before .before .before .is-type .ensures) ∙ c .before .before .if1 .taken in
+    let t : isSequence (g .obu) ≡ true = ap (isType SequenceHeader) (g .type) ∙ sym (c .before .before .before .is-type .ensures) ∙ c .before .before .if1 .taken in
     (front ++ (g .obu ∷ []), walk-next (l .inv .1) (g .placed), turn-header _ front (g .obu) (l .inv .2) t (c .before .payload .ensures ∙ part-placed (g .placed)) (c .keep-header .ensures))
 
 loop-less-2 : tie.Need-loop-less-2 Inv-loop μ-loop
@@ -62,7 +62,7 @@ loop-again-2 c =
     let l = b .before .before .before .before .loop in
     let g = got b in
     let front = l .inv .0 in
-    let t : isKind SequenceHeader (g .obu) ≡ false = ap (isType SequenceHeader) (g .type) ∙ sym (c .before .is-type .ensures) ∙ c .if1 .left in
+    let t : isSequence (g .obu) ≡ false = ap (isType SequenceHeader) (g .type) ∙ sym (c .before .is-type .ensures) ∙ c .if1 .left in
     (front ++ (g .obu ∷ []), walk-next (l .inv .1) (g .placed), turn-other _ front (g .obu) (l .inv .2) t)
 
 returns-2 : tie.Need-returns-2 Inv-loop μ-loop

@@ -6,8 +6,8 @@ use Prim.Native.Nat.{ℕ, _+_, _-_, _*_, _≤_}
 use denote.Ref.{now}
 use lib.ListN.{length, getD}
 use Rattle.bitio.specs.Parse.{accepted}
+use Rattle.bitio.specs.Lent.{span}
 use Rattle.container.specs.Units.{byteCountSays}
-use Rattle.annexb.specs.code.Spans.{span}
 use Rattle.annexb.specs.code.Join.{atMost, framedLength}
 use Rattle.annexb.proofs.SpanLaws.{span-length}
 use Rattle.annexb.proofs.JoinLaws.{counts, Totalling, totalling-start, totalling-good, totalling-next, totalling-stop, totalling-end, unit-few}

@@ -9,8 +9,8 @@ use Rattle.bitio.specs.Parse.{accepted, answer, item, many}
 use Rattle.obu.specs.Obu.{Obu, unitBytes}
 use Rattle.container.specs.Stream.{flat}
 use Rattle.container.specs.AnnexB.{frameUnit, temporalUnit}
-use Rattle.annexb.specs.code.Spans.{span, partSays}
-use Rattle.bitio.specs.Lent.{Wrote}
+use Rattle.annexb.specs.code.Spans.{partSays}
+use Rattle.bitio.specs.Lent.{span, Wrote}
 use Rattle.bitio.specs.Limits.{limit}
 use Rattle.container.proofs.AnnexBLaws.{temporal-shrinks}
 use Rattle.annexb.proofs.PartLaws.{IsPart, is-part, not-part}

@@ -5,9 +5,10 @@ use Prim.Native.Nat.{_-_}
 use denote.Ref.{now}
 use mathlib.Core.List.{List}
 use Rattle.bitio.specs.Parse.{accepted, item, many}
+use Rattle.bitio.specs.Lent.{span}
 use Rattle.obu.specs.Obu.{Obu, unitBytes}
 use Rattle.container.specs.AnnexB.{lengthObu, frameUnit}
-use Rattle.annexb.specs.code.Spans.{span, partSays}
+use Rattle.annexb.specs.code.Spans.{partSays}
 use Rattle.container.proofs.AnnexBLaws.{frame-shrinks}
 use Rattle.annexb.proofs.PartLaws.{IsPart, is-part, not-part}
 use Rattle.annexb.proofs.FillLaws.{Walk, Whole, walk-start, walk-room, walk-next, walk-stop, walk-held, walk-end, whole-unit, unit-held, held-is, frame-at, frame-stop}

@@ -2,8 +2,8 @@ use borrow.Author.Needs.{needs}
 use mathlib.Core.Path.{sym, ap, _∙_}
 use Prim.Native.Nat.{_+_}
 use denote.Ref.{now}
+use Rattle.bitio.specs.Lent.{span}
 use Rattle.obu.proofs.LengthLaws.{obu-length}
-use Rattle.annexb.specs.code.Spans.{span}
 use Rattle.annexb.proofs.SpanLaws.{span-length}
 use Rattle.annexb.proofs.annexb.fill.put_inner.Statement.{statement}
 use Rattle.annexb.proofs.annexb.fill.put_inner.Tie as tie

@@ -5,7 +5,7 @@ use Prim.Native.Nat.{_+_, _≤_}
 use denote.Ref.{now}
 use Rattle.bitio.specs.Leb.{readLeb, lebThen}
 use Rattle.bitio.proofs.LebLaws.{is-bad}
-use Rattle.annexb.specs.code.Spans.{span}
+use Rattle.bitio.specs.Lent.{span}
 use Rattle.annexb.proofs.PartLaws.{number-at, part-none, part-over, part-got}
 use Rattle.annexb.proofs.annexb.part.part_at.Statement.{statement}
 use Rattle.annexb.proofs.annexb.part.part_at.Tie as tie

@@ -7,8 +7,7 @@ use lib.ListN.{length}
 use Rattle.bitio.specs.Leb.{lebBytes}
 use Rattle.obu.specs.Place.{extensionSays}
 use Rattle.obu.proofs.ObuLaws.{passes-small}
-use Rattle.annexb.specs.code.Spans.{span}
-use Rattle.bitio.specs.Lent.{Wrote}
+use Rattle.bitio.specs.Lent.{span, Wrote}
 use Rattle.annexb.specs.code.Join.{innerLength}
 use Rattle.annexb.proofs.SpanLaws.{span-length}
 use Rattle.annexb.proofs.JoinLaws.{inner-laid}

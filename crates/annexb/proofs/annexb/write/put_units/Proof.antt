@@ -3,7 +3,7 @@ use native.Mathlib.Omega.{arith}
 use Prim.Native.Nat.{ℕ, _-_, _≤_}
 use denote.Ref.{now}
 use lib.ListN.{length, getD}
-use Rattle.annexb.specs.code.Spans.{span}
+use Rattle.bitio.specs.Lent.{span}
 use Rattle.annexb.proofs.SpanLaws.{span-length}
 use Rattle.annexb.proofs.JoinLaws.{Putted, putted-start, putted-good, putted-unit, putted-next, putted-end}
 use Rattle.annexb.proofs.annexb.write.put_units.Statement.{statement}
