@@ -28,7 +28,7 @@ use Rattle.params.specs.LoopFilter.{loopFilterParams}
 use Rattle.params.specs.Cdef.{strengths, cdefParams}
 use Rattle.params.specs.Restoration.{lrParams}
 use Rattle.params.specs.SkipMode.{isBefore, isAfter, nearer, forward, skipModeAllowed, skipModeParams}
-use Rattle.params.specs.Motion.{decodeSubexp, readGlobalParam, motion, globalMotionParams}
+use Rattle.params.specs.Motion.{decodeSubexp, readGlobalParam, gmParams, motion, globalMotionParams}
 use Rattle.uheader.specs.Shape.{refOrderHints, motionModes, frameShape}
 use Rattle.uheader.specs.Tail.{filterParams, motionParams, frameTail}
 use Rattle.uheader.specs.Scan.{scannable, scanFront, scanRest, scanBy, scanHeader, scanPayloads}
@@ -37,5 +37,5 @@ use Rattle.cases.specs.Cases.{check}
 use Rattle.cases.specs.ScanRows.{scanRows}
 
 pub scanCases : check scanRows ≡ true
-unfolding check sameBytes andNext limited readBits bitsWithin bitsAt bitAt halvings leadingZeros uvlcSuffix uvlc run repeat whilst times ns readFlag readOr flagOr uvlcOr timingInfo decoderModelInfo opening operatingPoint operatingPoints frameSize frameIds codingTools screenTools filters colorDescription colorSampling coding sequenceHeader parseSequence frameStart frameModes frameFront removalTimes bufferRemoval refreshFlags refresh refFrameIdx frameRefs size.superresParams size.frameSize size.renderSize size.frameAndRenderSize size.foundRef size.frameSizeWithRefs size.frameGeometry doublings limitsFor tileLimits increment increments tileSize tileSizes uniformTiles explicitTiles tileLogs tileInfo readDeltaQ quantizationParams feature segment segments segmentationParams deltaQParams deltaLfParams noDelta codedLossless loopFilterParams strengths cdefParams lrParams isBefore isAfter nearer forward skipModeAllowed skipModeParams decodeSubexp readGlobalParam motion globalMotionParams refOrderHints motionModes frameShape filterParams motionParams frameTail scannable scanFront scanRest scanBy scanHeader scanPayloads
+unfolding check sameBytes andNext limited readBits bitsWithin bitsAt bitAt halvings leadingZeros uvlcSuffix uvlc run repeat whilst times ns readFlag readOr flagOr uvlcOr timingInfo decoderModelInfo opening operatingPoint operatingPoints frameSize frameIds codingTools screenTools filters colorDescription colorSampling coding sequenceHeader parseSequence frameStart frameModes frameFront removalTimes bufferRemoval refreshFlags refresh refFrameIdx frameRefs size.superresParams size.frameSize size.renderSize size.frameAndRenderSize size.foundRef size.frameSizeWithRefs size.frameGeometry doublings limitsFor tileLimits increment increments tileSize tileSizes uniformTiles explicitTiles tileLogs tileInfo readDeltaQ quantizationParams feature segment segments segmentationParams deltaQParams deltaLfParams noDelta codedLossless loopFilterParams strengths cdefParams lrParams isBefore isAfter nearer forward skipModeAllowed skipModeParams decodeSubexp readGlobalParam gmParams motion globalMotionParams refOrderHints motionModes frameShape filterParams motionParams frameTail scannable scanFront scanRest scanBy scanHeader scanPayloads
 scanCases = refl

@@ -33,19 +33,25 @@ readGlobalParam on n = branch on (decodeSubexp 16 n 0 0) readOver (λ v. done v)
 abbrev pub numbers : ℕ → ℕ
 numbers bits = 2 * 2 ^ bits + 1
 
--- a reference's parameters. fine: allow_high_precision_mv. GM_ABS_ALPHA_BITS and GM_ABS_TRANS_BITS are 12, GM_ABS_TRANS_ONLY_BITS is 9
+-- the parameters of a reference that has motion. fine: allow_high_precision_mv. GM_ABS_ALPHA_BITS and GM_ABS_TRANS_BITS are 12,
+-- GM_ABS_TRANS_ONLY_BITS is 9
+unfoldable pub gmParams : Bool → Syntax ℕ
+gmParams fine =
+    field true 1 (λ rot-zoom.
+    field (not (eqb rot-zoom 1)) 1 (λ translation.
+    sub (readGlobalParam (not (eqb translation 1)) (numbers 12)) (λ p2.
+    sub (readGlobalParam (not (eqb translation 1)) (numbers 12)) (λ p3.
+    sub (readGlobalParam (not (eqb rot-zoom 1 || eqb translation 1)) (numbers 12)) (λ p4.
+    sub (readGlobalParam (not (eqb rot-zoom 1 || eqb translation 1)) (numbers 12)) (λ p5.
+    sub (readGlobalParam true (pick (eqb translation 1) (pick fine (numbers 9) (numbers 8)) (numbers 12))) (λ p0.
+    sub (readGlobalParam true (pick (eqb translation 1) (pick fine (numbers 9) (numbers 8)) (numbers 12))) (λ p1.
+    readOver))))))))
+
+-- a reference: is_global, and its parameters where it is 1
 unfoldable pub motion : Bool → Syntax ℕ
 motion fine =
     field true 1 (λ global.
-    field (eqb global 1) 1 (λ rot-zoom.
-    field (eqb global 1 && not (eqb rot-zoom 1)) 1 (λ translation.
-    sub (readGlobalParam (eqb global 1 && not (eqb translation 1)) (numbers 12)) (λ p2.
-    sub (readGlobalParam (eqb global 1 && not (eqb translation 1)) (numbers 12)) (λ p3.
-    sub (readGlobalParam (eqb global 1 && not (eqb rot-zoom 1 || eqb translation 1)) (numbers 12)) (λ p4.
-    sub (readGlobalParam (eqb global 1 && not (eqb rot-zoom 1 || eqb translation 1)) (numbers 12)) (λ p5.
-    sub (readGlobalParam (eqb global 1) (pick (eqb translation 1) (pick fine (numbers 9) (numbers 8)) (numbers 12))) (λ p0.
-    sub (readGlobalParam (eqb global 1) (pick (eqb translation 1) (pick fine (numbers 9) (numbers 8)) (numbers 12))) (λ p1.
-    readOver)))))))))
+    branch (eqb global 1) (gmParams fine) readOver (λ v. done v))
 
 -- AV1 5.9.24. on: the frame is no intra frame
 unfoldable pub globalMotionParams : Bool → Bool → Syntax ℕ

@@ -10,6 +10,14 @@ use syntax::cursor::Cursor;
 use syntax::cursor::Got;
 use syntax::near;
 
+// How many numbers lie from - 2^bits to 2^bits: GM_ABS_ALPHA_BITS and GM_ABS_TRANS_BITS are 12, GM_ABS_TRANS_ONLY_BITS is 9,
+// one less without allow_high_precision_mv.
+const NUMBERS_12: u64 = 8193;
+
+const NUMBERS_9: u64 = 1025;
+
+const NUMBERS_8: u64 = 513;
+
 // decode_subexp (AV1 5.9.28).
 fn decode_subexp(c: Cursor, s: &[u8], n: u64) -> Got
     requires { ⌜ (1 ≤ n) × (n ≤ 16384) ⌝ }
@@ -55,24 +63,38 @@ fn read_global_param(c: Cursor, s: &[u8], on: bool, n: u64) -> Got
     Got { v: 0, at: c }
 }
 
-// One reference. fine: allow_high_precision_mv.
+// The parameters of a reference that has motion. fine: allow_high_precision_mv.
+fn gm_params(c: Cursor, s: &[u8], fine: bool) -> Got
+    ensures { λ r. ⌜ here (r .v) (r .at) ≡ follow (spec.gmParams fine) (now (s .entry)) c ⌝ }
+{
+    let rot_zoom = c.f(s, 1);
+    let is_rot_zoom = rot_zoom.v == 1;
+    let translation = rot_zoom.at.f_if(s, !is_rot_zoom, 1);
+    let is_translation = translation.v == 1;
+    let p2 = read_global_param(translation.at, s, !is_translation, NUMBERS_12);
+    let p3 = read_global_param(p2.at, s, !is_translation, NUMBERS_12);
+    let p4 = read_global_param(p3.at, s, !(is_rot_zoom | is_translation), NUMBERS_12);
+    let p5 = read_global_param(p4.at, s, !(is_rot_zoom | is_translation), NUMBERS_12);
+    let n = either(
+        is_translation,
+        either(fine, NUMBERS_9, NUMBERS_8),
+        NUMBERS_12,
+    );
+    let p0 = read_global_param(p5.at, s, true, n);
+    let p1 = read_global_param(p0.at, s, true, n);
+    let at = p1.at;
+    Got { v: 0, at }
+}
+
+// One reference.
 fn motion(c: Cursor, s: &[u8], fine: bool) -> Got
     ensures { λ r. ⌜ here (r .v) (r .at) ≡ follow (spec.motion fine) (now (s .entry)) c ⌝ }
 {
     let global = c.f(s, 1);
-    let is_global = global.v == 1;
-    let rot_zoom = global.at.f_if(s, is_global, 1);
-    let is_rot_zoom = rot_zoom.v == 1;
-    let translation = rot_zoom.at.f_if(s, is_global & !is_rot_zoom, 1);
-    let is_translation = translation.v == 1;
-    let p2 = read_global_param(translation.at, s, is_global & !is_translation, 8193);
-    let p3 = read_global_param(p2.at, s, is_global & !is_translation, 8193);
-    let p4 = read_global_param(p3.at, s, is_global & !(is_rot_zoom | is_translation), 8193);
-    let p5 = read_global_param(p4.at, s, is_global & !(is_rot_zoom | is_translation), 8193);
-    let n = either(is_translation, either(fine, 1025, 513), 8193);
-    let p0 = read_global_param(p5.at, s, is_global, n);
-    let p1 = read_global_param(p0.at, s, is_global, n);
-    let at = p1.at;
+    if global.v == 1 {
+        return gm_params(global.at, s, fine);
+    }
+    let at = global.at;
     Got { v: 0, at }
 }
 

@@ -1,5 +1,7 @@
-use borrow.Author.Needs.{needs}
 use denote.Ref.{now}
+use mathlib.Core.Path.{sym}
+use borrow.Author.Tests.{eq-eqb, ne-eqb}
+use Rattle.syntax.specs.code.Cursor.{follow}
 use Rattle.params.specs.Motion.{motion}
 use Rattle.syntax.proofs.LinkLaws.{got, read, took, whole}
 use Rattle.params.proofs.motion.motion.Statement.{statement}
@@ -8,34 +10,21 @@ use Rattle.params.proofs.motion.motion.Tie as tie
 returns : tie.Need-returns
 unfolding motion
 returns c =
-    let a = c .before .before .before .before .before .before .before .before .before .before .before .before .before .before .before .before .args in
+    let a = c .before .before .before .before .before .args in
     whole (motion (a .fine)) (now (a .s)) (a .c) (λ w x.
-    let x = got x (c .before .before .before .before .before .before .before .before .before .before .before .before .before .before .f .ensures .0) in
-    let x = got x (c .before .before .before .before .before .before .before .before .before .before .before .before .f-if .ensures .0) in
-    let x = got x (c .before .before .before .before .before .before .before .before .before .before .f-if2 .ensures .0) in
-    let x = took x (c .before .before .before .before .before .before .before .before .read-global-param .ensures) in
-    let x = took x (c .before .before .before .before .before .before .before .read-global-param2 .ensures) in
-    let x = took x (c .before .before .before .before .before .before .read-global-param3 .ensures) in
-    let x = took x (c .before .before .before .before .before .read-global-param4 .ensures) in
-    let x = rw (← c .before .before .before .before .either .ensures .0) at x in
-    let x = rw (← c .before .before .before .either2 .ensures .0) at x in
-    let x = took x (c .before .before .read-global-param5 .ensures) in
-    let x = took x (c .before .read-global-param6 .ensures) in
+    let x = got x (c .before .before .before .f .ensures .0) in
+    let x = rw (eq-eqb _ 1 (c .before .if1 .taken)) at x in
+    let x = took x (c .gm-params .ensures) in
     read x)
 
+returns-2 : tie.Need-returns-2
+unfolding motion follow
+returns-2 c =
+    let a = c .before .before .before .before .before .args in
+    whole (motion (a .fine)) (now (a .s)) (a .c) (λ w x.
+    let x = got x (c .before .before .before .f .ensures .0) in
+    let x = rw (ne-eqb _ 1 (c .before .if1 .left)) at x in
+    sym (x .same))
+
 pub motion-spec : {M : Type 1} → statement M
-motion-spec =
-    tie.close
-    (tie.spec
-    _
-    _
-    _
-    (λ c κs. search needs)
-    (λ c κs. search needs)
-    (λ c κs. search needs)
-    (λ c κs. search needs)
-    _
-    _
-    (λ c κs. search needs)
-    (λ c κs. search needs)
-    returns)
+motion-spec = tie.close (tie.spec _ _ returns returns-2)
