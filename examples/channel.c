@@ -92,10 +92,40 @@ static size_t growth(struct bytes unit) {
     return more;
 }
 
-static void print_unit(size_t position, uint32_t entry, int slot, size_t len, double seconds) {
-    printf("%zu %c %u ", position, "KGS"[entry % 4], entry / 4);
-    if (entry % 4) printf("%d %zu\n", slot, len);
-    else printf("- %zu %.3f\n", len, seconds);
+// What assembly has made, in the memory lent to it.
+struct made {
+    size_t units, cues;
+    uint32_t *list, *ends;
+    uint8_t *pictures, *shows;
+};
+
+static struct bytes unit_of(const struct made *m, uint32_t entry) {
+    size_t k = 2 * (entry / 4) + entry % 4, start = k ? m->ends[k - 1] : 0;
+    if (entry % 4 == 2) return (struct bytes){m->shows + 5 * (entry / 4), 5};
+    return (struct bytes){m->pictures + start, m->ends[k] - start};
+}
+
+// The whole file before the listing: who stops reading the listing still has the channel.
+static void write_units(const struct made *m, const char *name) {
+    FILE *out = fopen(name, "wb");
+    if (!out) fail("%s: cannot be written", name);
+    for (size_t i = 0; i < m->units; i++) {
+        struct bytes unit = unit_of(m, m->list[i]);
+        if (fwrite(unit.at, 1, unit.len, out) != unit.len) fail("%s: cannot be written", name);
+    }
+    if (fclose(out)) fail("%s: cannot be written", name);
+}
+
+// seconds: how long a frame is shown
+static void print_units(const struct made *m, double seconds) {
+    printf("units %zu\ncues %zu\n", m->units, m->cues);
+    for (size_t i = 0; i < m->units; i++) {
+        uint32_t entry = m->list[i];
+        size_t len = unit_of(m, entry).len;
+        printf("%zu %c %u ", i + 1, "KGS"[entry % 4], entry / 4);
+        if (entry % 4) printf("%d %zu\n", m->shows[5 * (entry / 4) + 4] >> 4 & 7, len);
+        else printf("- %zu %.3f\n", len, (double)i * seconds);
+    }
 }
 
 static void assemble(struct board *boards, size_t n, uint64_t gop, uint32_t fps, uint32_t den, const char *name) {
@@ -116,25 +146,20 @@ static void assemble(struct board *boards, size_t n, uint64_t gop, uint32_t fps,
     }
     // Over 5,000,000 frames are refused, so that no more room is ever needed.
     size_t most = frames < 5000000 ? frames : 5000000, cue_room = (gop ? most / gop : most) + n;
-    size_t room = picture.len + grown, header_room = picture.len + 408, units, cues, bytes, header_len;
-    uint32_t *list = memory(most, sizeof *list), *cue = memory(cue_room, sizeof *cue), *ends = memory(2 * n, sizeof *ends);
-    uint8_t *pictures = memory(room, 1), *shows = memory(5 * n, 1), *header = memory(header_room, 1);
-    uint64_t slot, answer = magbelo_assemble(picture.at, picture.len, segments, 5 * n, gop, fps, den, list, most, cue, cue_room,
-                                             pictures, room, ends, 2 * n, shows, 5 * n, header, header_room, &units, &cues,
-                                             &bytes, &header_len, &slot);
+    size_t room = picture.len + grown, header_room = picture.len + 408, bytes, header_len;
+    uint32_t *cue = memory(cue_room, sizeof *cue);
+    uint8_t *header = memory(header_room, 1);
+    struct made m = {
+        .list = memory(most, sizeof *m.list), .ends = memory(2 * n, sizeof *m.ends),
+        .pictures = memory(room, 1), .shows = memory(5 * n, 1),
+    };
+    uint64_t slot, answer = magbelo_assemble(picture.at, picture.len, segments, 5 * n, gop, fps, den, m.list, most, cue, cue_room,
+                                             m.pictures, room, m.ends, 2 * n, m.shows, 5 * n, header, header_room, &m.units,
+                                             &m.cues, &bytes, &header_len, &slot);
     if (answer) refuse(answer & 0xffffffff, answer >> 32 ? boards[(answer >> 32) - 1].file : NULL);
-    FILE *out = fopen(name, "wb");
-    if (!out) fail("%s: cannot be written", name);
-    printf("units %zu\ncues %zu\n", units, cues);
-    for (size_t i = 0; i < units; i++) {
-        size_t segment = list[i] / 4, kind = list[i] % 4, k = 2 * segment + kind;
-        const uint8_t *show = shows + 5 * segment, *at = kind == 2 ? show : pictures + (k ? ends[k - 1] : 0);
-        size_t len = kind == 2 ? 5 : ends[k] - (k ? ends[k - 1] : 0);
-        if (fwrite(at, 1, len, out) != len) fail("%s: cannot be written", name);
-        print_unit(i + 1, list[i], show[4] >> 4 & 7, len, (double)i * (den ? den : 1) / (fps ? fps : 1));
-    }
-    if (fclose(out)) fail("%s: cannot be written", name);
-    void *lent[] = {picture.at, segments, list, cue, ends, pictures, shows, header};
+    write_units(&m, name);
+    print_units(&m, (double)(den ? den : 1) / (fps ? fps : 1));
+    void *lent[] = {picture.at, segments, m.list, cue, m.ends, m.pictures, m.shows, header};
     for (size_t i = 0; i < sizeof lent / sizeof *lent; i++) free(lent[i]);
 }
 
