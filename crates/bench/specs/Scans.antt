@@ -5,7 +5,9 @@ use lib.ListN.{length}
 use Rattle.bitio.specs.Parse.{Answer, refused, accepted, andNext}
 use Rattle.bitio.specs.Limits.{limited}
 use Rattle.obu.specs.Place.{partIn}
-use Rattle.header.specs.Sequence.{Sequence, parseSequence}
+use Rattle.header.specs.Sequence.{parseSequence}
+use Rattle.header.specs.declared.seq_header.SequenceHeader.{SequenceHeader}
+use Rattle.frame.specs.Frame.{modelled, removals}
 use Rattle.geometry.specs.declared.slots.RefSlot.{RefSlot}
 use Rattle.uheader.specs.Scan.{scanHeader, slotsAfter, emptySlots}
 use Rattle.uheader.specs.declared.scan.HeaderScan.{HeaderScan}
@@ -22,16 +24,16 @@ abbrev pub endSaid : ScanAnswer → ℕ
 endSaid (Refused k) = 0
 endSaid (Scanned x) = x .«end_pos»
 
--- t and the ends of n frames from i on, modulo 2^64
-unfoldable pub sumFrom : Sequence → List ℕ → List ℕ → (n i : ℕ) → List RefSlot → ℕ → ℕ
-sumFrom q f es zero i slots t = t
-sumFrom q f es (suc n) i slots t =
-    sumFrom q f es n (i + 1) (slotsAfter slots (scanHeader q slots (partIn f es i)))
-    ((t + endOr (scanHeader q slots (partIn f es i))) % 2 ^ 64)
+-- t and the ends of k frames from i on, modulo 2^64, each with n removal times
+unfoldable pub sumFrom : SequenceHeader → ℕ → List ℕ → List ℕ → (k i : ℕ) → List RefSlot → ℕ → ℕ
+sumFrom h n f es zero i slots t = t
+sumFrom h n f es (suc k) i slots t =
+    sumFrom h n f es k (i + 1) (slotsAfter slots (scanHeader h n slots (partIn f es i)))
+    ((t + endOr (scanHeader h n slots (partIn f es i))) % 2 ^ 64)
 
-abbrev pub sumOf : Sequence → List ℕ → List ℕ → ℕ
-sumOf q f es = sumFrom q f es (length es) 0 emptySlots 0
+abbrev pub sumOf : SequenceHeader → ℕ → List ℕ → List ℕ → ℕ
+sumOf h n f es = sumFrom h n f es (length es) 0 emptySlots 0
 
 -- 0 where the sequence header is refused
 abbrev pub scanSum : List ℕ → List ℕ → List ℕ → ℕ
-scanSum s f es = bytesOrNone (limited s (andNext (parseSequence s) (λ q. accepted (sumOf q f es))))
+scanSum s f es = bytesOrNone (limited s (andNext (parseSequence s) (λ q. accepted (sumOf (q .header) (removals modelled q) f es))))

@@ -1,11 +1,10 @@
 // Frame headers scanned one behind the other under one sequence header, for comparisons: only where each ends is told.
 ghost use mathlib.Core.Path.{_≡_};
-ghost use Rattle.header.specs.Sequence.{sequenceOf};
 ghost use Rattle.geometry.specs.code.Sizes.{SizesWithin};
 ghost use Rattle.bench.specs.Scans.{endSaid, sumOf, scanSum};
 use bitio::ends::end_of;
 use bitio::ends::start_of;
-use header::seq_header::OperatingPoint;
+use frame::frame_header::sections;
 use header::seq_header::SequenceAnswer;
 use header::seq_header::SequenceHeader;
 use header::seq_header::read::parse_sequence_header;
@@ -27,12 +26,12 @@ fn end_said(answer: ScanAnswer) -> u64
 // The ends of all frames, summed modulo 2^64.
 fn sum_ends<'a, 'b>(
     header: SequenceHeader,
-    points: [OperatingPoint; 32],
+    removals: usize,
     frames: &'a [u8],
     ends: &'b [u32],
 ) -> u64
     requires { ⌜ SizesWithin (header .coding .size) ⌝ }
-    ensures { λ r. ⌜ r ≡ sumOf (sequenceOf header points) (now (frames .entry)) (now (ends .entry)) ⌝ }
+    ensures { λ r. ⌜ r ≡ sumOf header removals (now (frames .entry)) (now (ends .entry)) ⌝ }
 {
     let mut slots = empty_slots();
     let mut total: u64 = 0;
@@ -40,7 +39,7 @@ fn sum_ends<'a, 'b>(
     while i < ends.len() {
         let start = start_of(ends, i);
         let end = end_of(ends, i);
-        let step = scan_header(header, points, slots, payload(frames, start, end));
+        let step = scan_header(header, removals, slots, payload(frames, start, end));
         let after = step.slots;
         slots = after;
         let answer = step.answer;
@@ -58,7 +57,10 @@ pub fn scan_sum<'a, 'b, 'c>(sequence: &'a [u8], frames: &'b [u8], ends: &'c [u32
     let answer = read.answer;
     let points = read.operating_points;
     match answer {
-        SequenceAnswer::Header(header) => sum_ends(header, points, frames, ends),
+        SequenceAnswer::Header(header) => {
+            let removals = sections::removals(points, header.opening.operating_points_cnt_minus_1);
+            sum_ends(header, removals, frames, ends)
+        }
         SequenceAnswer::Refused(_) => 0,
     }
 }

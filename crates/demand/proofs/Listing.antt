@@ -26,7 +26,8 @@ use Rattle.header.specs.Sequence.{Sequence, sequenceHeader, parseSequence}
 use Rattle.header.specs.Support.{support, supportedSequence}
 use Rattle.header.specs.Timed.{retimed, withTiming}
 use Rattle.syntax.specs.Syntax.{run}
-use Rattle.frame.specs.Frame.{showExisting, frameStart, frameModes, frameFront, removalTimes, bufferRemoval, refreshFlags, frameInfo, frameBits, frameHeader, parseFrame}
+use Rattle.syntax.specs.Repeat.{times}
+use Rattle.frame.specs.Frame.{showExisting, frameStart, frameModes, frameFront, bufferRemoval, refreshFlags, frameInfo, frameBits, frameHeader, parseFrame}
 use Rattle.container.specs.Stream.{cut, group, others, join, behind, joined, units, streamUnits, flat, streamBytes}
 use Rattle.container.specs.AnnexB.{innerObuOf, lengthObuOf, frameUnitOf, temporalUnitOf, annexbUnitsOf, annexbUnit, annexbBytes}
 use Rattle.container.specs.Container.{Container, stream, annexb, read, write}
@@ -204,7 +205,7 @@ kinds-are
     : (kindsBy settingsKG (unitsOf outputKG) (parseSequence (listHeader segmentsKG)) ∷ kindsBy settingsKG (unitsOf outputTwo) (parseSequence (listHeader segmentsTwo))
     ∷ kindsBy settingsKG (unitsOf outputTwo) (parseSequence (listHeader segmentsTimed)) ∷ [])
     ≡ map accepted kindsKG ∷ map accepted kindsTwo ∷ map accepted kindsTwo ∷ []
-unfolding many manyF andNext bitAt bitsAt bitsWithin readBits leadingZeros uvlcSuffix uvlc lebRead readLeb sized passes headObuOf obusOf isType count firstPayload readFlag readOr flagOr uvlcOr timingInfo decoderModelInfo opening operatingPoint operatingPoints frameSize frameIds codingTools screenTools filters colorDescription colorSampling coding sequenceHeader parseSequence support retimed withTiming run showExisting frameStart frameModes frameFront removalTimes bufferRemoval refreshFlags frameInfo frameBits frameHeader parseFrame framePayload unitFrame unitKind part span named unitsOf
+unfolding many manyF andNext bitAt bitsAt bitsWithin readBits leadingZeros uvlcSuffix uvlc lebRead readLeb sized passes headObuOf obusOf isType count firstPayload readFlag readOr flagOr uvlcOr timingInfo decoderModelInfo opening operatingPoint operatingPoints frameSize frameIds codingTools screenTools filters colorDescription colorSampling coding sequenceHeader parseSequence support retimed withTiming run showExisting frameStart frameModes frameFront times bufferRemoval refreshFlags frameInfo frameBits frameHeader parseFrame framePayload unitFrame unitKind part span named unitsOf
 kinds-are = refl
 
 abbrev modelAt : ℕ → List Bool → Bool
@@ -296,7 +297,7 @@ rekeyed = stateAfter (stateAfter (stateAfter goldened 3 (showUnit 3)) 4 (showUni
 -- Refused in between: a show unit before there is a header, one of a slot that holds a key not showable, the other segment's show unit before
 -- its golden, and bytes that are no OBU.
 pub noisy : Course start 1 (unitsOf outputTwo)
-unfolding many manyF andNext bitAt bitsAt bitsWithin readBits leadingZeros uvlcSuffix uvlc lebRead readLeb sized passes headObuOf obusOf isType count firstPayload readFlag readOr flagOr uvlcOr timingInfo decoderModelInfo opening operatingPoint operatingPoints frameSize frameIds codingTools screenTools filters colorDescription colorSampling coding sequenceHeader parseSequence support run showExisting frameStart frameModes frameFront removalTimes bufferRemoval refreshFlags frameInfo frameBits frameHeader parseFrame refresh supportedSequence keepAs framePayload part span named unitsOf play
+unfolding many manyF andNext bitAt bitsAt bitsWithin readBits leadingZeros uvlcSuffix uvlc lebRead readLeb sized passes headObuOf obusOf isType count firstPayload readFlag readOr flagOr uvlcOr timingInfo decoderModelInfo opening operatingPoint operatingPoints frameSize frameIds codingTools screenTools filters colorDescription colorSampling coding sequenceHeader parseSequence support run showExisting frameStart frameModes frameFront times bufferRemoval refreshFlags frameInfo frameBits frameHeader parseFrame refresh supportedSequence keepAs framePayload part span named unitsOf play
 noisy =
     noise {st = start} 3 (showUnit 3) 26 refl
     (plays

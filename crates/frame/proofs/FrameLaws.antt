@@ -18,7 +18,7 @@ use Rattle.header.specs.declared.seq_header.Opening.{Opening}
 use Rattle.header.specs.declared.seq_header.OperatingPoint.{OperatingPoint}
 use Rattle.header.specs.declared.seq_header.SequenceHeader.{SequenceHeader}
 use Rattle.header.proofs.ReadLaws.{Holds, then-holds, then-any, bits-lt}
-use Rattle.frame.specs.Frame.{keyFrame, allSlots, showExisting, frameStart, frameModes, frameFront, bufferRemoval, refreshFlags, frameInfo, frameBits, frameHeader, modelled, parseFrame}
+use Rattle.frame.specs.Frame.{keyFrame, allSlots, showExisting, frameStart, frameModes, frameFront, bufferRemoval, refreshFlags, frameInfo, frameBits, frameHeader, modelled, parseFrame, removals}
 use Rattle.frame.specs.declared.frame_header.FrameStart.{FrameStart}
 use Rattle.frame.specs.declared.frame_header.FrameFront.{FrameFront}
 use Rattle.frame.specs.declared.frame_header.FrameInfo.{FrameInfo}
@@ -97,44 +97,49 @@ slot-holds s p pointInfo =
     then-holds (λ v. v < 8) HeaderIs (readBits s p 3) _ (bits-lt s p 3) (λ slot p l.
     pick-both (Holds HeaderIs) pointInfo tt l)
 
-module _ (has : OperatingPoint → Bool) (s : List ℕ) (q : Sequence) where
+module _ (s : List ℕ) (h : SequenceHeader) (n : ℕ) where
   -- refresh flags are below 256
-  pub flags-hold : (p : ℕ) (f : FrameStart) → Holds (λ v. v < 256) (run (refreshFlags has q f) s p)
+  pub flags-hold : (p : ℕ) (f : FrameStart) → Holds (λ v. v < 256) (run (refreshFlags (h .opening .model) n f) s p)
   unfolding run refreshFlags
   flags-hold p f =
-      then-any (λ v. v < 256) (run (bufferRemoval has (q .header .opening .model) (q .points)) s p) _ (λ last p.
+      then-any (λ v. v < 256) (run (bufferRemoval (h .opening .model) n) s p) _ (λ last p.
       then-holds (Fits (not (allSlots (f .«frame_type») (f .«show_frame»))) 8) (λ v. v < 256) (pick (not (allSlots (f .«frame_type») (f .«show_frame»))) (readBits s p 8) (reads 0 p)) _ (field-fits s p (not (allSlots (f .«frame_type») (f .«show_frame»))) 8) (λ flags p l.
       let most : 255 < 256 = omega arith in
       pick-both (λ v. v < 256) (allSlots (f .«frame_type») (f .«show_frame»)) most (l .width)))
 
   -- a frame that is read is such
-  pub info-holds : (p : ℕ) → Holds FrameIs (run (frameInfo has q) s p)
+  pub info-holds : (p : ℕ) → Holds FrameIs (run (frameInfo h n) s p)
   unfolding run frameInfo
   info-holds p =
-      then-holds (λ (x : FrameFront). StartIs (x .start)) FrameIs (run (frameFront true (q .header)) s p) _ (front-holds s p true (q .header)) (λ x p i.
-      then-holds (λ v. v < 256) FrameIs (run (refreshFlags has q (x .start)) s p) _ (flags-hold p (x .start)) (λ flags p l.
+      then-holds (λ (x : FrameFront). StartIs (x .start)) FrameIs (run (frameFront true h) s p) _ (front-holds s p true h) (λ x p i.
+      then-holds (λ v. v < 256) FrameIs (run (refreshFlags (h .opening .model) n (x .start)) s p) _ (flags-hold p (x .start)) (λ flags p l.
       record { type = i .type; showable = i .showable; flags = l }))
 
-  -- and a frame header of either kind
-  pub header-holds : (p : ℕ) → Holds HeaderIs (frameHeader has s p q)
-  unfolding run frameHeader frameBits
-  header-holds p =
-      pick-both (Holds HeaderIs) (q .header .opening .«reduced_still_picture_header») tt (
-      pick-both (Holds HeaderIs) (q .header .coding .ids .«frame_id_numbers_present») tt (
+  -- and what follows the first bit, either kind of frame header
+  pub bits-hold : (p : ℕ) → Holds HeaderIs (run (frameBits h n) s p)
+  unfolding run frameBits
+  bits-hold p =
       then-any HeaderIs (readBits s p 1) _ (λ existing p.
-      then-holds HeaderIs HeaderIs (pick (eqb existing 1) (run (showExisting (hasPointInfo (q .header .opening))) s p) (andThen (run (frameInfo has q) s p) (λ f p. reads (Frame f) p))) _ (
-      pick-both (Holds HeaderIs) (eqb existing 1) (slot-holds s p (hasPointInfo (q .header .opening))) (
-      then-holds FrameIs HeaderIs (run (frameInfo has q) s p) _ (info-holds p) (λ f p i. i))) (λ x p i. i))))
+      then-holds HeaderIs HeaderIs (pick (eqb existing 1) (run (showExisting (hasPointInfo (h .opening))) s p) (andThen (run (frameInfo h n) s p) (λ f p. reads (Frame f) p))) _ (
+      pick-both (Holds HeaderIs) (eqb existing 1) (slot-holds s p (hasPointInfo (h .opening))) (
+      then-holds FrameIs HeaderIs (run (frameInfo h n) s p) _ (info-holds p) (λ f p i. i))) (λ x p i. i))
+
+pub header-holds : (has : OperatingPoint → Bool) (s : List ℕ) (q : Sequence) (p : ℕ) → Holds HeaderIs (frameHeader has s p q)
+unfolding frameHeader
+header-holds has s q p =
+    pick-both (Holds HeaderIs) (q .header .opening .«reduced_still_picture_header») tt (
+    pick-both (Holds HeaderIs) (q .header .coding .ids .«frame_id_numbers_present») tt (
+    bits-hold s (q .header) (removals has q) p))
 
 -- ---- the answers
 
 -- a header that is neither reduced nor has frame ids
 pub header-bits : (has : OperatingPoint → Bool) (s : List ℕ) (p : ℕ) (q : Sequence)
     → q .header .opening .«reduced_still_picture_header» ≡ false → q .header .coding .ids .«frame_id_numbers_present» ≡ false
-    → frameHeader has s p q ≡ run (frameBits has q) s p
+    → frameHeader has s p q ≡ run (frameBits (q .header) (removals has q)) s p
 unfolding frameHeader
 header-bits has s p q full ids =
-    let x = run (frameBits has q) s p in
+    let x = run (frameBits (q .header) (removals has q)) s p in
     ap (λ t. pick t (fails 17) (pick (q .header .coding .ids .«frame_id_numbers_present») (fails 18) x)) full
     ∙ ap (λ t. pick t (fails 18) x) ids
 

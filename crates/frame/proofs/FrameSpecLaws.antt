@@ -1,5 +1,5 @@
 -- Where a frame header reads the same by 01's removal times and by AV1's own.
-use Prim.Native.Nat.{ℕ, _+_, _<_}
+use Prim.Native.Nat.{ℕ, suc, _+_, _<_}
 use native.Mathlib.Omega.{arith}
 use mathlib.Core.Path.{_≡_, refl, ap, _∙_}
 use mathlib.Core.List.{List}
@@ -8,13 +8,15 @@ use lib.Dec.{eqb}
 use borrow.Author.Tests.{eqb-true, eqb-false}
 use Rattle.bitio.specs.Bits.{Reading, fails, reads, andThen, readBits}
 use Rattle.bitio.specs.Every.{Every, nothing, also}
-use Rattle.syntax.specs.Syntax.{Syntax, field, readOver, run}
+use Rattle.obu.specs.Unit.{count}
+use Rattle.syntax.specs.Syntax.{field, readOver, run}
+use Rattle.syntax.specs.Repeat.{times}
 use Rattle.header.specs.Sequence.{Sequence}
 use Rattle.header.proofs.ReadLaws.{bits-lt}
 use Rattle.header.specs.Support.{hasPointInfo}
 use Rattle.header.specs.declared.seq_header.OperatingPoint.{OperatingPoint}
 use Rattle.header.specs.declared.seq_header.DecoderModelInfo.{DecoderModelInfo}
-use Rattle.frame.specs.Frame.{modelled, layered, showExisting, frameFront, removalTimes, bufferRemoval, refreshFlags, frameInfo, frameBits, frameHeader, readFrame, specFrame}
+use Rattle.frame.specs.Frame.{modelled, layered, showExisting, frameFront, removals, bufferRemoval, refreshFlags, frameInfo, frameBits, frameHeader, readFrame, specFrame}
 use Rattle.frame.specs.code.RemovalFlag.{removalFlag}
 use Rattle.frame.specs.declared.frame_header.FrameStart.{FrameStart}
 use Rattle.frame.specs.declared.frame_header.FrameFront.{FrameFront}
@@ -53,41 +55,41 @@ bit-zero s p v r g e =
 
 module _ (has has' : OperatingPoint → Bool) (s : List ℕ) where
   -- the same points have a time
-  times-same : (n : ℕ) {xs : List OperatingPoint} → Every (λ x. has x ≡ has' x) xs → removalTimes has n xs ≡ removalTimes has' n xs
-  unfolding removalTimes
-  times-same n nothing = refl
-  times-same n (also {a = x} {l = xs} e es) =
-      ap (λ (on : Bool). field on n (λ time. removalTimes has n xs)) e ∙ ap (λ (y : Syntax ℕ). field (has' x) n (λ time. y)) (times-same n es)
-
-  module _ (p : ℕ) (m : DecoderModelInfo) (xs : List OperatingPoint) where
-    -- where the flag is 1, the times are the same
-    removal-same : ((r : ℕ) → flagAt s p m ≡ reads 1 r → removalTimes has (m .«buffer_removal_time_length_minus_1» + 1) xs ≡ removalTimes has' (m .«buffer_removal_time_length_minus_1» + 1) xs)
-        → run (bufferRemoval has m xs) s p ≡ run (bufferRemoval has' m xs) s p
-    unfolding run bufferRemoval
-    removal-same same =
-        then-same (flagAt s p m) _ _ (λ present r g.
-        ap (λ (y : Reading ℕ). andThen y (λ last p. reads last p))
-        (pick-first (eqb present 1) _ _ (run readOver s r) (λ t.
-        ap (λ (y : Syntax ℕ). run y s r) (same r (g ∙ ap (λ v. reads v r) (eqb-true present 1 t))))))
+  count-same : {xs : List OperatingPoint} → Every (λ x. has x ≡ has' x) xs → count has xs ≡ count has' xs
+  unfolding count
+  count-same nothing = refl
+  count-same (also {a = x} {l = xs} e es) =
+      ap (λ (b : Bool). pick b (suc (count has xs)) (count has xs)) e ∙ ap (λ (n : ℕ). pick (has' x) (suc n) n) (count-same es)
 
   module _ (q : Sequence) where
-    -- the removal times at this position are read the same
-    abbrev SameRemoval : ℕ → Type 0
-    SameRemoval p = run (bufferRemoval has (q .header .opening .model) (q .points)) s p ≡ run (bufferRemoval has' (q .header .opening .model) (q .points)) s p
+    abbrev m : DecoderModelInfo
+    m = q .header .opening .model
 
-    flags-same : (p : ℕ) (f : FrameStart) → SameRemoval p → run (refreshFlags has q f) s p ≡ run (refreshFlags has' q f) s p
+    -- as many times wherever the flag is 1 at this position
+    abbrev SameTimes : ℕ → Type 0
+    SameTimes p = (r : ℕ) → flagAt s p m ≡ reads 1 r → removals has q ≡ removals has' q
+
+    removal-same : (p : ℕ) → SameTimes p → run (bufferRemoval m (removals has q)) s p ≡ run (bufferRemoval m (removals has' q)) s p
+    unfolding run bufferRemoval
+    removal-same p same =
+        then-same (flagAt s p m) _ _ (λ present r g.
+        ap (λ (n : ℕ). andThen (run (times n (field true (m .«buffer_removal_time_length_minus_1» + 1) (λ time. readOver))) s r) (λ last p. reads last p))
+        (pick-first (eqb present 1) _ _ 0 (λ t. same r (g ∙ ap (λ v. reads v r) (eqb-true present 1 t)))))
+
+    flags-same : (p : ℕ) (f : FrameStart) → SameTimes p → run (refreshFlags m (removals has q) f) s p ≡ run (refreshFlags m (removals has' q) f) s p
     unfolding run refreshFlags
-    flags-same p f e = rw e
+    flags-same p f same = rw (removal-same p same)
 
     -- so is a frame, if they are wherever its fields lead
-    info-same : (p : ℕ) → ((x : FrameFront) (r : ℕ) → run (frameFront true (q .header)) s p ≡ reads x r → SameRemoval r) → run (frameInfo has q) s p ≡ run (frameInfo has' q) s p
+    info-same : (p : ℕ) → ((x : FrameFront) (r : ℕ) → run (frameFront true (q .header)) s p ≡ reads x r → SameTimes r)
+        → run (frameInfo (q .header) (removals has q)) s p ≡ run (frameInfo (q .header) (removals has' q)) s p
     unfolding run frameInfo
     info-same p same =
         then-same (run (frameFront true (q .header)) s p) _ _ (λ x r g.
         rw (flags-same r (x .start) (same x r g)))
 
     -- and a header, if the frame behind its first bit is
-    header-same : ((r : ℕ) → readBits s 0 1 ≡ reads 0 r → run (frameInfo has q) s r ≡ run (frameInfo has' q) s r) → frameHeader has s 0 q ≡ frameHeader has' s 0 q
+    header-same : ((r : ℕ) → readBits s 0 1 ≡ reads 0 r → run (frameInfo (q .header) (removals has q)) s r ≡ run (frameInfo (q .header) (removals has' q)) s r) → frameHeader has s 0 q ≡ frameHeader has' s 0 q
     unfolding run frameHeader frameBits
     header-same same =
         pick-same (q .header .opening .«reduced_still_picture_header») _ _ _ (λ u.
@@ -99,17 +101,17 @@ module _ (has has' : OperatingPoint → Bool) (s : List ℕ) where
 
     -- the same operating points have a removal time
     pub same-points : Every (λ x. has x ≡ has' x) (q .points) → frameHeader has s 0 q ≡ frameHeader has' s 0 q
-    same-points es = header-same (λ r u. info-same r (λ x t g. removal-same t (q .header .opening .model) (q .points) (λ b h. times-same _ es)))
+    same-points es = header-same (λ r u. info-same r (λ x t g b h. count-same es))
 
     -- there is no decoder model
     pub same-no-model : q .header .opening .model .«decoder_model_info_present» ≡ false → frameHeader has s 0 q ≡ frameHeader has' s 0 q
-    same-no-model e = header-same (λ r u. info-same r (λ x t g. removal-same t (q .header .opening .model) (q .points) (λ b h. absurd (flag-absent t b (rw e at h)))))
+    same-no-model e = header-same (λ r u. info-same r (λ x t g b h. absurd (flag-absent t b (rw e at h))))
 
     -- the flag is not 1
     pub same-no-times : ((r : ℕ) → removalFlag q s ≡ reads 1 r → ⊥) → frameHeader has s 0 q ≡ frameHeader has' s 0 q
     unfolding run removalFlag
     same-no-times never =
-        header-same (λ r u. info-same r (λ x t g. removal-same t (q .header .opening .model) (q .points) (λ b h. absurd (never b (rw (u, g, h))))))
+        header-same (λ r u. info-same r (λ x t g b h. absurd (never b (rw (u, g, h)))))
 
 -- ---- 01's removal times and AV1's own
 

@@ -1,31 +1,33 @@
--- Removal times, one operating point after another.
-use Prim.Native.Nat.{ℕ, _+_, _≤_, _<_, min}
+-- The operating points that have a removal time, counted one after another.
+use Prim.Native.Nat.{ℕ, suc, _+_, _≤_, _<_, min}
 use mathlib.Core.Path.{_≡_, sym, ap, _∙_}
 use mathlib.Core.List.{List}
-use mathlib.Core.Bool.{Bool}
+use mathlib.Core.Bool.{Bool, true, false, cond as pick}
 use native.Mathlib.Numerals.{add-one}
 use native.Mathlib.Omega.{arith}
 use native.Mathlib.Decide.{decLt}
 use lib.ListN.{length, take, drop, getD, length-take}
 use lib.Seq.{drop-cons, drop-length, getD-take, take-all}
-use Rattle.syntax.specs.Syntax.{field, readOver}
-use Rattle.header.specs.declared.seq_header.OperatingPoint.{OperatingPoint}
-use Rattle.frame.specs.Frame.{removalTimes}
+use Rattle.obu.specs.Unit.{count}
 
-module _ (has : OperatingPoint → Bool) (n count : ℕ) (l : List OperatingPoint) (fits : count ≤ length l) where
-  -- what is left before the point i: its time, and what is left behind it
-  pub times-turn : (i : ℕ) (d : OperatingPoint) → i < count
-      → removalTimes has n (drop i (take count l)) ≡ field (has (getD l i d)) n (λ time. removalTimes has n (drop (i + 1) (take count l)))
-  unfolding removalTimes
-  times-turn i d h =
-      let k : i < length (take count l) = omega (arith, length-take count l) in
-      rw (drop-cons (take count l) i d k, getD-take count l i d h, add-one i)
+-- one more, or none
+pick-suc : (b : Bool) (n : ℕ) → pick b (suc n) n ≡ pick b 1 0 + n
+pick-suc true n = omega arith
+pick-suc false n = omega arith
 
-  -- behind the last point nothing is left
-  pub times-end : (i : ℕ) → i ≡ count → removalTimes has n (drop i (take count l)) ≡ readOver
-  unfolding removalTimes
-  times-end i e =
-      let k : i ≡ length (take count l) = omega (arith, length-take count l) in
+module _ {A : Type 0} (has : A → Bool) (all : ℕ) (l : List A) (fits : all ≤ length l) where
+  -- what is left before element i: itself, and what is left behind it
+  pub count-turn : (i : ℕ) (d : A) → i < all → count has (drop i (take all l)) ≡ pick (has (getD l i d)) 1 0 + count has (drop (i + 1) (take all l))
+  unfolding count
+  count-turn i d h =
+      let k : i < length (take all l) = omega (arith, length-take all l) in
+      rw (drop-cons (take all l) i d k, getD-take all l i d h, add-one i) (pick-suc (has (getD l i d)) (count has (drop (suc i) (take all l))))
+
+  -- behind the last nothing is left
+  pub count-end : (i : ℕ) → i ≡ all → count has (drop i (take all l)) ≡ 0
+  unfolding count
+  count-end i e =
+      let k : i ≡ length (take all l) = omega (arith, length-take all l) in
       rw (k, drop-length)
 
 -- so many of an array of 32, or all

@@ -1,11 +1,13 @@
 -- AV1 5.9.2 uncompressed_header up to refresh_frame_flags, under a sequence header.
 use Prim.Native.Nat.{ℕ, _+_, _*_, _/_, _%_, _^_}
-use mathlib.Core.List.{List, [], _∷_}
+use mathlib.Core.List.{List}
 use mathlib.Core.Bool.{Bool, true, not, _&&_, _||_, cond as pick}
 use lib.Dec.{eqb}
 use Rattle.bitio.specs.Parse.{Answer, refused, accepted, andNext}
 use Rattle.bitio.specs.Bits.{Reading, fails}
+use Rattle.obu.specs.Unit.{count}
 use Rattle.syntax.specs.Syntax.{Syntax, done, field, refuse, branch, sub, readOver, run}
+use Rattle.syntax.specs.Repeat.{times}
 use Rattle.header.specs.Fields.{answerOf}
 use Rattle.header.specs.SequenceCoding.{select}
 use Rattle.header.specs.Sequence.{Sequence, parseSequence}
@@ -56,6 +58,10 @@ abbrev pub layered : ℕ → ℕ → OperatingPoint → Bool
 layered temporal spatial x =
     x .«decoder_model_present»
     && (eqb (x .idc) 0 || (eqb (x .idc / 2 ^ temporal % 2) 1 && eqb (x .idc / 2 ^ (spatial + 8) % 2) 1))
+
+-- how many times a frame header then has: AV1 reads one for each such point, and here nothing is kept of them
+abbrev pub removals : (OperatingPoint → Bool) → Sequence → ℕ
+removals has q = count has (q .points)
 
 -- ---- the sections
 
@@ -131,22 +137,17 @@ frameFront strict h =
     sub (frameModes (h .coding) f) (λ m.
     done (frontOf f m)))
 
--- a removal time of n bits for each operating point that has one
-unfoldable pub removalTimes : (OperatingPoint → Bool) → ℕ → List OperatingPoint → Syntax ℕ
-removalTimes has n [] = readOver
-removalTimes has n (x ∷ xs) = field (has x) n (λ time. removalTimes has n xs)
-
--- buffer_removal_time_present_flag, with decoder model info, and the removal times
-unfoldable pub bufferRemoval : (OperatingPoint → Bool) → DecoderModelInfo → List OperatingPoint → Syntax ℕ
-bufferRemoval has m xs =
+-- buffer_removal_time_present_flag, with decoder model info, and n removal times
+unfoldable pub bufferRemoval : DecoderModelInfo → ℕ → Syntax ℕ
+bufferRemoval m n =
     field (m .«decoder_model_info_present») 1 (λ present.
-    branch (eqb present 1) (removalTimes has (m .«buffer_removal_time_length_minus_1» + 1) xs) readOver (λ last.
+    sub (times (pick (eqb present 1) n 0) (field true (m .«buffer_removal_time_length_minus_1» + 1) (λ time. readOver))) (λ last.
     done last))
 
--- the removal times, and refresh_frame_flags
-unfoldable pub refreshFlags : (OperatingPoint → Bool) → Sequence → FrameStart → Syntax ℕ
-refreshFlags has q f =
-    sub (bufferRemoval has (q .header .opening .model) (q .points)) (λ last.
+-- the same, and refresh_frame_flags
+unfoldable pub refreshFlags : DecoderModelInfo → ℕ → FrameStart → Syntax ℕ
+refreshFlags m n f =
+    sub (bufferRemoval m n) (λ last.
     field (not (allSlots (f .«frame_type») (f .«show_frame»))) 8 (λ flags.
     done (pick (allSlots (f .«frame_type») (f .«show_frame»)) 255 flags)))
 
@@ -161,19 +162,19 @@ infoOf x flags =
     }
 
 -- a frame that is not shown again
-unfoldable pub frameInfo : (OperatingPoint → Bool) → Sequence → Syntax FrameInfo
-frameInfo has q =
-    sub (frameFront true (q .header)) (λ x.
-    sub (refreshFlags has q (x .start)) (λ flags.
+unfoldable pub frameInfo : SequenceHeader → ℕ → Syntax FrameInfo
+frameInfo h n =
+    sub (frameFront true h) (λ x.
+    sub (refreshFlags (h .opening .model) n (x .start)) (λ flags.
     done (infoOf x flags)))
 
 -- show_existing_frame, and what follows
-unfoldable pub frameBits : (OperatingPoint → Bool) → Sequence → Syntax FrameHeaderInfo
-frameBits has q =
+unfoldable pub frameBits : SequenceHeader → ℕ → Syntax FrameHeaderInfo
+frameBits h n =
     field true 1 (λ existing.
     branch (eqb existing 1)
-    (showExisting (hasPointInfo (q .header .opening)))
-    (sub (frameInfo has q) (λ f. done (Frame f)))
+    (showExisting (hasPointInfo (h .opening)))
+    (sub (frameInfo h n) (λ f. done (Frame f)))
     (λ x. done x))
 
 -- ---- the whole
@@ -183,7 +184,7 @@ unfoldable pub frameHeader : (OperatingPoint → Bool) → List ℕ → ℕ → 
 frameHeader has s p q =
     pick (q .header .opening .«reduced_still_picture_header») (fails 17) (
     pick (q .header .coding .ids .«frame_id_numbers_present») (fails 18) (
-    run (frameBits has q) s p))
+    run (frameBits (q .header) (removals has q)) s p))
 
 -- a frame payload under a sequence header
 abbrev pub readFrame : Sequence → List ℕ → Reading FrameHeaderInfo

@@ -36,9 +36,10 @@ isDelimiter o = isKind TemporalDelimiter o
 abbrev pub isFrame : Obu → Bool
 isFrame o = isKind Frame o
 
-unfoldable pub count : (Obu → Bool) → List Obu → ℕ
+-- how many, of OBUs or anything else, p holds of
+unfoldable pub count : {A : Type 0} → (A → Bool) → List A → ℕ
 count p [] = 0
-count p (o ∷ os) = pick (p o) (suc (count p os)) (count p os)
+count p (x ∷ xs) = pick (p x) (suc (count p xs)) (count p xs)
 
 -- whether p holds of one
 unfoldable pub has : (Obu → Bool) → List Obu → Bool

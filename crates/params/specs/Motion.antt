@@ -1,6 +1,6 @@
 -- AV1 5.9.24 global_motion_params, of which nothing is kept.
 use Prim.Native.Nat.{ℕ, zero, suc, _+_, _-_, _*_, _^_}
-use mathlib.Core.Bool.{Bool, true, not, _&&_, _||_, cond as pick}
+use mathlib.Core.Bool.{Bool, true, not, _||_, cond as pick}
 use lib.Dec.{eqb, leb}
 use Rattle.syntax.specs.Syntax.{Syntax, done, field, branch, sub, readOver}
 use Rattle.syntax.specs.Near.{ns}

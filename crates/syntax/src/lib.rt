@@ -1,5 +1,6 @@
-// Bit syntax read field by field: a cursor that keeps its first refusal, choices without branches, and ns(n).
+// Bit syntax read field by field: a cursor that keeps its first refusal, choices without branches, fields read over, and ns(n).
 pub mod choice;
 pub mod cursor;
 pub mod near;
+pub mod over;
 pub mod signed;

@@ -13,7 +13,7 @@ use Rattle.header.specs.Support.{hasPointInfo}
 use Rattle.header.specs.declared.seq_header.Opening.{Opening}
 use Rattle.header.specs.declared.seq_header.SequenceHeader.{SequenceHeader}
 use Rattle.header.proofs.ReadLaws.{Holds, then-any}
-use Rattle.frame.specs.Frame.{allSlots, modelled, frameStart, frameModes, frameFront, refreshFlags, frameInfo, frameBits, infoOf, parseFrame}
+use Rattle.frame.specs.Frame.{allSlots, modelled, removals, frameStart, frameModes, frameFront, refreshFlags, frameInfo, frameBits, infoOf, parseFrame}
 use Rattle.frame.specs.declared.frame_header.FrameStart.{FrameStart}
 use Rattle.frame.specs.declared.frame_header.FrameFront.{FrameFront}
 use Rattle.frame.specs.declared.frame_header.FrameHeaderInfo.the-variants.{Frame}
@@ -74,33 +74,35 @@ front-strict s p h x r e off =
 
 -- ---- the scan and the reading
 
+-- the flags of a scan are those that frame header reading reads
+pub flags-read : (h : SequenceHeader) (n : ℕ) (slots : List RefSlot) (s : List ℕ) (x : FrameFront) (p : ℕ) (y : Rest) (e : ℕ) → run (scanRest signMagnitude h n slots x) s p ≡ reads y e
+    → {C : Type 0} → ((r : ℕ) → run (refreshFlags (h .opening .model) n (x .start)) s p ≡ reads (y .shape .«refresh_frame_flags») r → C) → C
+unfolding scanRest frameShape
+flags-read h n slots s x p y e was k =
+    sub-was (frameShape h n slots x) _ _ s p was (λ z a g was.
+    sub-was (refreshFlags (h .opening .model) n (x .start)) _ _ s p g (λ flags c m g.
+    let i : z ≡ y .shape = gives (λ (r : Rest). z ≡ r .shape) _ (λ q. refl) s a was in
+    let j : z .«refresh_frame_flags» ≡ flags = gives (λ (z : Shape). z .«refresh_frame_flags» ≡ flags) _ (λ hints refs size intrabc fine disable last. refl) s c g in
+    k c (m ∙ ap (λ v. reads v c) (sym j ∙ ap (λ (z : Shape). z .«refresh_frame_flags») i))))
+
 module _ (q : Sequence) (slots : List RefSlot) (s : List ℕ) where
-  -- the flags of a scan are those that frame header reading reads
-  pub flags-read : (x : FrameFront) (p : ℕ) (y : Rest) (e : ℕ) → run (scanRest signMagnitude modelled q slots x) s p ≡ reads y e
-      → {C : Type 0} → ((r : ℕ) → run (refreshFlags modelled q (x .start)) s p ≡ reads (y .shape .«refresh_frame_flags») r → C) → C
-  unfolding scanRest frameShape
-  flags-read x p y e h k =
-      sub-was (frameShape modelled q slots x) _ _ s p h (λ z a g h.
-      sub-was (refreshFlags modelled q (x .start)) _ _ s p g (λ flags c m g.
-      let i : z ≡ y .shape = gives (λ (r : Rest). z ≡ r .shape) _ (λ q. refl) s a h in
-      let j : z .«refresh_frame_flags» ≡ flags = gives (λ (z : Shape). z .«refresh_frame_flags» ≡ flags) _ (λ hints refs size intrabc fine disable last. refl) s c g in
-      k c (m ∙ ap (λ v. reads v c) (sym j ∙ ap (λ (z : Shape). z .«refresh_frame_flags») i))))
+  abbrev h : SequenceHeader
+  h = q .header
 
   read-frame : {existing p insert t flags : ℕ} {front : FrameFront}
-      → q .header .opening .«reduced_still_picture_header» ≡ false → q .header .coding .ids .«frame_id_numbers_present» ≡ false
+      → h .opening .«reduced_still_picture_header» ≡ false → h .coding .ids .«frame_id_numbers_present» ≡ false
       → readBits s 0 1 ≡ reads existing p → eqb existing 1 ≡ false
-      → run (frameFront true (q .header)) s p ≡ reads front insert → run (refreshFlags modelled q (front .start)) s insert ≡ reads flags t
+      → run (frameFront true h) s p ≡ reads front insert → run (refreshFlags (h .opening .model) (removals modelled q) (front .start)) s insert ≡ reads flags t
       → parseFrame q s ≡ accepted (Frame (infoOf front flags))
   unfolding parseFrame frameBits frameInfo run
   read-frame full ids a b c d = ap answerOf (header-bits modelled s 0 q full ids) ∙ rw (a, b, c, d)
 
   -- unless it is shown and carries temporal_point_info, which the scan reads over and frame header reading refuses with 19
-  pub agrees : (x : HeaderScan) → scanHeader q slots s ≡ accepted x → x .frame .«show_frame» && hasPointInfo (q .header .opening) ≡ false
+  pub agrees : (x : HeaderScan) → scanHeader h (removals modelled q) slots s ≡ accepted x → x .frame .«show_frame» && hasPointInfo (h .opening) ≡ false
       → parseFrame q s ≡ accepted (Frame (x .frame))
   unfolding run scanFront
   agrees x e off =
-      let ps = parts q slots s x e in
-      let h = q .header in
+      let ps = parts h (removals modelled q) slots s x e in
       then-was (readBits s 0 1) _ (ps .front-read) (λ existing p g e.
       pick-was (eqb existing 1) 42 _ e (λ none e.
       then-was (run (frameFront false h) s p) _ e (λ front r lax e.
@@ -109,5 +111,5 @@ module _ (q : Sequence) (slots : List RefSlot) (s : List ℕ) where
       let here : run (frameFront false h) s p ≡ reads (ps .front) (x .«removal_insert_pos») = lax ∙ ap (λ y. reads y r) i ∙ ap (reads (ps .front)) j in
       let shown : x .frame .«show_frame» ≡ ps .front .start .«show_frame» = ap (λ (y : HeaderScan). y .frame .«show_frame») (ps .same) in
       let strict = front-strict s p h (ps .front) _ here (ap (λ t. t && hasPointInfo (h .opening)) (sym shown) ∙ off) in
-      flags-read (ps .front) _ (ps .rest) _ (ps .rest-read) (λ t flags.
+      flags-read h (removals modelled q) slots s (ps .front) _ (ps .rest) _ (ps .rest-read) (λ t flags.
       read-frame (ps .full) (ps .idless) g none strict flags ∙ ap (λ (y : HeaderScan). accepted (Frame (y .frame))) (sym (ps .same))))))

@@ -8,8 +8,7 @@ use Rattle.bitio.specs.Parse.{Answer, refused, accepted, andNext}
 use Rattle.bitio.specs.Bits.{Reading, fails, reads, andThen}
 use Rattle.syntax.specs.Syntax.{run}
 use Rattle.header.specs.Fields.{answerOf}
-use Rattle.header.specs.Sequence.{Sequence}
-use Rattle.frame.specs.Frame.{modelled}
+use Rattle.header.specs.declared.seq_header.SequenceHeader.{SequenceHeader}
 use Rattle.frame.specs.declared.frame_header.FrameFront.{FrameFront}
 use Rattle.geometry.specs.declared.slots.RefSlot.{RefSlot}
 use Rattle.params.specs.Lossless.{signMagnitude}
@@ -42,33 +41,33 @@ unfolding andNext
 next-was (refused n) k e f = let z : _≡_ {A = ℕ} 0 1 = cc in absurd (omega arith)
 next-was (accepted a) k e f = f a refl e
 
-module _ (q : Sequence) (slots : List RefSlot) (f : List ℕ) where
+module _ (h : SequenceHeader) (n : ℕ) (slots : List RefSlot) (f : List ℕ) where
   -- the parts of a scan that was accepted
   pub record Parts (x : HeaderScan) : Type 0 where
-    pub full : q .header .opening .«reduced_still_picture_header» ≡ false
-    pub grainless : q .header .coding .«film_grain_params_present» ≡ false
-    pub idless : q .header .coding .ids .«frame_id_numbers_present» ≡ false
+    pub full : h .opening .«reduced_still_picture_header» ≡ false
+    pub grainless : h .coding .«film_grain_params_present» ≡ false
+    pub idless : h .coding .ids .«frame_id_numbers_present» ≡ false
     pub front : FrameFront
     pub rest : Rest
-    pub front-read : run (scanFront (q .header)) f 0 ≡ reads front (x .«removal_insert_pos»)
-    pub rest-read : run (scanRest signMagnitude modelled q slots front) f (x .«removal_insert_pos») ≡ reads rest (x .«end_pos»)
+    pub front-read : run (scanFront h) f 0 ≡ reads front (x .«removal_insert_pos»)
+    pub rest-read : run (scanRest signMagnitude h n slots front) f (x .«removal_insert_pos») ≡ reads rest (x .«end_pos»)
     pub same : x ≡ scanOf front rest (x .«removal_insert_pos») (x .«end_pos»)
 
-  pub parts : (x : HeaderScan) → scanHeader q slots f ≡ accepted x → Parts x
+  pub parts : (x : HeaderScan) → scanHeader h n slots f ≡ accepted x → Parts x
   unfolding scanHeader scannable scanBy
   parts x e =
-      next-was (scannable (q .header)) _ e (λ _ h g.
-      pick-on (q .header .opening .«reduced_still_picture_header») 17 _ h (λ full h.
-      pick-on (q .header .coding .«film_grain_params_present») 20 _ h (λ grain h.
-      pick-on (q .header .coding .ids .«frame_id_numbers_present») 18 _ h (λ ids _.
-      answer-was (scanBy signMagnitude modelled q slots f) g (λ end g.
-      then-was (run (scanFront (q .header)) f 0) _ g (λ front insert a g.
-      then-was (run (scanRest signMagnitude modelled q slots front) f insert) _ g (λ rest last b g.
+      next-was (scannable h) _ e (λ _ told g.
+      pick-on (h .opening .«reduced_still_picture_header») 17 _ told (λ full told.
+      pick-on (h .coding .«film_grain_params_present») 20 _ told (λ grain told.
+      pick-on (h .coding .ids .«frame_id_numbers_present») 18 _ told (λ ids _.
+      answer-was (scanBy signMagnitude h n slots f) g (λ end g.
+      then-was (run (scanFront h) f 0) _ g (λ front insert a g.
+      then-was (run (scanRest signMagnitude h n slots front) f insert) _ g (λ rest last b g.
       made front rest insert last full grain ids a b (cc))))))))
     where
       made : (front : FrameFront) (rest : Rest) (insert last : ℕ)
-          → q .header .opening .«reduced_still_picture_header» ≡ false → q .header .coding .«film_grain_params_present» ≡ false → q .header .coding .ids .«frame_id_numbers_present» ≡ false
-          → run (scanFront (q .header)) f 0 ≡ reads front insert → run (scanRest signMagnitude modelled q slots front) f insert ≡ reads rest last
+          → h .opening .«reduced_still_picture_header» ≡ false → h .coding .«film_grain_params_present» ≡ false → h .coding .ids .«frame_id_numbers_present» ≡ false
+          → run (scanFront h) f 0 ≡ reads front insert → run (scanRest signMagnitude h n slots front) f insert ≡ reads rest last
           → scanOf front rest insert last ≡ x → Parts x
       made front rest insert last full grain ids a b g =
           let i : insert ≡ x .«removal_insert_pos» = ap (λ (y : HeaderScan). y .«removal_insert_pos») g in
@@ -80,6 +79,6 @@ module _ (q : Sequence) (slots : List RefSlot) (f : List ℕ) where
             front = front;
             rest = rest;
             front-read = a ∙ ap (reads front) i;
-            rest-read = ap (λ p. run (scanRest signMagnitude modelled q slots front) f p) (sym i) ∙ b ∙ ap (reads rest) l;
+            rest-read = ap (λ p. run (scanRest signMagnitude h n slots front) f p) (sym i) ∙ b ∙ ap (reads rest) l;
             same = sym g ∙ ap (λ p. scanOf front rest p last) i ∙ ap (λ p. scanOf front rest (x .«removal_insert_pos») p) l;
           }

@@ -8,9 +8,8 @@ use Rattle.bitio.specs.Bits.{Reading, reads, andThen, readBits}
 use Rattle.bitio.specs.Every.{Every}
 use Rattle.bitio.proofs.ParseLaws.{pick-both}
 use Rattle.syntax.specs.Syntax.{run}
-use Rattle.header.specs.Sequence.{Sequence}
 use Rattle.header.specs.declared.seq_header.Coding.{Coding}
-use Rattle.header.specs.declared.seq_header.OperatingPoint.{OperatingPoint}
+use Rattle.header.specs.declared.seq_header.SequenceHeader.{SequenceHeader}
 use Rattle.header.proofs.ReadLaws.{Holds, then-holds, then-any, bits-lt}
 use Rattle.frame.specs.Frame.{primaryNone}
 use Rattle.frame.specs.declared.frame_header.FrameFront.{FrameFront}
@@ -61,9 +60,9 @@ quant-ranged s p color apart =
 
 -- ---- two rules
 
-module _ (rule rule′ : ℕ → ℕ → ℕ) (has : OperatingPoint → Bool) (q : Sequence) (slots : List RefSlot) (s : List ℕ) where
+module _ (rule rule′ : ℕ → ℕ → ℕ) (h : SequenceHeader) (n : ℕ) (slots : List RefSlot) (s : List ℕ) where
   abbrev c : Coding
-  c = q .header .coding
+  c = h .coding
 
   -- both judge alike the quantizer and the segments that stand behind this frame's front and shape
   abbrev pub JudgeAlike : FrameFront → ℕ → Type 0
@@ -80,31 +79,31 @@ module _ (rule rule′ : ℕ → ℕ → ℕ) (has : OperatingPoint → Bool) (q
       rw (alike y t g alts u h)))
 
   -- then the scans are the same
-  pub rules-same : ((x : FrameFront) (p : ℕ) → run (scanFront (q .header)) s 0 ≡ reads x p
-      → (z : Shape) (r : ℕ) → run (frameShape has q slots x) s p ≡ reads z r → JudgeAlike x r)
-      → scanBy rule has q slots s ≡ scanBy rule′ has q slots s
+  pub rules-same : ((x : FrameFront) (p : ℕ) → run (scanFront h) s 0 ≡ reads x p
+      → (z : Shape) (r : ℕ) → run (frameShape h n slots x) s p ≡ reads z r → JudgeAlike x r)
+      → scanBy rule h n slots s ≡ scanBy rule′ h n slots s
   unfolding run scanBy scanRest
   rules-same alike =
-      then-same (run (scanFront (q .header)) s 0) _ _ (λ x p g.
+      then-same (run (scanFront h) s 0) _ _ (λ x p g.
       ap (λ (y : Reading Rest). andThen y (λ r end. reads (scanOf x r p end) end))
-      (then-same (run (frameShape has q slots x) s p) _ _ (λ z r h.
-      rw (tail-same x z r (alike x p g z r h)))))
+      (then-same (run (frameShape h n slots x) s p) _ _ (λ z r k.
+      rw (tail-same x z r (alike x p g z r k)))))
 
 -- ---- the Rust's and AV1's
 
-module _ (has : OperatingPoint → Bool) (q : Sequence) (slots : List RefSlot) (s : List ℕ) where
+module _ (h : SequenceHeader) (n : ℕ) (slots : List RefSlot) (s : List ℕ) where
   -- no delta is a sign alone, and no segment's index goes below a base above 0
   abbrev pub Plain : FrameFront → ℕ → Type 0
   Plain x r =
-      (y : Quantizer) (t : ℕ) → run (quantizationParams (color (q .header .coding)) (q .header .coding .sampling .«separate_uv_delta_q»)) s r ≡ reads y t
+      (y : Quantizer) (t : ℕ) → run (quantizationParams (color (h .coding)) (h .coding .sampling .«separate_uv_delta_q»)) s r ≡ reads y t
       → (alts : List ℕ) (u : ℕ) → run (segmentationParams (eqb (x .modes .«primary_ref_frame») primaryNone)) s t ≡ reads alts u
       → NoLoneSign y × Every (Alike (y .«base_q_idx»)) alts
 
-  pub spec-scan : ((x : FrameFront) (p : ℕ) → run (scanFront (q .header)) s 0 ≡ reads x p
-      → (z : Shape) (r : ℕ) → run (frameShape has q slots x) s p ≡ reads z r → Plain x r)
-      → scanBy signMagnitude has q slots s ≡ scanBy twosComplement has q slots s
+  pub spec-scan : ((x : FrameFront) (p : ℕ) → run (scanFront h) s 0 ≡ reads x p
+      → (z : Shape) (r : ℕ) → run (frameShape h n slots x) s p ≡ reads z r → Plain x r)
+      → scanBy signMagnitude h n slots s ≡ scanBy twosComplement h n slots s
   spec-scan plain =
-      rules-same signMagnitude twosComplement has q slots s (λ x p g z r h y t a alts u b.
-      let ranged : Ranged y = rw a at (quant-ranged s r (color (q .header .coding)) (q .header .coding .sampling .«separate_uv_delta_q»)) in
-      let k = plain x p g z r h y t a alts u b in
+      rules-same signMagnitude twosComplement h n slots s (λ x p g z r f y t a alts u b.
+      let ranged : Ranged y = rw a at (quant-ranged s r (color (h .coding)) (h .coding .sampling .«separate_uv_delta_q»)) in
+      let k = plain x p g z r f y t a alts u b in
       rules-agree y ranged (k .0) (k .1))

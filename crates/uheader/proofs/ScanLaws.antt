@@ -5,8 +5,7 @@ use mathlib.Core.List.{List}
 use mathlib.Core.Bool.{Bool, true, false, cond as pick}
 use Rattle.bitio.specs.Parse.{Answer, refused, accepted, andNext}
 use Rattle.header.specs.Fields.{answerOf}
-use Rattle.header.specs.Sequence.{Sequence}
-use Rattle.frame.specs.Frame.{modelled}
+use Rattle.header.specs.declared.seq_header.SequenceHeader.{SequenceHeader}
 use Rattle.geometry.specs.declared.slots.RefSlot.{RefSlot}
 use Rattle.params.specs.Lossless.{signMagnitude}
 use Rattle.uheader.specs.Scan.{scannable, scanBy, scanHeader}
@@ -16,35 +15,35 @@ use Rattle.uheader.specs.declared.scan.HeaderScan.{HeaderScan}
 abbrev tested : Bool → Bool → Bool → Answer Unit
 tested reduced grain ids = pick reduced (refused 17) (pick grain (refused 20) (pick ids (refused 18) (accepted tt)))
 
-module _ (q : Sequence) (slots : List RefSlot) (f : List ℕ) where
+module _ (h : SequenceHeader) (n : ℕ) (slots : List RefSlot) (f : List ℕ) where
   abbrev reduced : Bool
-  reduced = q .header .opening .«reduced_still_picture_header»
+  reduced = h .opening .«reduced_still_picture_header»
 
   abbrev grain : Bool
-  grain = q .header .coding .«film_grain_params_present»
+  grain = h .coding .«film_grain_params_present»
 
   abbrev ids : Bool
-  ids = q .header .coding .ids .«frame_id_numbers_present»
+  ids = h .coding .ids .«frame_id_numbers_present»
 
   abbrev behind : Answer Unit → Answer HeaderScan
-  behind x = andNext x (λ _. answerOf (scanBy signMagnitude modelled q slots f))
+  behind x = andNext x (λ _. answerOf (scanBy signMagnitude h n slots f))
 
-  by-tests : (a b c : Bool) → reduced ≡ a → grain ≡ b → ids ≡ c → scanHeader q slots f ≡ behind (tested a b c)
+  by-tests : (a b c : Bool) → reduced ≡ a → grain ≡ b → ids ≡ c → scanHeader h n slots f ≡ behind (tested a b c)
   unfolding scanHeader scannable
   by-tests a b c x y z = ap (λ t. behind (tested t grain ids)) x ∙ ap (λ t. behind (tested a t ids)) y ∙ ap (λ t. behind (tested a b t)) z
 
-  pub scan-reduced : reduced ≡ true → scanHeader q slots f ≡ refused 17
+  pub scan-reduced : reduced ≡ true → scanHeader h n slots f ≡ refused 17
   unfolding andNext
   scan-reduced x = by-tests true grain ids x refl refl
 
-  pub scan-grain : reduced ≡ false → grain ≡ true → scanHeader q slots f ≡ refused 20
+  pub scan-grain : reduced ≡ false → grain ≡ true → scanHeader h n slots f ≡ refused 20
   unfolding andNext
   scan-grain x y = by-tests false true ids x y refl
 
-  pub scan-ids : reduced ≡ false → grain ≡ false → ids ≡ true → scanHeader q slots f ≡ refused 18
+  pub scan-ids : reduced ≡ false → grain ≡ false → ids ≡ true → scanHeader h n slots f ≡ refused 18
   unfolding andNext
   scan-ids x y z = by-tests false false true x y z
 
-  pub scan-on : reduced ≡ false → grain ≡ false → ids ≡ false → scanHeader q slots f ≡ answerOf (scanBy signMagnitude modelled q slots f)
+  pub scan-on : reduced ≡ false → grain ≡ false → ids ≡ false → scanHeader h n slots f ≡ answerOf (scanBy signMagnitude h n slots f)
   unfolding andNext
   scan-on x y z = by-tests false false false x y z

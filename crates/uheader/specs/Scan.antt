@@ -1,7 +1,7 @@
 -- AV1 5.9.2 uncompressed_header, the whole of it, and what it leaves in the slots (02 §2).
 use Prim.Native.Nat.{ℕ}
 use mathlib.Core.List.{List}
-use mathlib.Core.Bool.{Bool, true, false, cond as pick}
+use mathlib.Core.Bool.{true, false, cond as pick}
 use lib.Dec.{eqb}
 use lib.ListN.{replicate}
 use Rattle.bitio.specs.Parse.{Answer, refused, accepted, andNext}
@@ -10,10 +10,9 @@ use Rattle.bitio.specs.Limits.{limited}
 use Rattle.syntax.specs.Syntax.{Syntax, done, field, refuse, sub, run}
 use Rattle.syntax.specs.Signed.{su}
 use Rattle.header.specs.Fields.{answerOf}
-use Rattle.header.specs.Sequence.{Sequence, parseSequence}
-use Rattle.header.specs.declared.seq_header.OperatingPoint.{OperatingPoint}
+use Rattle.header.specs.Sequence.{parseSequence}
 use Rattle.header.specs.declared.seq_header.SequenceHeader.{SequenceHeader}
-use Rattle.frame.specs.Frame.{keyFrame, modelled, frameFront, infoOf}
+use Rattle.frame.specs.Frame.{keyFrame, modelled, removals, frameFront, infoOf}
 use Rattle.frame.specs.Refresh.{refresh}
 use Rattle.frame.specs.declared.frame_header.FrameFront.{FrameFront}
 use Rattle.frame.specs.declared.frame_header.FrameInfo.{FrameInfo}
@@ -53,10 +52,10 @@ abbrev pub restOf : Shape → Quantizer → Rest
 restOf z q = record { shape = z; quantizer = q }
 
 -- and behind it; 41: short reference signalling
-unfoldable pub scanRest : (ℕ → ℕ → ℕ) → (OperatingPoint → Bool) → Sequence → List RefSlot → FrameFront → Syntax Rest
-scanRest rule has q slots x =
-    sub (frameShape has q slots x) (λ z.
-    sub (frameTail rule (q .header .coding) x z slots) (λ y.
+unfoldable pub scanRest : (ℕ → ℕ → ℕ) → SequenceHeader → ℕ → List RefSlot → FrameFront → Syntax Rest
+scanRest rule h n slots x =
+    sub (frameShape h n slots x) (λ z.
+    sub (frameTail rule (h .coding) x z slots) (λ y.
     done (restOf z y)))
 
 -- AV1 4.10.6: the deltas as signed numbers
@@ -82,20 +81,20 @@ scanOf x r insert end =
       deltas = deltasOf (r .quantizer);
     }
 
--- by either rule for CodedLossless, with these operating points' removal times
-unfoldable pub scanBy : (ℕ → ℕ → ℕ) → (OperatingPoint → Bool) → Sequence → List RefSlot → List ℕ → Reading HeaderScan
-scanBy rule has q slots f =
-    andThen (run (scanFront (q .header)) f 0) (λ x insert.
-    andThen (run (scanRest rule has q slots x) f insert) (λ r end.
+-- by either rule for CodedLossless, with n removal times
+unfoldable pub scanBy : (ℕ → ℕ → ℕ) → SequenceHeader → ℕ → List RefSlot → List ℕ → Reading HeaderScan
+scanBy rule h n slots f =
+    andThen (run (scanFront h) f 0) (λ x insert.
+    andThen (run (scanRest rule h n slots x) f insert) (λ r end.
     reads (scanOf x r insert end) end))
 
--- a frame payload under a sequence header, as the Rust reads it
-unfoldable pub scanHeader : Sequence → List RefSlot → List ℕ → Answer HeaderScan
-scanHeader q slots f = andNext (scannable (q .header)) (λ _. answerOf (scanBy signMagnitude modelled q slots f))
+-- a frame payload under a sequence header, with n removal times, by the Rust's rule
+unfoldable pub scanHeader : SequenceHeader → ℕ → List RefSlot → List ℕ → Answer HeaderScan
+scanHeader h n slots f = andNext (scannable h) (λ _. answerOf (scanBy signMagnitude h n slots f))
 
--- the same of both payloads, 34 of either first
+-- the same of both payloads, with the Rust's removal times, 34 of either first
 unfoldable pub scanPayloads : List ℕ → List RefSlot → List ℕ → Answer HeaderScan
-scanPayloads s slots f = limited f (limited s (andNext (parseSequence s) (λ q. scanHeader q slots f)))
+scanPayloads s slots f = limited f (limited s (andNext (parseSequence s) (λ q. scanHeader (q .header) (removals modelled q) slots f)))
 
 -- ---- the slots
 

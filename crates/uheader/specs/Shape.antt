@@ -5,9 +5,8 @@ use mathlib.Core.Bool.{Bool, true, not, _&&_, _||_, cond as pick}
 use lib.Dec.{eqb}
 use Rattle.syntax.specs.Syntax.{Syntax, done, field, sub, readOver}
 use Rattle.syntax.specs.Repeat.{times}
-use Rattle.header.specs.Sequence.{Sequence}
 use Rattle.header.specs.declared.seq_header.Coding.{Coding}
-use Rattle.header.specs.declared.seq_header.OperatingPoint.{OperatingPoint}
+use Rattle.header.specs.declared.seq_header.SequenceHeader.{SequenceHeader}
 use Rattle.frame.specs.Frame.{isIntra, refreshFlags}
 use Rattle.frame.specs.declared.frame_header.FrameFront.{FrameFront}
 use Rattle.geometry.specs.Refs.{frameRefs}
@@ -59,15 +58,15 @@ shapeOf flags refs z intrabc fine =
       «allow_high_precision_mv» = eqb fine 1;
     }
 
--- the slots are those before the frame
-unfoldable pub frameShape : (OperatingPoint → Bool) → Sequence → List RefSlot → FrameFront → Syntax Shape
-frameShape has q slots x =
-    sub (refreshFlags has q (x .start)) (λ flags.
-    sub (refOrderHints (hintsListed (q .header .coding) x flags) (q .header .coding .screen .«order_hint_bits_minus_1» + 1)) (λ hints.
-    sub (frameRefs (not (intra x)) (q .header .coding .tools .«enable_order_hint»)) (λ refs.
-    sub (frameGeometry (sizeRules (q .header .coding)) (x .modes .«frame_size_override_flag») (byRefs x) refs slots) (λ z.
+-- n removal times; the slots are those before the frame
+unfoldable pub frameShape : SequenceHeader → ℕ → List RefSlot → FrameFront → Syntax Shape
+frameShape h n slots x =
+    sub (refreshFlags (h .opening .model) n (x .start)) (λ flags.
+    sub (refOrderHints (hintsListed (h .coding) x flags) (h .coding .screen .«order_hint_bits_minus_1» + 1)) (λ hints.
+    sub (frameRefs (not (intra x)) (h .coding .tools .«enable_order_hint»)) (λ refs.
+    sub (frameGeometry (sizeRules (h .coding)) (x .modes .«frame_size_override_flag») (byRefs x) refs slots) (λ z.
     field (intra x && (x .modes .«allow_screen_content_tools» && eqb (z .«upscaled_width») (z .«frame_width»))) 1 (λ intrabc.
-    sub (motionModes (q .header .coding) x) (λ fine.
+    sub (motionModes (h .coding) x) (λ fine.
     field (not (x .modes .«disable_cdf_update»)) 1 (λ disable.
-    sub (tileInfo z (q .header .coding .tools .«use_128x128_superblock»)) (λ last.
+    sub (tileInfo z (h .coding .tools .«use_128x128_superblock»)) (λ last.
     done (shapeOf flags refs z intrabc fine)))))))))

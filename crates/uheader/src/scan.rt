@@ -3,8 +3,6 @@ ghost use mathlib.Core.Path.{_≡_};
 ghost use Rattle.bitio.specs.Parse.{refused, accepted};
 ghost use Rattle.syntax.specs.code.Cursor.{follow, here};
 ghost use Rattle.header.specs.Fields.{answerOf};
-ghost use Rattle.header.specs.Sequence.{sequenceOf};
-ghost use Rattle.frame.specs.Frame.{modelled};
 ghost use Rattle.geometry.specs.code.Sizes.{SizesWithin, SizeFits};
 ghost use Rattle.params.specs.Lossless.{signMagnitude};
 ghost use Rattle.params.specs.Quantization.{Ranged};
@@ -22,7 +20,6 @@ use frame::frame_header::sections::FrontAt;
 use geometry::size::Size;
 use geometry::slots::RefSlot;
 use header::seq_header;
-use header::seq_header::OperatingPoint;
 use header::seq_header::SequenceAnswer;
 use header::seq_header::SequenceHeader;
 use params::quant::Quantizer;
@@ -85,14 +82,14 @@ fn scan_rest(
     c: Cursor,
     s: &[u8],
     header: SequenceHeader,
-    points: [OperatingPoint; 32],
+    removals: usize,
     slots: [RefSlot; 8],
     x: FrameFront,
 ) -> RestAt
     requires { ⌜ SizesWithin (header .coding .size) ⌝ }
-    ensures { λ r. ⌜ (here (r .rest) (r .at) ≡ follow (spec.scanRest signMagnitude modelled (sequenceOf header points) slots x) (now (s .entry)) c) × (SizeFits (r .rest .shape .size) × Ranged (r .rest .quantizer)) ⌝ }
+    ensures { λ r. ⌜ (here (r .rest) (r .at) ≡ follow (spec.scanRest signMagnitude header removals slots x) (now (s .entry)) c) × (SizeFits (r .rest .shape .size) × Ranged (r .rest .quantizer)) ⌝ }
 {
-    let z = shape::frame_shape(c, s, header, points, slots, x);
+    let z = shape::frame_shape(c, s, header, removals, slots, x);
     let shape = z.shape;
     let y = tail::frame_tail(z.at, s, header.coding, x, shape, slots);
     let quantizer = y.q;
@@ -168,17 +165,17 @@ fn finished(slots: [RefSlot; 8], x: FrameFront, rest: Rest, insert: usize, end: 
 // The header's bits, from the first.
 fn scan_bits(
     header: SequenceHeader,
-    points: [OperatingPoint; 32],
+    removals: usize,
     slots: [RefSlot; 8],
     payload: &[u8],
 ) -> ScanStep
     requires { ⌜ SizesWithin (header .coding .size) ⌝ }
-    ensures { λ r. ⌜ r ≡ spec.scanned slots (answerOf (spec.scanBy signMagnitude modelled (sequenceOf header points) slots (now (payload .entry)))) ⌝ }
+    ensures { λ r. ⌜ r ≡ spec.scanned slots (answerOf (spec.scanBy signMagnitude header removals slots (now (payload .entry)))) ⌝ }
 {
     let f = scan_front(Cursor { pos: 0, refusal: 0 }, payload, header);
     let x = f.front;
     let between = f.at;
-    let y = scan_rest(between, payload, header, points, slots, x);
+    let y = scan_rest(between, payload, header, removals, slots, x);
     let at = y.at;
     if at.refusal != 0 {
         return stopped(slots, at.refusal);
@@ -187,15 +184,16 @@ fn scan_bits(
     finished(slots, x, rest, between.pos, at.pos)
 }
 
-// A frame header under a sequence header that was read. For crates that scan many frames under one, within the limit.
+// A frame header under a sequence header that was read, and its number of removal times (frame's `removals`). For crates
+// that scan many frames under one, within the limit.
 pub fn scan_header(
     header: SequenceHeader,
-    points: [OperatingPoint; 32],
+    removals: usize,
     slots: [RefSlot; 8],
     payload: &[u8],
 ) -> ScanStep
     requires { ⌜ SizesWithin (header .coding .size) ⌝ }
-    ensures { λ r. ⌜ r ≡ spec.scanned slots (spec.scanHeader (sequenceOf header points) slots (now (payload .entry))) ⌝ }
+    ensures { λ r. ⌜ r ≡ spec.scanned slots (spec.scanHeader header removals slots (now (payload .entry))) ⌝ }
 {
     if header.opening.reduced_still_picture_header {
         return stopped(slots, 17);
@@ -206,7 +204,7 @@ pub fn scan_header(
     if header.coding.ids.frame_id_numbers_present {
         return stopped(slots, 18);
     }
-    scan_bits(header, points, slots, payload)
+    scan_bits(header, removals, slots, payload)
 }
 
 // scan_uncompressed_header from both payloads: 34 of either leads.
@@ -220,7 +218,10 @@ pub fn scan_uncompressed_header(payload: &[u8], sequence: &[u8], slots: [RefSlot
     let answer = read.answer;
     let points = read.operating_points;
     match answer {
-        SequenceAnswer::Header(header) => scan_header(header, points, slots, payload),
+        SequenceAnswer::Header(header) => {
+            let removals = sections::removals(points, header.opening.operating_points_cnt_minus_1);
+            scan_header(header, removals, slots, payload)
+        }
         SequenceAnswer::Refused(k) => stopped(slots, k),
     }
 }

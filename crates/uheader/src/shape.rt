@@ -2,13 +2,8 @@
 ghost use mathlib.Core.Path.{_≡_};
 ghost use Prim.Native.Nat.{_+_};
 ghost use Rattle.syntax.specs.code.Cursor.{follow, here};
-ghost use Rattle.syntax.specs.Syntax.{field, readOver};
-ghost use Rattle.syntax.specs.Repeat.{times};
-ghost use Rattle.header.specs.Sequence.{sequenceOf};
-ghost use Rattle.frame.specs.Frame.{modelled};
 ghost use Rattle.geometry.specs.code.Sizes.{SizesWithin, SizeFits};
 ghost use Rattle.uheader.specs.Shape as spec;
-ghost use mathlib.Core.Bool.{true};
 use frame::frame_header::FrameFront;
 use frame::frame_header::sections;
 use geometry::refs;
@@ -18,11 +13,11 @@ use geometry::size::SizeRules;
 use geometry::slots::RefSlot;
 use geometry::tiles;
 use header::seq_header::Coding;
-use header::seq_header::OperatingPoint;
 use header::seq_header::SequenceHeader;
 use syntax::choice::times_if;
 use syntax::cursor::Cursor;
 use syntax::cursor::Got;
+use syntax::over::read_over;
 
 // What the later sections and the slots need of the earlier ones.
 pub struct Shape {
@@ -38,24 +33,10 @@ pub struct ShapeAt {
     pub at: Cursor,
 }
 
-// n hints of less + 1 bits, read over.
-fn hints(c: Cursor, s: &[u8], less: u64, n: usize) -> Got
-    ensures { λ r. ⌜ here (r .v) (r .at) ≡ follow (times n (field true (less + 1) (λ hint. readOver))) (now (s .entry)) c ⌝ }
-{
-    let mut at = c;
-    let mut i: usize = 0;
-    while i < n {
-        let hint = at.width_if(s, true, less);
-        at = hint.at;
-        i += 1;
-    }
-    Got { v: 0, at }
-}
-
 fn ref_order_hints(c: Cursor, s: &[u8], on: bool, less: u64) -> Got
     ensures { λ r. ⌜ here (r .v) (r .at) ≡ follow (spec.refOrderHints on (less + 1)) (now (s .entry)) c ⌝ }
 {
-    hints(c, s, less, times_if(on, 8))
+    read_over(c, s, less, times_if(on, 8))
 }
 
 // allow_high_precision_mv to use_ref_frame_mvs.
@@ -83,19 +64,19 @@ pub(crate) fn frame_shape(
     c: Cursor,
     s: &[u8],
     header: SequenceHeader,
-    points: [OperatingPoint; 32],
+    removals: usize,
     slots: [RefSlot; 8],
     x: FrameFront,
 ) -> ShapeAt
     requires { ⌜ SizesWithin (header .coding .size) ⌝ }
-    ensures { λ r. ⌜ (here (r .shape) (r .at) ≡ follow (spec.frameShape modelled (sequenceOf header points) slots x) (now (s .entry)) c) × SizeFits (r .shape .size) ⌝ }
+    ensures { λ r. ⌜ (here (r .shape) (r .at) ≡ follow (spec.frameShape header removals slots x) (now (s .entry)) c) × SizeFits (r .shape .size) ⌝ }
 {
     let start = x.start;
     let modes = x.modes;
     let coding = header.coding;
     let largest = coding.size;
     let intra = sections::is_intra(start.frame_type);
-    let flags = sections::refresh_flags(c, s, header, points, start);
+    let flags = sections::refresh_flags(c, s, header.opening.model, removals, start);
     let listed = (!intra | !(flags.v == 255))
         & (start.error_resilient_mode & coding.tools.enable_order_hint);
     let hints = ref_order_hints(flags.at, s, listed, coding.screen.order_hint_bits_minus_1);

@@ -3,7 +3,7 @@ ghost use mathlib.Core.Path.{_≡_};
 ghost use Rattle.bitio.specs.Limits.{limited};
 ghost use Rattle.syntax.specs.code.Cursor.{follow, here};
 ghost use Rattle.header.specs.Sequence.{sequenceOf};
-ghost use Rattle.frame.specs.Frame.{modelled, showExisting, frameInfo, frameBits, parseFrame, parseFrameFrom, frameSays};
+ghost use Rattle.frame.specs.Frame.{showExisting, frameInfo, frameBits, parseFrame, parseFrameFrom, frameSays};
 use crate::frame_header::FrameAnswer;
 use crate::frame_header::FrameHeaderInfo;
 use crate::frame_header::FrameInfo;
@@ -38,27 +38,27 @@ fn show_existing(c: Cursor, s: &[u8], point_info: bool) -> HeaderAt
 }
 
 // A frame that is not shown again.
-fn frame_info(c: Cursor, s: &[u8], header: SequenceHeader, points: [OperatingPoint; 32]) -> InfoAt
-    ensures { λ r. ⌜ here (r .info) (r .at) ≡ follow (frameInfo modelled (sequenceOf header points)) (now (s .entry)) c ⌝ }
+fn frame_info(c: Cursor, s: &[u8], header: SequenceHeader, removals: usize) -> InfoAt
+    ensures { λ r. ⌜ here (r .info) (r .at) ≡ follow (frameInfo header removals) (now (s .entry)) c ⌝ }
 {
     let x = sections::frame_front(c, s, true, header);
     let front = x.front;
     let start = front.start;
-    let flags = sections::refresh_flags(x.at, s, header, points, start);
+    let flags = sections::refresh_flags(x.at, s, header.opening.model, removals, start);
     let info = sections::info_of(front, flags.v);
     let at = flags.at;
     InfoAt { info, at }
 }
 
 // show_existing_frame, and what follows.
-fn frame_bits(c: Cursor, s: &[u8], header: SequenceHeader, points: [OperatingPoint; 32]) -> HeaderAt
-    ensures { λ r. ⌜ here (r .info) (r .at) ≡ follow (frameBits modelled (sequenceOf header points)) (now (s .entry)) c ⌝ }
+fn frame_bits(c: Cursor, s: &[u8], header: SequenceHeader, removals: usize) -> HeaderAt
+    ensures { λ r. ⌜ here (r .info) (r .at) ≡ follow (frameBits header removals) (now (s .entry)) c ⌝ }
 {
     let existing = c.f(s, 1);
     if existing.v == 1 {
         return show_existing(existing.at, s, sections::has_point_info(header.opening));
     }
-    let f = frame_info(existing.at, s, header, points);
+    let f = frame_info(existing.at, s, header, removals);
     let info = f.info;
     let at = f.at;
     HeaderAt {
@@ -81,7 +81,8 @@ pub fn read_frame_header(
     if header.coding.ids.frame_id_numbers_present {
         return FrameAnswer::Refused(18);
     }
-    let r = frame_bits(Cursor { pos: 0, refusal: 0 }, payload, header, points);
+    let removals = sections::removals(points, header.opening.operating_points_cnt_minus_1);
+    let r = frame_bits(Cursor { pos: 0, refusal: 0 }, payload, header, removals);
     let at = r.at;
     if at.refusal != 0 {
         return FrameAnswer::Refused(at.refusal);

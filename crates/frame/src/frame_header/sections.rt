@@ -1,11 +1,11 @@
 // The sections of a frame header (AV1 5.9.2) up to refresh_frame_flags.
 ghost use mathlib.Core.Path.{_≡_};
-ghost use Prim.Native.Nat.{_+_, _≤_};
+ghost use Prim.Native.Nat.{_+_};
 ghost use lib.ListN.{take};
+ghost use Rattle.obu.specs.Unit.{count};
 ghost use Rattle.syntax.specs.code.Cursor.{follow, here};
-ghost use Rattle.header.specs.Sequence.{sequenceOf};
 ghost use Rattle.header.specs.Support.{hasPointInfo};
-ghost use Rattle.frame.specs.Frame.{modelled, allSlots, isIntra, frameStart, frameModes, frameFront, removalTimes, bufferRemoval, refreshFlags, infoOf};
+ghost use Rattle.frame.specs.Frame.{modelled, allSlots, isIntra, frameStart, frameModes, frameFront, bufferRemoval, refreshFlags, infoOf};
 use crate::frame_header::FrameFront;
 use crate::frame_header::FrameInfo;
 use crate::frame_header::FrameModes;
@@ -21,8 +21,10 @@ use header::seq_header::OperatingPoint;
 use header::seq_header::SequenceHeader;
 use header::seq_header::read_points::points_in;
 use syntax::choice::either;
+use syntax::choice::times_if;
 use syntax::cursor::Cursor;
 use syntax::cursor::Got;
+use syntax::over::read_over;
 
 // Each frame says: SELECT_SCREEN_CONTENT_TOOLS and SELECT_INTEGER_MV.
 const SELECT: u64 = 2;
@@ -153,64 +155,42 @@ pub fn info_of(x: FrameFront, flags: u64) -> FrameInfo
     }
 }
 
-// A removal time for each of the first count points that has a model.
-fn removal_times(c: Cursor, s: &[u8], less: u64, points: [OperatingPoint; 32], count: usize) -> Got
-    requires { ⌜ count ≤ 32 ⌝ }
-    ensures { λ r. ⌜ here (r .v) (r .at) ≡ follow (removalTimes modelled (less + 1) (take count points)) (now (s .entry)) c ⌝ }
+// How many removal times a frame header has: one for each operating point with a model. Of the array more + 1, or all, are
+// operating points. They are much to hand on, the number is not.
+pub fn removals(points: [OperatingPoint; 32], more: u64) -> usize
+    ensures { λ r. ⌜ r ≡ count modelled (take (more + 1) points) ⌝ }
 {
-    let mut at = c;
+    let all = points_in(more);
+    let mut n: usize = 0;
     let mut i: usize = 0;
-    while i < count {
+    while i < all {
         let point = points[i];
-        let time = at.width_if(s, point.decoder_model_present, less);
-        at = time.at;
+        n += times_if(point.decoder_model_present, 1);
         i += 1;
     }
-    Got { v: 0, at }
+    n
 }
 
-// buffer_removal_time_present_flag and the removal times. more + 1 of the points, or all, are operating points.
-fn buffer_removal(
-    c: Cursor,
-    s: &[u8],
-    m: DecoderModelInfo,
-    points: [OperatingPoint; 32],
-    more: u64,
-) -> Got
-    ensures { λ r. ⌜ here (r .v) (r .at) ≡ follow (bufferRemoval modelled m (take (more + 1) points)) (now (s .entry)) c ⌝ }
+// buffer_removal_time_present_flag and the removal times.
+fn buffer_removal(c: Cursor, s: &[u8], m: DecoderModelInfo, removals: usize) -> Got
+    ensures { λ r. ⌜ here (r .v) (r .at) ≡ follow (bufferRemoval m removals) (now (s .entry)) c ⌝ }
 {
     let present = c.f_if(s, m.decoder_model_info_present, 1);
-    let at = present.at;
-    if present.v == 1 {
-        return removal_times(
-            at,
-            s,
-            m.buffer_removal_time_length_minus_1,
-            points,
-            points_in(more),
-        );
-    }
-    Got { v: 0, at }
+    let less = m.buffer_removal_time_length_minus_1;
+    read_over(present.at, s, less, times_if(present.v == 1, removals))
 }
 
-// The removal times, and refresh_frame_flags.
+// The same, and refresh_frame_flags.
 pub fn refresh_flags(
     c: Cursor,
     s: &[u8],
-    header: SequenceHeader,
-    points: [OperatingPoint; 32],
+    m: DecoderModelInfo,
+    removals: usize,
     f: FrameStart,
 ) -> Got
-    ensures { λ r. ⌜ here (r .v) (r .at) ≡ follow (refreshFlags modelled (sequenceOf header points) f) (now (s .entry)) c ⌝ }
+    ensures { λ r. ⌜ here (r .v) (r .at) ≡ follow (refreshFlags m removals f) (now (s .entry)) c ⌝ }
 {
-    let opening = header.opening;
-    let times = buffer_removal(
-        c,
-        s,
-        opening.model,
-        points,
-        opening.operating_points_cnt_minus_1,
-    );
+    let times = buffer_removal(c, s, m, removals);
     let all = all_slots(f.frame_type, f.show_frame);
     let flags = times.at.f_if(s, !all, 8);
     let at = flags.at;

@@ -2,19 +2,18 @@ use borrow.Author.Needs.{needs}
 use native.Mathlib.Omega.{arith}
 use Prim.Native.Nat.{_-_}
 use lib.ListN.{length}
-use Rattle.header.specs.Sequence.{sequenceOf}
 use Rattle.bench.proofs.ScanLaws.{Left, left-all, left-none, left-turn}
 use Rattle.bench.proofs.scans.sum_ends.Statement.{statement}
 use Rattle.bench.proofs.scans.sum_ends.Tie as tie
 
 abbrev Inv-loop : tie.InvT-loop
-Inv-loop header points frames ends slots₀ total₀ i₀ slots total i = Left (sequenceOf header points) frames ends slots total i
+Inv-loop header removals frames ends slots₀ total₀ i₀ slots total i = Left header removals frames ends slots total i
 
 abbrev μ-loop : tie.MeasureT-loop
-μ-loop header points frames ends slots₀ total₀ i₀ slots total i = length ends - i
+μ-loop header removals frames ends slots₀ total₀ i₀ slots total i = length ends - i
 
 loop-holds : tie.Need-loop-holds Inv-loop μ-loop
-loop-holds c = rw (c .empty-slots .ensures) (left-all _ _ _)
+loop-holds c = rw (c .empty-slots .ensures) (left-all _ _ _ _)
 
 scan-header-requires : tie.Need-scan-header-requires Inv-loop μ-loop
 scan-header-requires c κs = search needs

@@ -3,8 +3,6 @@ use mathlib.Core.Path.{ap, _∙_}
 use denote.Ref.{now}
 use Rattle.bitio.specs.Bits.{Reading}
 use Rattle.header.specs.Fields.{answerOf}
-use Rattle.header.specs.Sequence.{sequenceOf}
-use Rattle.frame.specs.Frame.{modelled}
 use Rattle.syntax.proofs.BothLaws.{both-read, both-refused}
 use Rattle.params.specs.Lossless.{signMagnitude}
 use Rattle.uheader.specs.Scan.{scanFront, scanRest, scanOf, scanBy, scanned}
@@ -18,7 +16,7 @@ returns c =
     let a = c .before .before .before .before .before .before .before .before .before .args in
     c .stopped .ensures
     ∙ ap (λ (y : Reading HeaderScan). scanned (a .slots) (answerOf y))
-    (both-refused (scanFront (a .header)) (scanRest signMagnitude modelled (sequenceOf (a .header) (a .points)) (a .slots)) scanOf (now (a .payload))
+    (both-refused (scanFront (a .header)) (scanRest signMagnitude (a .header) (a .removals) (a .slots)) scanOf (now (a .payload))
     (c .before .before .before .before .before .before .before .scan-front .ensures)
     (c .before .before .before .before .scan-rest .ensures .0)
     (c .before .if1 .taken))
@@ -29,7 +27,7 @@ returns-2 c =
     let a = c .before .before .before .before .before .before .before .before .before .before .args in
     c .finished .ensures
     ∙ ap (λ (y : Reading HeaderScan). scanned (a .slots) (answerOf y))
-    (both-read (scanFront (a .header)) (scanRest signMagnitude modelled (sequenceOf (a .header) (a .points)) (a .slots)) scanOf (now (a .payload))
+    (both-read (scanFront (a .header)) (scanRest signMagnitude (a .header) (a .removals) (a .slots)) scanOf (now (a .payload))
     (c .before .before .before .before .before .before .before .before .scan-front .ensures)
     (c .before .before .before .before .before .scan-rest .ensures .0)
     (c .before .before .if1 .left))

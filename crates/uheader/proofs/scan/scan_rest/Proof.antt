@@ -1,7 +1,5 @@
 use borrow.Author.Needs.{needs}
 use denote.Ref.{now}
-use Rattle.header.specs.Sequence.{sequenceOf}
-use Rattle.frame.specs.Frame.{modelled}
 use Rattle.params.specs.Lossless.{signMagnitude}
 use Rattle.uheader.specs.Scan.{scanRest}
 use Rattle.syntax.proofs.LinkLaws.{read, took, whole}
@@ -12,7 +10,7 @@ returns : tie.Need-returns
 unfolding scanRest
 returns c =
     let a = c .before .before .before .before .before .before .args in (
-      whole (scanRest signMagnitude modelled (sequenceOf (a .header) (a .points)) (a .slots) (a .x)) (now (a .s)) (a .c) (λ w x.
+      whole (scanRest signMagnitude (a .header) (a .removals) (a .slots) (a .x)) (now (a .s)) (a .c) (λ w x.
           let x = took x (c .before .before .before .before .frame-shape .ensures .0) in
           let x = took x (c .before .before .frame-tail .ensures .0) in
           read x),

@@ -1,7 +1,5 @@
 use borrow.Author.Needs.{needs}
 use denote.Ref.{now}
-use Rattle.header.specs.Sequence.{sequenceOf}
-use Rattle.frame.specs.Frame.{modelled}
 use Rattle.uheader.specs.Shape.{frameShape}
 use Rattle.syntax.proofs.LinkLaws.{got, read, took, whole}
 use Rattle.uheader.proofs.shape.frame_shape.Statement.{statement}
@@ -11,7 +9,7 @@ returns : tie.Need-returns
 unfolding frameShape
 returns c =
     let a = c .before .before .before .before .before .before .before .before .before .before .before .before .before .before .before .before .before .before .before .before .before .before .before .before .before .args in (
-      whole (frameShape modelled (sequenceOf (a .header) (a .points)) (a .slots) (a .x)) (now (a .s)) (a .c) (λ w x.
+      whole (frameShape (a .header) (a .removals) (a .slots) (a .x)) (now (a .s)) (a .c) (λ w x.
           let x = rw (← c .before .before .before .before .before .before .before .before .before .before .before .before .before .before .before .before .before .before .before .is-intra .ensures) at x in
           let x = took x (c .before .before .before .before .before .before .before .before .before .before .before .before .before .before .before .before .before .before .refresh-flags .ensures) in
           let x = took x (c .before .before .before .before .before .before .before .before .before .before .before .before .before .before .ref-order-hints .ensures) in

@@ -11,7 +11,7 @@ returns c =
     let a = c .before .before .before .args in
     whole (refOrderHints (a .on) (a .less + 1)) (now (a .s)) (a .c) (λ w x.
     let x = rw (← c .before .times-if .ensures .0) at x in
-    let x = took x (c .hints .ensures) in
+    let x = took x (c .read-over .ensures) in
     read x)
 
 pub ref-order-hints-spec : {M : Type 1} → statement M

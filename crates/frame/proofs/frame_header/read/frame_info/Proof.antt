@@ -1,6 +1,5 @@
 use denote.Ref.{now}
-use Rattle.header.specs.Sequence.{sequenceOf}
-use Rattle.frame.specs.Frame.{modelled, frameInfo}
+use Rattle.frame.specs.Frame.{frameInfo}
 use Rattle.syntax.proofs.LinkLaws.{read, took, whole}
 use Rattle.frame.proofs.frame_header.read.frame_info.Statement.{statement}
 use Rattle.frame.proofs.frame_header.read.frame_info.Tie as tie
@@ -9,7 +8,7 @@ returns : tie.Need-returns
 unfolding frameInfo
 returns c =
     let a = c .before .before .before .before .before .before .before .args in
-    whole (frameInfo modelled (sequenceOf (a .header) (a .points))) (now (a .s)) (a .c) (λ w x.
+    whole (frameInfo (a .header) (a .removals)) (now (a .s)) (a .c) (λ w x.
     let x = took x (c .before .before .before .before .before .frame-front .ensures) in
     let x = took x (c .before .before .refresh-flags .ensures) in
     let x = rw (← c .before .info-of .ensures) at x in

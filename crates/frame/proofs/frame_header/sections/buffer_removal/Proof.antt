@@ -1,27 +1,18 @@
-use borrow.Author.Needs.{needs}
-use borrow.Author.Tests.{eq-eqb, ne-eqb}
-use Prim.Native.Nat.{_+_}
-use Rattle.syntax.specs.code.Cursor.{follow}
+use denote.Ref.{now}
 use Rattle.frame.specs.Frame.{bufferRemoval}
-use Rattle.frame.proofs.RemovalLaws.{take-least}
+use Rattle.syntax.proofs.LinkLaws.{got, read, took, whole}
 use Rattle.frame.proofs.frame_header.sections.buffer_removal.Statement.{statement}
 use Rattle.frame.proofs.frame_header.sections.buffer_removal.Tie as tie
 
 returns : tie.Need-returns
-unfolding follow bufferRemoval
+unfolding bufferRemoval
 returns c =
-    let a = c .before .before .before .before .before .before .before .args in
-    rw (
-      ← c .before .before .before .before .before .f-if .ensures .0,
-      eq-eqb _ _ (c .before .before .if1 .taken),
-      ← take-least (a .more + 1) (a .points) (search needs),
-      ← c .before .points-in .ensures,
-      ← c .removal-times .ensures,
-    )
-
-returns-2 : tie.Need-returns-2
-unfolding follow bufferRemoval
-returns-2 c = rw (← c .before .before .before .f-if .ensures .0, ne-eqb _ _ (c .if1 .left))
+    let a = c .before .before .before .before .before .args in
+    whole (bufferRemoval (a .m) (a .removals)) (now (a .s)) (a .c) (λ w x.
+    let x = got x (c .before .before .before .f-if .ensures .0) in
+    let x = rw (← c .before .times-if .ensures .0) at x in
+    let x = took x (c .read-over .ensures) in
+    read x)
 
 pub buffer-removal-spec : {M : Type 1} → statement M
-buffer-removal-spec = tie.close (tie.spec _ _ (λ c κs. search needs) returns returns-2)
+buffer-removal-spec = tie.close (tie.spec _ _ _ returns)

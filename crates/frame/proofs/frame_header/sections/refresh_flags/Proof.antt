@@ -1,6 +1,5 @@
 use denote.Ref.{now}
-use Rattle.header.specs.Sequence.{sequenceOf}
-use Rattle.frame.specs.Frame.{modelled, refreshFlags}
+use Rattle.frame.specs.Frame.{refreshFlags}
 use Rattle.syntax.proofs.LinkLaws.{got, read, took, whole}
 use Rattle.frame.proofs.frame_header.sections.refresh_flags.Statement.{statement}
 use Rattle.frame.proofs.frame_header.sections.refresh_flags.Tie as tie
@@ -8,8 +7,8 @@ use Rattle.frame.proofs.frame_header.sections.refresh_flags.Tie as tie
 returns : tie.Need-returns
 unfolding refreshFlags
 returns c =
-    let a = c .before .before .before .before .before .before .before .args in
-    whole (refreshFlags modelled (sequenceOf (a .header) (a .points)) (a .f)) (now (a .s)) (a .c) (λ w x.
+    let a = c .before .before .before .before .before .before .args in
+    whole (refreshFlags (a .m) (a .removals) (a .f)) (now (a .s)) (a .c) (λ w x.
     let x = took x (c .before .before .before .before .buffer-removal .ensures) in
     let x = rw (← c .before .before .before .all-slots .ensures) at x in
     let x = got x (c .before .before .f-if .ensures .0) in
