@@ -10,7 +10,7 @@ uint64_t rust_scan_quiet(const uint8_t *sequence, size_t sequence_len, const uin
 uint64_t rust_scan_quiet_few(const uint8_t *sequence, size_t sequence_len, const uint8_t *frames, size_t len,
                              const uint32_t *ends, size_t n);
 
-enum { TURNS = 11, FRAMES = 100000, FRAME_BYTES = 256, OURS = 0, RUST = 1, QUIET = 2, FEW = 3, SIDES = 4 };
+enum { TURNS = 11, FRAMES = 100000, FRAME_BYTES = 256, CUTS = 20, OURS = 0, RUST = 1, QUIET = 2, FEW = 3, SIDES = 4 };
 
 static uint64_t (*const sides[SIDES])(const uint8_t *, size_t, const uint8_t *, size_t, const uint32_t *, size_t) = {
     bench_scan, rust_scan, rust_scan_quiet, rust_scan_quiet_few};
@@ -52,28 +52,72 @@ static struct frames repeated(const struct frames *f, size_t from) {
     return all;
 }
 
+// What all sides took, in seconds: the best and the middle turn.
+struct times {
+    uint64_t sum;
+    double best[SIDES], middle[SIDES];
+};
+
 // Scans all frames, turn about.
-static void measure(const char *shape, const struct frames *once, size_t from) {
-    struct frames f = repeated(once, from);
-    double times[SIDES][TURNS];
-    uint64_t sum = 0;
+static struct times timed(const struct frames *f) {
+    double turns[SIDES][TURNS];
+    struct times t = {.sum = 0};
     for (int k = 0; k < TURNS; k++)
         for (int side = 0; side < SIDES; side++) {
-            double t = seconds();
-            uint64_t found = sides[side](f.sequence, f.sequence_len, f.in.bytes, f.in.len, f.ends, f.n);
-            times[side][k] = seconds() - t;
-            if (side == OURS) sum = found;
-            if (found != sum) stop("the Rust's headers end elsewhere");
+            double start = seconds();
+            uint64_t found = sides[side](f->sequence, f->sequence_len, f->in.bytes, f->in.len, f->ends, f->n);
+            turns[side][k] = seconds() - start;
+            if (side == OURS) t.sum = found;
+            if (found != t.sum) stop("the Rust's headers end elsewhere");
         }
-    for (int side = 0; side < SIDES; side++) qsort(times[side], TURNS, sizeof(double), by_time);
-    double scale = 1e9 / FRAMES, ours = times[OURS][TURNS / 2];
-    printf("%-28s %6.1f", shape, (double)sum / FRAMES);
-    for (int side = 0; side < SIDES; side++)
-        printf(" %7.0f %7.0f", times[side][0] * scale, times[side][TURNS / 2] * scale);
-    for (int side = RUST; side < SIDES; side++) printf(" %6.2f", ours / times[side][TURNS / 2]);
+    for (int side = 0; side < SIDES; side++) {
+        qsort(turns[side], TURNS, sizeof(double), by_time);
+        t.best[side] = turns[side][0];
+        t.middle[side] = turns[side][TURNS / 2];
+    }
+    return t;
+}
+
+static void tell(const char *shape, const struct times *t) {
+    double scale = 1e9 / FRAMES;
+    printf("%-36s %6.1f", shape, (double)t->sum / FRAMES);
+    for (int side = 0; side < SIDES; side++) printf(" %7.0f %7.0f", t->best[side] * scale, t->middle[side] * scale);
+    for (int side = RUST; side < SIDES; side++) printf(" %6.2f", t->middle[OURS] / t->middle[side]);
     printf("\n");
     fflush(stdout);
+}
+
+static struct times repeatedly(const struct frames *once, size_t from) {
+    struct frames f = repeated(once, from);
+    struct times t = timed(&f);
     free_frames(&f);
+    return t;
+}
+
+static void measure(const char *shape, const struct frames *once, size_t from) {
+    struct times t = repeatedly(once, from);
+    tell(shape, &t);
+}
+
+// Frame i behind those before it, cut short at every byte up to CUTS: the cut at which ours takes longest by the Rust's time.
+static void measure_cuts(const char *shape, const struct frames *f, size_t i) {
+    struct times worst = {.middle = {[RUST] = 1}};
+    size_t start = i ? f->ends[i - 1] : 0, len = f->ends[i] - start, at = 0;
+    struct frames cut = *f;
+    cut.ends = lend((i + 1) * sizeof(uint32_t));
+    memcpy(cut.ends, f->ends, i * sizeof(uint32_t));
+    cut.n = i + 1;
+    for (size_t k = 0; k < len && k < CUTS; k++) {
+        cut.ends[i] = (uint32_t)(start + k);
+        struct times t = repeatedly(&cut, i);
+        if (t.middle[OURS] / t.middle[RUST] <= worst.middle[OURS] / worst.middle[RUST]) continue;
+        worst = t;
+        at = k;
+    }
+    free(cut.ends);
+    char text[80];
+    snprintf(text, sizeof text, "%.40s, cut to %zu", shape, at);
+    tell(text, &worst);
 }
 
 // ---- real streams
@@ -111,8 +155,9 @@ static void stream(const char *path) {
     struct frames f = lend_frames(FRAMES);
     put_stream(&f, bytes, len);
     if (!f.n || !f.sequence_len) stop("a stream has no frame, or no sequence header");
-    const char *name = strrchr(path, '/');
-    measure(name ? name + 1 : path, &f, 0);
+    const char *slash = strrchr(path, '/'), *name = slash ? slash + 1 : path;
+    measure(name, &f, 0);
+    if (f.n > 1) measure_cuts(name, &f, 1);
     free_frames(&f);
     free(bytes);
 }
@@ -242,14 +287,25 @@ static void made(const char *shape, bool inter, bool affine, bool segmented) {
     free_frames(&f);
 }
 
+// A header that shows another frame, which both sides refuse.
+static void made_existing(void) {
+    struct frames f = lend_frames(1);
+    const uint8_t header = 0x98;
+    put_sequence(&f);
+    put_frame(&f, &header, 1);
+    measure("show existing", &f, 0);
+    free_frames(&f);
+}
+
 int main(int n, char **files) {
     printf("nanoseconds a frame, best and middle of %d turns of %d frames; ratios of the middles\n", TURNS, FRAMES);
-    printf("%-28s %6s %15s %15s %15s %15s %20s\n", "frames", "bits", "ours", "Rust", "no trace", "few clones", "ratios");
+    printf("%-36s %6s %15s %15s %15s %15s %20s\n", "frames", "bits", "ours", "Rust", "no trace", "few clones", "ratios");
     made("smallest shown key", false, false, false);
     made("key, full segmentation", false, false, true);
     made("inter", true, false, false);
     made("inter, full segmentation", true, false, true);
     made("inter, full global motion", true, true, false);
+    made_existing();
     for (int i = 1; i < n; i++) stream(files[i]);
     return 0;
 }

@@ -32,11 +32,11 @@ use Rattle.params.specs.SkipMode.{isBefore, isAfter, nearer, forward, skipModeA
 use Rattle.params.specs.Motion.{decodeSubexp, readGlobalParam, gmParams, motion, globalMotionParams}
 use Rattle.uheader.specs.Shape.{refOrderHints, motionModes, frameShape}
 use Rattle.uheader.specs.Tail.{filterParams, motionParams, frameTail}
-use Rattle.uheader.specs.Scan.{scannable, scanFront, scanRest, scanBy, scanHeader, scanPayloads}
+use Rattle.uheader.specs.Scan.{scanFront, scanRest, openScan, scanBehind, scanBy, scanHeader, scanPayloads}
 use Rattle.pictures.specs.Assemble.{sameBytes}
 use Rattle.cases.specs.Cases.{check}
 use Rattle.cases.specs.ScanRows.{scanRows}
 
 pub scanCases : check scanRows ≡ true
-unfolding check sameBytes andNext limited readBits bitsWithin bitsAt bitAt halvings leadingZeros uvlcSuffix uvlc run repeat whilst times count ns readFlag readOr flagOr uvlcOr timingInfo decoderModelInfo opening operatingPoint operatingPoints frameSize frameIds codingTools screenTools filters colorDescription colorSampling coding sequenceHeader parseSequence frameStart frameModes frameFront bufferRemoval refreshFlags refresh refFrameIdx frameRefs size.superresParams size.frameSize size.renderSize size.frameAndRenderSize size.foundRef size.frameSizeWithRefs size.frameGeometry doublings limitsFor tileLimits increment increments tileSize tileSizes uniformTiles explicitTiles tileLogs tileInfo readDeltaQ quantizationParams feature segment segments segmentationParams deltaQParams deltaLfParams noDelta codedLossless loopFilterParams strengths cdefParams lrParams isBefore isAfter nearer forward skipModeAllowed skipModeParams decodeSubexp readGlobalParam gmParams motion globalMotionParams refOrderHints motionModes frameShape filterParams motionParams frameTail scannable scanFront scanRest scanBy scanHeader scanPayloads
+unfolding check sameBytes andNext limited readBits bitsWithin bitsAt bitAt halvings leadingZeros uvlcSuffix uvlc run repeat whilst times count ns readFlag readOr flagOr uvlcOr timingInfo decoderModelInfo opening operatingPoint operatingPoints frameSize frameIds codingTools screenTools filters colorDescription colorSampling coding sequenceHeader parseSequence frameStart frameModes frameFront bufferRemoval refreshFlags refresh refFrameIdx frameRefs size.superresParams size.frameSize size.renderSize size.frameAndRenderSize size.foundRef size.frameSizeWithRefs size.frameGeometry doublings limitsFor tileLimits increment increments tileSize tileSizes uniformTiles explicitTiles tileLogs tileInfo readDeltaQ quantizationParams feature segment segments segmentationParams deltaQParams deltaLfParams noDelta codedLossless loopFilterParams strengths cdefParams lrParams isBefore isAfter nearer forward skipModeAllowed skipModeParams decodeSubexp readGlobalParam gmParams motion globalMotionParams refOrderHints motionModes frameShape filterParams motionParams frameTail scanFront scanRest openScan scanBehind scanBy scanHeader scanPayloads
 scanCases = refl

@@ -3,6 +3,5 @@ pub mod LinkLaws
 pub mod RepeatLaws
 pub mod NearLaws
 pub mod LocalLaws
-pub mod BothLaws
 pub mod EndLaws
 pub mod TimesLaws

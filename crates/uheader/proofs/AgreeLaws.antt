@@ -81,8 +81,8 @@ unfolding scanRest frameShape
 flags-read h n slots s x p y e was k =
     sub-was (frameShape h n slots x) _ _ s p was (λ z a g was.
     sub-was (refreshFlags (h .opening .model) n (x .start)) _ _ s p g (λ flags c m g.
-    let i : z ≡ y .shape = gives (λ (r : Rest). z ≡ r .shape) _ (λ q. refl) s a was in
-    let j : z .«refresh_frame_flags» ≡ flags = gives (λ (z : Shape). z .«refresh_frame_flags» ≡ flags) _ (λ hints refs size intrabc fine disable last. refl) s c g in
+    let i : z ≡ y .shape = gives (λ (r : Rest). z ≡ r .shape) _ (λ last q. refl) s a was in
+    let j : z .«refresh_frame_flags» ≡ flags = gives (λ (z : Shape). z .«refresh_frame_flags» ≡ flags) _ (λ hints refs size intrabc fine disable. refl) s c g in
     k c (m ∙ ap (λ v. reads v c) (sym j ∙ ap (λ (z : Shape). z .«refresh_frame_flags») i))))
 
 module _ (q : Sequence) (slots : List RefSlot) (s : List ℕ) where

@@ -22,12 +22,11 @@ use Rattle.params.specs.Lossless.{signMagnitude}
 use Rattle.params.specs.SkipMode.{skipModeParams}
 use Rattle.uheader.specs.Shape.{frameShape}
 use Rattle.uheader.specs.Tail.{motionParams, frameTail}
-use Rattle.uheader.specs.Scan.{scanFront, scanRest, scanBy, scanHeader, refSlotOf, slotsAfter}
+use Rattle.uheader.specs.Scan.{scanFront, scanRest, scanBehind, scanBy, scanHeader, refSlotOf, slotsAfter}
 use Rattle.uheader.specs.declared.scan.HeaderScan.{HeaderScan}
 use Rattle.uheader.proofs.ReadingLaws.{Parts, parts}
 use Rattle.uheader.proofs.GivesLaws.{gives}
 use Rattle.uheader.proofs.AgreeLaws.{flags-read}
-use Rattle.uheader.proofs.ScanLaws.{scan-on}
 
 -- every slot is refreshed
 fill : {A : Type 0} (n flags : ℕ) (new : A) (l : List A) → flags ≡ 2 ^ n - 1 → length l ≡ n → refresh flags new l ≡ replicate n new
@@ -53,12 +52,11 @@ module _ (h : SequenceHeader) (n : ℕ) (s : List ℕ) where
 
     -- the scan of an intra frame is the same, whatever the slots were
     pub intra-same : (slots′ : List RefSlot) → isIntra (x .frame .«frame_type») ≡ true → scanHeader h n slots′ s ≡ accepted x
-    unfolding scanBy
+    unfolding scanHeader scanBy scanBehind
     intra-same slots′ intra =
         let i : x .frame .«frame_type» ≡ ps .front .start .«frame_type» = ap (λ (y : HeaderScan). y .frame .«frame_type») (ps .same) in
         let r = intra-rest signMagnitude slots′ slots (ps .front) (x .«removal_insert_pos») (ap isIntra (sym i) ∙ intra) ∙ ps .rest-read in
-        scan-on h n slots′ s (ps .full) (ps .grainless) (ps .idless)
-        ∙ rw (ps .front-read, r) (ap accepted (sym (ps .same)))
+        rw (ps .opened, r) (ap accepted (sym (ps .same)))
 
     -- a shown key refreshes all slots
     pub key-flags : x .frame .«frame_type» ≡ keyFrame → x .frame .«show_frame» ≡ true → x .frame .«refresh_frame_flags» ≡ 255

@@ -1,6 +1,5 @@
 pub mod WithinLaws
 pub mod MapLaws
-pub mod ScanLaws
 pub mod ReadingLaws
 pub mod GivesLaws
 pub mod AgreeLaws

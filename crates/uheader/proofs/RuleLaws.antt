@@ -15,6 +15,7 @@ use Rattle.frame.specs.Frame.{primaryNone}
 use Rattle.frame.specs.declared.frame_header.FrameFront.{FrameFront}
 use Rattle.frame.proofs.FrameLaws.{Fits, field-fits}
 use Rattle.frame.proofs.FrameSpecLaws.{then-same}
+use Rattle.geometry.specs.Tiles.{tileInfo}
 use Rattle.geometry.specs.declared.slots.RefSlot.{RefSlot}
 use Rattle.params.specs.Quantization.{readDeltaQ, quantizationParams, Ranged}
 use Rattle.params.specs.Segmentation.{segmentationParams}
@@ -23,7 +24,7 @@ use Rattle.params.specs.declared.quant.Quantizer.{Quantizer}
 use Rattle.params.proofs.SignLaws.{NoLoneSign, Alike, rules-agree}
 use Rattle.uheader.specs.Shape.{frameShape}
 use Rattle.uheader.specs.Tail.{color, frameTail}
-use Rattle.uheader.specs.Scan.{scanFront, scanRest, scanOf, scanBy}
+use Rattle.uheader.specs.Scan.{openScan, scanRest, scanBehind, scanOf, scanBy}
 use Rattle.uheader.specs.declared.shape.Shape.{Shape}
 use Rattle.uheader.specs.declared.scan.Rest.{Rest}
 
@@ -79,15 +80,17 @@ module _ (rule rule′ : ℕ → ℕ → ℕ) (h : SequenceHeader) (n : ℕ) (sl
       rw (alike y t g alts u h)))
 
   -- then the scans are the same
-  pub rules-same : ((x : FrameFront) (p : ℕ) → run (scanFront h) s 0 ≡ reads x p
-      → (z : Shape) (r : ℕ) → run (frameShape h n slots x) s p ≡ reads z r → JudgeAlike x r)
+  pub rules-same : ((x : FrameFront) (p : ℕ) → openScan h s ≡ reads x p
+      → (z : Shape) (q : ℕ) → run (frameShape h n slots x) s p ≡ reads z q
+      → (t r : ℕ) → run (tileInfo (z .size) (c .tools .«use_128x128_superblock»)) s q ≡ reads t r → JudgeAlike x r)
       → scanBy rule h n slots s ≡ scanBy rule′ h n slots s
-  unfolding run scanBy scanRest
+  unfolding run scanBy scanBehind scanRest
   rules-same alike =
-      then-same (run (scanFront h) s 0) _ _ (λ x p g.
+      then-same (openScan h s) _ _ (λ x p g.
       ap (λ (y : Reading Rest). andThen y (λ r end. reads (scanOf x r p end) end))
-      (then-same (run (frameShape h n slots x) s p) _ _ (λ z r k.
-      rw (tail-same x z r (alike x p g z r k)))))
+      (then-same (run (frameShape h n slots x) s p) _ _ (λ z q k.
+      then-same (run (tileInfo (z .size) (c .tools .«use_128x128_superblock»)) s q) _ _ (λ t r l.
+      rw (tail-same x z r (alike x p g z q k t r l))))))
 
 -- ---- the Rust's and AV1's
 
@@ -99,11 +102,12 @@ module _ (h : SequenceHeader) (n : ℕ) (slots : List RefSlot) (s : List ℕ) wh
       → (alts : List ℕ) (u : ℕ) → run (segmentationParams (eqb (x .modes .«primary_ref_frame») primaryNone)) s t ≡ reads alts u
       → NoLoneSign y × Every (Alike (y .«base_q_idx»)) alts
 
-  pub spec-scan : ((x : FrameFront) (p : ℕ) → run (scanFront h) s 0 ≡ reads x p
-      → (z : Shape) (r : ℕ) → run (frameShape h n slots x) s p ≡ reads z r → Plain x r)
+  pub spec-scan : ((x : FrameFront) (p : ℕ) → openScan h s ≡ reads x p
+      → (z : Shape) (q : ℕ) → run (frameShape h n slots x) s p ≡ reads z q
+      → (t r : ℕ) → run (tileInfo (z .size) (h .coding .tools .«use_128x128_superblock»)) s q ≡ reads t r → Plain x r)
       → scanBy signMagnitude h n slots s ≡ scanBy twosComplement h n slots s
   spec-scan plain =
-      rules-same signMagnitude twosComplement h n slots s (λ x p g z r f y t a alts u b.
+      rules-same signMagnitude twosComplement h n slots s (λ x p g z q k t r l y v a alts u b.
       let ranged : Ranged y = rw a at (quant-ranged s r (color (h .coding)) (h .coding .sampling .«separate_uv_delta_q»)) in
-      let k = plain x p g z r f y t a alts u b in
-      rules-agree y ranged (k .0) (k .1))
+      let same = plain x p g z q k t r l y v a alts u b in
+      rules-agree y ranged (same .0) (same .1))

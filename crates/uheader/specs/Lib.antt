@@ -1,3 +1,4 @@
 pub mod Shape
 pub mod Tail
 pub mod Scan
+pub mod code

@@ -5,7 +5,7 @@ use mathlib.Core.Bool.{true, false, cond as pick}
 use lib.Dec.{eqb}
 use lib.ListN.{replicate}
 use Rattle.bitio.specs.Parse.{Answer, refused, accepted, andNext}
-use Rattle.bitio.specs.Bits.{Reading, reads, andThen}
+use Rattle.bitio.specs.Bits.{Reading, fails, reads, andThen}
 use Rattle.bitio.specs.Limits.{limited}
 use Rattle.syntax.specs.Syntax.{Syntax, done, field, refuse, sub, run}
 use Rattle.syntax.specs.Signed.{su}
@@ -17,6 +17,7 @@ use Rattle.frame.specs.Refresh.{refresh}
 use Rattle.frame.specs.declared.frame_header.FrameFront.{FrameFront}
 use Rattle.frame.specs.declared.frame_header.FrameInfo.{FrameInfo}
 use Rattle.geometry.specs.Slots.{emptySlot}
+use Rattle.geometry.specs.Tiles.{tileInfo}
 use Rattle.geometry.specs.declared.slots.RefSlot.{RefSlot}
 use Rattle.geometry.specs.declared.size.Size.{Size}
 use Rattle.params.specs.Lossless.{signMagnitude}
@@ -33,13 +34,6 @@ use Rattle.uheader.specs.declared.scan.ScanStep.{ScanStep}
 
 -- ---- the header
 
--- 02 §2: 17 reduced, 20 film grain, 18 frame ids, in that order
-unfoldable pub scannable : SequenceHeader → Answer Unit
-scannable h =
-    pick (h .opening .«reduced_still_picture_header») (refused 17) (
-    pick (h .coding .«film_grain_params_present») (refused 20) (
-    pick (h .coding .ids .«frame_id_numbers_present») (refused 18) (accepted tt)))
-
 -- up to primary_ref_frame; 42: show_existing_frame
 unfoldable pub scanFront : SequenceHeader → Syntax FrameFront
 scanFront h =
@@ -55,8 +49,9 @@ restOf z q = record { shape = z; quantizer = q }
 unfoldable pub scanRest : (ℕ → ℕ → ℕ) → SequenceHeader → ℕ → List RefSlot → FrameFront → Syntax Rest
 scanRest rule h n slots x =
     sub (frameShape h n slots x) (λ z.
+    sub (tileInfo (z .size) (h .coding .tools .«use_128x128_superblock»)) (λ last.
     sub (frameTail rule (h .coding) x z slots) (λ y.
-    done (restOf z y)))
+    done (restOf z y))))
 
 -- AV1 4.10.6: the deltas as signed numbers
 abbrev pub deltasOf : Quantizer → Deltas
@@ -81,16 +76,26 @@ scanOf x r insert end =
       deltas = deltasOf (r .quantizer);
     }
 
--- by either rule for CodedLossless, with n removal times
-unfoldable pub scanBy : (ℕ → ℕ → ℕ) → SequenceHeader → ℕ → List RefSlot → List ℕ → Reading HeaderScan
-scanBy rule h n slots f =
-    andThen (run (scanFront h) f 0) (λ x insert.
+-- the first part. 02 §2: 17 reduced, 20 film grain, 18 frame ids, in that order; then as met
+unfoldable pub openScan : SequenceHeader → List ℕ → Reading FrameFront
+openScan h f =
+    pick (h .opening .«reduced_still_picture_header») (fails 17) (
+    pick (h .coding .«film_grain_params_present») (fails 20) (
+    pick (h .coding .ids .«frame_id_numbers_present») (fails 18) (
+    run (scanFront h) f 0)))
+
+-- and the second, by either rule for CodedLossless, with n removal times
+unfoldable pub scanBehind : (ℕ → ℕ → ℕ) → SequenceHeader → ℕ → List RefSlot → List ℕ → FrameFront → ℕ → Reading HeaderScan
+scanBehind rule h n slots f x insert =
     andThen (run (scanRest rule h n slots x) f insert) (λ r end.
-    reads (scanOf x r insert end) end))
+    reads (scanOf x r insert end) end)
+
+unfoldable pub scanBy : (ℕ → ℕ → ℕ) → SequenceHeader → ℕ → List RefSlot → List ℕ → Reading HeaderScan
+scanBy rule h n slots f = andThen (openScan h f) (λ x insert. scanBehind rule h n slots f x insert)
 
 -- a frame payload under a sequence header, with n removal times, by the Rust's rule
 unfoldable pub scanHeader : SequenceHeader → ℕ → List RefSlot → List ℕ → Answer HeaderScan
-scanHeader h n slots f = andNext (scannable h) (λ _. answerOf (scanBy signMagnitude h n slots f))
+scanHeader h n slots f = answerOf (scanBy signMagnitude h n slots f)
 
 -- the same of both payloads, with the Rust's removal times, 34 of either first
 unfoldable pub scanPayloads : List ℕ → List RefSlot → List ℕ → Answer HeaderScan

@@ -1,4 +1,4 @@
--- AV1 5.9.2 uncompressed_header, from the removal times to tile_info.
+-- AV1 5.9.2 uncompressed_header, from the removal times to what stands before tile_info.
 use Prim.Native.Nat.{ℕ, _+_}
 use mathlib.Core.List.{List}
 use mathlib.Core.Bool.{Bool, true, not, _&&_, _||_, cond as pick}
@@ -11,7 +11,6 @@ use Rattle.frame.specs.Frame.{isIntra, refreshFlags}
 use Rattle.frame.specs.declared.frame_header.FrameFront.{FrameFront}
 use Rattle.geometry.specs.Refs.{frameRefs}
 use Rattle.geometry.specs.Size.{frameGeometry}
-use Rattle.geometry.specs.Tiles.{tileInfo}
 use Rattle.geometry.specs.declared.slots.RefSlot.{RefSlot}
 use Rattle.geometry.specs.declared.size.Size.{Size}
 use Rattle.geometry.specs.declared.size.SizeRules.{SizeRules}
@@ -68,5 +67,4 @@ frameShape h n slots x =
     field (intra x && (x .modes .«allow_screen_content_tools» && eqb (z .«upscaled_width») (z .«frame_width»))) 1 (λ intrabc.
     sub (motionModes (h .coding) x) (λ fine.
     field (not (x .modes .«disable_cdf_update»)) 1 (λ disable.
-    sub (tileInfo z (h .coding .tools .«use_128x128_superblock»)) (λ last.
-    done (shapeOf flags refs z intrabc fine)))))))))
+    done (shapeOf flags refs z intrabc fine))))))))

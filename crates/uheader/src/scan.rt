@@ -7,6 +7,7 @@ ghost use Rattle.geometry.specs.code.Sizes.{SizesWithin, SizeFits};
 ghost use Rattle.params.specs.Lossless.{signMagnitude};
 ghost use Rattle.params.specs.Quantization.{Ranged};
 ghost use Rattle.uheader.specs.Scan as spec;
+ghost use Rattle.uheader.specs.code.Opened.{openedSays};
 use crate::dpb;
 use crate::shape;
 use crate::shape::Shape;
@@ -19,6 +20,7 @@ use frame::frame_header::sections;
 use frame::frame_header::sections::FrontAt;
 use geometry::size::Size;
 use geometry::slots::RefSlot;
+use geometry::tiles::tile_info;
 use header::seq_header;
 use header::seq_header::SequenceAnswer;
 use header::seq_header::SequenceHeader;
@@ -64,9 +66,12 @@ pub struct Rest {
     pub quantizer: Quantizer,
 }
 
-pub(crate) struct RestAt {
-    pub rest: Rest,
-    pub at: Cursor,
+// The fields up to primary_ref_frame.
+pub(crate) enum Opened {
+    // and the bit position behind them
+    Front(FrameFront, usize),
+    // document 01's number
+    Refused(u32),
 }
 
 // show_existing_frame to primary_ref_frame.
@@ -78,26 +83,26 @@ fn scan_front(c: Cursor, s: &[u8], header: SequenceHeader) -> FrontAt
     sections::frame_front(at, s, false, header)
 }
 
-fn scan_rest(
-    c: Cursor,
-    s: &[u8],
-    header: SequenceHeader,
-    removals: usize,
-    slots: [RefSlot; 8],
-    x: FrameFront,
-) -> RestAt
-    requires { ⌜ SizesWithin (header .coding .size) ⌝ }
-    ensures { λ r. ⌜ (here (r .rest) (r .at) ≡ follow (spec.scanRest signMagnitude header removals slots x) (now (s .entry)) c) × (SizeFits (r .rest .shape .size) × Ranged (r .rest .quantizer)) ⌝ }
+// What a scan needs before it looks at the slots: a frame that is refused here costs no copy of them.
+fn open_scan(header: SequenceHeader, payload: &[u8]) -> Opened
+    ensures { λ r. ⌜ openedSays r ≡ spec.openScan header (now (payload .entry)) ⌝ }
 {
-    let z = shape::frame_shape(c, s, header, removals, slots, x);
-    let shape = z.shape;
-    let y = tail::frame_tail(z.at, s, header.coding, x, shape, slots);
-    let quantizer = y.q;
-    let at = y.at;
-    RestAt {
-        rest: Rest { shape, quantizer },
-        at,
+    if header.opening.reduced_still_picture_header {
+        return Opened::Refused(17);
     }
+    if header.coding.film_grain_params_present {
+        return Opened::Refused(20);
+    }
+    if header.coding.ids.frame_id_numbers_present {
+        return Opened::Refused(18);
+    }
+    let f = scan_front(Cursor { pos: 0, refusal: 0 }, payload, header);
+    let at = f.at;
+    if at.refusal != 0 {
+        return Opened::Refused(at.refusal);
+    }
+    let front = f.front;
+    Opened::Front(front, at.pos)
 }
 
 fn signed_deltas(q: Quantizer) -> Deltas
@@ -162,26 +167,38 @@ fn finished(slots: [RefSlot; 8], x: FrameFront, rest: Rest, insert: usize, end: 
     }
 }
 
-// The header's bits, from the first.
-fn scan_bits(
+// What follows primary_ref_frame, which ends at insert. The tiles of a shape that is refused are not walked.
+fn scan_behind(
+    x: FrameFront,
+    insert: usize,
     header: SequenceHeader,
     removals: usize,
     slots: [RefSlot; 8],
     payload: &[u8],
 ) -> ScanStep
     requires { ⌜ SizesWithin (header .coding .size) ⌝ }
-    ensures { λ r. ⌜ r ≡ spec.scanned slots (answerOf (spec.scanBy signMagnitude header removals slots (now (payload .entry)))) ⌝ }
+    ensures { λ r. ⌜ r ≡ spec.scanned slots (answerOf (spec.scanBehind signMagnitude header removals slots (now (payload .entry)) x insert)) ⌝ }
 {
-    let f = scan_front(Cursor { pos: 0, refusal: 0 }, payload, header);
-    let x = f.front;
-    let between = f.at;
-    let y = scan_rest(between, payload, header, removals, slots, x);
+    let c = Cursor {
+        pos: insert,
+        refusal: 0,
+    };
+    let coding = header.coding;
+    let z = shape::frame_shape(c, payload, header, removals, slots, x);
+    let sized = z.at;
+    if sized.refusal != 0 {
+        return stopped(slots, sized.refusal);
+    }
+    let shape = z.shape;
+    let large = coding.tools.use_128x128_superblock;
+    let tiles = tile_info(sized, payload, shape.size, large);
+    let y = tail::frame_tail(tiles.at, payload, coding, x, shape, slots);
     let at = y.at;
     if at.refusal != 0 {
         return stopped(slots, at.refusal);
     }
-    let rest = y.rest;
-    finished(slots, x, rest, between.pos, at.pos)
+    let quantizer = y.q;
+    finished(slots, x, Rest { shape, quantizer }, insert, at.pos)
 }
 
 // A frame header under a sequence header that was read, and its number of removal times (frame's `removals`). For crates
@@ -195,16 +212,11 @@ pub fn scan_header(
     requires { ⌜ SizesWithin (header .coding .size) ⌝ }
     ensures { λ r. ⌜ r ≡ spec.scanned slots (spec.scanHeader header removals slots (now (payload .entry))) ⌝ }
 {
-    if header.opening.reduced_still_picture_header {
-        return stopped(slots, 17);
+    let opened = open_scan(header, payload);
+    match opened {
+        Opened::Front(x, insert) => scan_behind(x, insert, header, removals, slots, payload),
+        Opened::Refused(k) => stopped(slots, k),
     }
-    if header.coding.film_grain_params_present {
-        return stopped(slots, 20);
-    }
-    if header.coding.ids.frame_id_numbers_present {
-        return stopped(slots, 18);
-    }
-    scan_bits(header, removals, slots, payload)
 }
 
 // scan_uncompressed_header from both payloads: 34 of either leads.

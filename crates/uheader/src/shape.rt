@@ -1,4 +1,4 @@
-// The frame header from the removal times to tile_info (AV1 5.9.2).
+// The frame header from the removal times to what stands before tile_info (AV1 5.9.2).
 ghost use mathlib.Core.Path.{_≡_};
 ghost use Prim.Native.Nat.{_+_};
 ghost use Rattle.syntax.specs.code.Cursor.{follow, here};
@@ -11,7 +11,6 @@ use geometry::size;
 use geometry::size::Size;
 use geometry::size::SizeRules;
 use geometry::slots::RefSlot;
-use geometry::tiles;
 use header::seq_header::Coding;
 use header::seq_header::SequenceHeader;
 use syntax::choice::times_if;
@@ -98,8 +97,7 @@ pub(crate) fn frame_shape(
     );
     let fine = motion_modes(intrabc.at, s, coding, x);
     let disable = fine.at.f_if(s, !modes.disable_cdf_update, 1);
-    let tiles = tiles::tile_info(disable.at, s, size, coding.tools.use_128x128_superblock);
-    let at = tiles.at;
+    let at = disable.at;
     ShapeAt {
         shape: Shape {
             refresh_frame_flags: flags.v,

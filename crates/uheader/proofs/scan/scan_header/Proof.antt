@@ -1,21 +1,39 @@
 use borrow.Author.Needs.{needs}
+use Prim.Native.Nat.{ℕ}
 use mathlib.Core.Path.{sym, ap, _∙_}
-use Rattle.uheader.specs.Scan.{scanned}
-use Rattle.uheader.proofs.ScanLaws.{scan-reduced, scan-grain, scan-ids, scan-on}
+use mathlib.Core.List.{List}
+use denote.Ref.{now}
+use Rattle.bitio.specs.Bits.{Reading, andThen}
+use Rattle.header.specs.Fields.{answerOf}
+use Rattle.header.specs.declared.seq_header.SequenceHeader.{SequenceHeader}
+use Rattle.frame.specs.declared.frame_header.FrameFront.{FrameFront}
+use Rattle.geometry.specs.declared.slots.RefSlot.{RefSlot}
+use Rattle.params.specs.Lossless.{signMagnitude}
+use Rattle.uheader.specs.Scan.{scanBehind, scanBy, scanHeader, scanned}
+use Rattle.uheader.specs.declared.scan.ScanStep.{ScanStep}
+use Rattle.uheader.specs.code.Opened.{openedSays}
 use Rattle.uheader.proofs.scan.scan_header.Statement.{statement}
 use Rattle.uheader.proofs.scan.scan_header.Tie as tie
 
+-- what becomes of an opening
+abbrev after : SequenceHeader → ℕ → List RefSlot → List ℕ → Reading FrameFront → ScanStep
+after h n slots f y = scanned slots (answerOf (andThen y (λ x insert. scanBehind signMagnitude h n slots f x insert)))
+
 returns : tie.Need-returns
-returns c = c .stopped .ensures ∙ ap (scanned _) (sym (scan-reduced _ _ _ _ (c .before .if1 .taken)))
+unfolding scanHeader scanBy
+returns c =
+    let k = c .before .before .before .before in
+    let a = k .before .before .args in
+    c .scan-behind .ensures
+    ∙ ap (after (a .header) (a .removals) (a .slots) (now (a .payload))) (sym (ap openedSays (c .before .before .opened .given .1)) ∙ k .open-scan .ensures)
 
 returns-2 : tie.Need-returns-2
-returns-2 c = c .stopped2 .ensures ∙ ap (scanned _) (sym (scan-grain _ _ _ _ (c .before .before .if1 .left) (c .before .if2 .taken)))
-
-returns-3 : tie.Need-returns-3
-returns-3 c = c .stopped3 .ensures ∙ ap (scanned _) (sym (scan-ids _ _ _ _ (c .before .before .before .if1 .left) (c .before .before .if2 .left) (c .before .if3 .taken)))
-
-returns-4 : tie.Need-returns-4
-returns-4 c = c .scan-bits .ensures ∙ ap (scanned _) (sym (scan-on _ _ _ _ (c .before .before .before .if1 .left) (c .before .before .if2 .left) (c .before .if3 .left)))
+unfolding scanHeader scanBy
+returns-2 c =
+    let k = c .before .before .before .before in
+    let a = k .before .before .args in
+    c .stopped .ensures
+    ∙ ap (after (a .header) (a .removals) (a .slots) (now (a .payload))) (sym (ap openedSays (c .before .before .opened2 .given .1)) ∙ k .open-scan .ensures)
 
 pub scan-header-spec : {M : Type 1} → statement M
-scan-header-spec = tie.close (tie.spec _ returns _ returns-2 _ returns-3 (λ c κs. search needs) returns-4)
+scan-header-spec = tie.close (tie.spec _ (λ c. search needs) (λ c κs. search needs) (λ c. search needs) _ returns returns-2)
