@@ -10,7 +10,7 @@ uint64_t rust_scan_quiet(const uint8_t *sequence, size_t sequence_len, const uin
 uint64_t rust_scan_quiet_few(const uint8_t *sequence, size_t sequence_len, const uint8_t *frames, size_t len,
                              const uint32_t *ends, size_t n);
 
-enum { TURNS = 11, FRAMES = 100000, FRAME_BYTES = 256, CUTS = 20, OURS = 0, RUST = 1, QUIET = 2, FEW = 3, SIDES = 4 };
+enum { TURNS = 11, FRAMES = 100000, FRAME_BYTES = 256, CUTS = 40, OURS = 0, RUST = 1, QUIET = 2, FEW = 3, SIDES = 4 };
 
 static uint64_t (*const sides[SIDES])(const uint8_t *, size_t, const uint8_t *, size_t, const uint32_t *, size_t) = {
     bench_scan, rust_scan, rust_scan_quiet, rust_scan_quiet_few};
@@ -87,7 +87,8 @@ static void tell(const char *shape, const struct times *t) {
     fflush(stdout);
 }
 
-static struct times repeatedly(const struct frames *once, size_t from) {
+// The times of frame `from` and those behind it, again and again.
+static struct times times_of(const struct frames *once, size_t from) {
     struct frames f = repeated(once, from);
     struct times t = timed(&f);
     free_frames(&f);
@@ -95,26 +96,28 @@ static struct times repeatedly(const struct frames *once, size_t from) {
 }
 
 static void measure(const char *shape, const struct frames *once, size_t from) {
-    struct times t = repeatedly(once, from);
+    struct times t = times_of(once, from);
     tell(shape, &t);
 }
 
-// Frame i behind those before it, cut short at every byte up to CUTS: the cut at which ours takes longest by the Rust's time.
-static void measure_cuts(const char *shape, const struct frames *f, size_t i) {
-    struct times worst = {.middle = {[RUST] = 1}};
-    size_t start = i ? f->ends[i - 1] : 0, len = f->ends[i] - start, at = 0;
+static double by_rust(const struct times *t) { return t->middle[OURS] / t->middle[RUST]; }
+
+// The second frame cut short at every byte, as long as its header is: the cut at which ours takes longest by the Rust's time.
+static void measure_cuts(const char *shape, const struct frames *f) {
+    uint32_t ends[2] = {f->ends[0], f->ends[0]};
+    size_t at = 0;
     struct frames cut = *f;
-    cut.ends = lend((i + 1) * sizeof(uint32_t));
-    memcpy(cut.ends, f->ends, i * sizeof(uint32_t));
-    cut.n = i + 1;
-    for (size_t k = 0; k < len && k < CUTS; k++) {
-        cut.ends[i] = (uint32_t)(start + k);
-        struct times t = repeatedly(&cut, i);
-        if (t.middle[OURS] / t.middle[RUST] <= worst.middle[OURS] / worst.middle[RUST]) continue;
+    cut.ends = ends;
+    cut.n = 2;
+    struct times worst = times_of(&cut, 1);
+    for (size_t k = 1; k < CUTS && ends[0] + k < f->ends[1]; k++) {
+        ends[1] = (uint32_t)(ends[0] + k);
+        struct times t = times_of(&cut, 1);
+        if (t.sum >= FRAMES) break; // each cut frame was scanned
+        if (by_rust(&t) <= by_rust(&worst)) continue;
         worst = t;
         at = k;
     }
-    free(cut.ends);
     char text[80];
     snprintf(text, sizeof text, "%.40s, cut to %zu", shape, at);
     tell(text, &worst);
@@ -157,7 +160,7 @@ static void stream(const char *path) {
     if (!f.n || !f.sequence_len) stop("a stream has no frame, or no sequence header");
     const char *slash = strrchr(path, '/'), *name = slash ? slash + 1 : path;
     measure(name, &f, 0);
-    if (f.n > 1) measure_cuts(name, &f, 1);
+    if (f.n > 1) measure_cuts(name, &f);
     free_frames(&f);
     free(bytes);
 }

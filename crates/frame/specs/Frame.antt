@@ -59,7 +59,7 @@ layered temporal spatial x =
     x .«decoder_model_present»
     && (eqb (x .idc) 0 || (eqb (x .idc / 2 ^ temporal % 2) 1 && eqb (x .idc / 2 ^ (spatial + 8) % 2) 1))
 
--- how many times a frame header then has: AV1 reads one for each such point, and here nothing is kept of them
+-- how many removal times a frame header has: AV1 reads one for each such point, and nothing is kept of them here
 abbrev pub removals : (OperatingPoint → Bool) → Sequence → ℕ
 removals has q = count has (q .points)
 

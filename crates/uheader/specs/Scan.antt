@@ -90,6 +90,7 @@ scanBehind rule h n slots f x insert =
     andThen (run (scanRest rule h n slots x) f insert) (λ r end.
     reads (scanOf x r insert end) end)
 
+-- both parts
 unfoldable pub scanBy : (ℕ → ℕ → ℕ) → SequenceHeader → ℕ → List RefSlot → List ℕ → Reading HeaderScan
 scanBy rule h n slots f = andThen (openScan h f) (λ x insert. scanBehind rule h n slots f x insert)
 

@@ -83,7 +83,7 @@ fn scan_front(c: Cursor, s: &[u8], header: SequenceHeader) -> FrontAt
     sections::frame_front(at, s, false, header)
 }
 
-// What a scan needs before it looks at the slots: a frame that is refused here costs no copy of them.
+// What stands before the slots are looked at: those of a frame that is refused here are handed to no section.
 fn open_scan(header: SequenceHeader, payload: &[u8]) -> Opened
     ensures { λ r. ⌜ openedSays r ≡ spec.openScan header (now (payload .entry)) ⌝ }
 {
