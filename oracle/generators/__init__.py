@@ -5,5 +5,5 @@ numbers, how many random requests are wanted, and whether the long exhaustive pa
 request lines: first the picked ones, then systematic ones around every limit, then random ones.
 """
 
-from . import assemble, bitio, container, header, obu, rooms, scan
+from . import assemble, bitio, container, header, obu, rooms, scan, slot
 from .base import LAYERS, PICKED

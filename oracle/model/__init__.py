@@ -5,7 +5,7 @@ so that it is a third opinion; its author had read the Rust. An operation not in
 model.
 """
 
-from .assembly import assemble, assembly_room
+from .assembly import assemble, assembly_room, slot
 from .bitio import bits, leb, lebput, shortest_leb128, uvlc
 from .container import annexb, annexb_as_rust, canon, has_inner_size, packets, stream, wannexb, wstream
 from .header import emit, frame, seq, support, timed
@@ -39,6 +39,7 @@ OPERATIONS = {
     'packets': (packets, [], [number, byte_string]),
     'canon': (canon, [byte_string], []),
     'assemble': (assemble, [number, number32, number32], [byte_string, byte_string, number]),
+    'slot': (slot, [byte], []),
 }
 
 # The same with the Rust's own readings, where ours differs by intent.

@@ -10,6 +10,8 @@ NO_SEGMENTS, SMALL_GOP, SMALL_TOTAL, ZERO_FRAMES, LARGE_TOTAL = 21, 22, 23, 24, 
 NO_HEADER, OTHER_HEADER, NO_FRAME, NOT_SHOWN_KEY = 26, 27, 28, 29
 SHOWS_EXISTING, NOT_SHOWN, GOLDEN_IS_KEY, REFRESHES_NOTHING = 30, 31, 32, 33
 MOST_FRAMES = 5_000_000
+# Stands for a slot where flags refresh none.
+NO_SLOT = 8
 
 
 class AtSegment:
@@ -65,6 +67,14 @@ def first_frame(h, unit):
     raise Refused(NO_FRAME)
 
 
+def lowest_slot(flags):
+    return f'{flags:08b}'[::-1].index('1') if flags else NO_SLOT
+
+
+def slot(flags):
+    return str(lowest_slot(flags))
+
+
 def golden_slot(h, key, golden):
     """The slot that a board's show units show."""
     frame = first_frame(h, key)
@@ -79,7 +89,7 @@ def golden_slot(h, key, golden):
         raise Refused(GOLDEN_IS_KEY)
     if not frame.flags:
         raise Refused(REFRESHES_NOTHING)
-    return f'{frame.flags:08b}'[::-1].index('1')
+    return lowest_slot(frame.flags)
 
 
 def with_header(unit, payload):

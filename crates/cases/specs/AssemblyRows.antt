@@ -1,4 +1,4 @@
--- Assembly: segments that differ, rooms, ranges, frames, headers, goldens, extensions; kinds and units by their numbers.
+-- Assembly: segments that differ, rooms, ranges, frames, headers, goldens, extensions; kinds and units by their numbers; slots.
 use Prim.Native.Nat.{ℕ, suc, _+_, _*_, _-_, _^_}
 use mathlib.Core.List.{List, [], _∷_, _++_, map}
 use mathlib.Core.Option.{none, some}
@@ -6,7 +6,7 @@ use lib.ListN.{length}
 use Rattle.bitio.specs.Parse.{Answer, refused, accepted}
 use Rattle.blocks.specs.Blocks.{code, kinds}
 use Rattle.pictures.specs.Segments.{Segment}
-use Rattle.pictures.specs.Prepare.{showUnit}
+use Rattle.pictures.specs.Prepare.{slotOf, showUnit}
 use Rattle.pictures.specs.Assemble.{Outcome, stopped, made, Output, OutputRoom, andAlso, sizes, assembled, assemble, named, unitsOf}
 use Rattle.assemble.specs.Examples.{unitK, unitG, timedPayload, timedHeader, timedK, pictureKG, rangesKG, roomKG, settingsKG, outputKG, pictureTwo, rangesTwo, pictureTimed, rangesTimed, roomTwo, outputTwo, payloadK, ordered}
 use Rattle.cases.specs.Rows.{Row}
@@ -119,4 +119,6 @@ assemblyRows =
     -- the units of 01's list, and numbers that name none
     ∷ (accepted (unitsOf outputKG), accepted (timedK ∷ unitG ∷ showUnit 3 ∷ showUnit 3 ∷ timedK ∷ []))
     ∷ (accepted (map (named (outputKG .picture) (outputKG .ends) (outputKG .shows)) (3 ∷ 8 ∷ 9 ∷ 10 ∷ [])), accepted ([] ∷ [] ∷ [] ∷ [] ∷ []))
+    -- 02: the slots of no flags, of one, of two and of all
+    ∷ (accepted (map slotOf (0 ∷ 8 ∷ 128 ∷ 40 ∷ 255 ∷ []) ∷ []), accepted ((8 ∷ 3 ∷ 7 ∷ 3 ∷ 0 ∷ []) ∷ []))
     ∷ []

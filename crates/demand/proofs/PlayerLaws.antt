@@ -1,13 +1,13 @@
 -- Laws of the player: the slots that a frame fills, the header that a unit leaves, and the outcome of an accepted play.
-use Prim.Native.Nat.{ℕ, suc, _/_, _%_, _^_, _≤_, _<_}
+use Prim.Native.Nat.{ℕ, zero, suc, _+_, _/_, _%_, _^_, _≤_, _<_}
 use native.Mathlib.Omega.{arith}
-use mathlib.Core.Path.{_≡_, refl}
+use mathlib.Core.Path.{_≡_, refl, ap, _∙_}
 use mathlib.Core.List.{List, [], _∷_}
 use mathlib.Core.Bool.{Bool, true, false, cond as pick, _||_}
 use mathlib.Core.Option.{Option, some}
 use lib.ListN.{length, getD}
-use lib.Dec.{eqb}
-use borrow.Author.Tests.{eqb-false, le-leb}
+use lib.Pow.{shr-shr}
+use borrow.Author.Tests.{le-leb}
 use Rattle.bitio.specs.Parse.{accepted, andNext}
 use Rattle.bitio.specs.Limits.{limit}
 use Rattle.bitio.specs.Every.{Every}
@@ -18,30 +18,21 @@ use Rattle.header.specs.Sequence.{Sequence, parseSequence}
 use Rattle.header.specs.Support.{support, supportedSequence}
 use Rattle.frame.specs.Frame.{parseFrame}
 use Rattle.frame.specs.declared.frame_header.FrameHeaderInfo.{FrameHeaderInfo}
-use Rattle.pictures.specs.Prepare.{lowest}
 use Rattle.frame.specs.UnitFrame.{framePayload}
 use Rattle.frame.specs.Refresh.{refresh}
 use Rattle.player.specs.Player.{empty, Shown, act, State, keepAs, keep, play}
 use Rattle.player.specs.declared.slots.Slot.{Slot}
 use Rattle.demand.specs.Premises.{SequenceIs}
 
--- a frame that refreshes something fills its lowest slot
-pub record Hit (flags : ℕ) (new : Slot) (ss : List Slot) : Type 0 where
-  pub within : lowest (length ss) flags < length ss
-  pub holds : getD (refresh flags new ss) (lowest (length ss) flags) empty ≡ new
-
-pub hit : (flags : ℕ) (new : Slot) (ss : List Slot) → 0 < flags → flags < 2 ^ length ss → Hit flags new ss
-unfolding refresh lowest
-hit flags new [] h k = absurd (omega arith)
-hit flags new (s ∷ ss) h k = go (λ a b. hit (flags / 2) new ss a b) (eqb (flags % 2) 1) refl
-  where
-    go : (0 < flags / 2 → flags / 2 < 2 ^ length ss → Hit (flags / 2) new ss) → (t : Bool) → eqb (flags % 2) 1 ≡ t → Hit flags new (s ∷ ss)
-    go more true e = record { within = rw e (omega arith); holds = rw e }
-    go more false e =
-        let z = eqb-false (flags % 2) 1 e in
-        let k′ : flags < 2 ^ suc (length ss) = k in
-        let r = more (omega arith) (omega arith) in
-        record { within = rw e (omega (arith, r .within)); holds = rw e (r .holds) }
+-- a frame fills the slots whose bits are set
+pub filled-at : (flags i : ℕ) (new : Slot) (ss : List Slot) → i < length ss → flags / 2 ^ i % 2 ≡ 1 → getD (refresh flags new ss) i empty ≡ new
+unfolding refresh
+filled-at flags i new [] h e = absurd (omega arith)
+filled-at flags zero new (s ∷ ss) h e = let b : flags % 2 ≡ 1 = omega arith in rw b
+filled-at flags (suc i) new (s ∷ ss) h e =
+    let n : 1 + i ≡ suc i = omega arith in
+    let d : flags / 2 / 2 ^ i ≡ flags / 2 ^ suc i = shr-shr flags 1 i ∙ ap (λ (k : ℕ). flags / 2 ^ k) n in
+    filled-at (flags / 2) i new ss (omega arith) (ap (λ (x : ℕ). x % 2) d ∙ e)
 
 -- ---- the header that a unit leaves
 

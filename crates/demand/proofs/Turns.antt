@@ -1,12 +1,12 @@
 -- One turn of a course, and every course: the units of a list of whatever blocks, played from a cue on.
-use Prim.Native.Nat.{ℕ, suc, _+_, _-_, _^_, _≤_, _<_}
+use Prim.Native.Nat.{ℕ, suc, _+_, _-_, _≤_, _<_}
 use native.Mathlib.Omega.{arith}
 use mathlib.Core.Path.{_≡_, refl, sym, ap, subst, _∙_}
 use mathlib.Core.List.{List, [], map, List·Memᴰ}
 use mathlib.Core.Logic.{_↔_}
 use mathlib.Core.Bool.{Bool, true, false}
 use mathlib.Core.Option.{Option, some}
-use lib.ListN.{length, getD, drop, replicate, length-map, length-drop}
+use lib.ListN.{length, getD, drop, length-map, length-drop}
 use lib.Seq.{drop-cons}
 use lib.Dec.{ltb}
 use borrow.Author.Tests.{ne-eqb, ltb-true, ltb-false}
@@ -37,7 +37,8 @@ use Rattle.demand.proofs.HandedLaws.{noUnits, unitOf, unitBy, UnitsWith
 use Rattle.frame.proofs.FrameLaws.{flags-lt, shown-showable}
 use Rattle.demand.proofs.HeaderLaws.{show-frame}
 use Rattle.frame.proofs.RefreshLaws.{length-refresh}
-use Rattle.demand.proofs.PlayerLaws.{hit, keep-same, keep-first, play-is}
+use Rattle.pictures.proofs.SlotLaws.{Refreshed, slot-refreshed}
+use Rattle.demand.proofs.PlayerLaws.{filled-at, keep-same, keep-first, play-is}
 use Rattle.demand.proofs.UnitLaws.{first-same, show-unit, show-payload}
 use Rattle.demand.proofs.AssembleLaws.{FrameSays, Paired, frame-is, matches-length, matches-at, Boards}
 
@@ -51,8 +52,12 @@ module _ {q : Sequence} {new : Option (List ℕ)} {s : List ℕ} {x : Segment} {
   flags-small : ok .info .«refresh_frame_flags» < 256
   flags-small = flags-lt q _ (ok .golden .reads)
 
+  -- the golden refreshes the slot that the show units name
+  refreshed : Refreshed (ok .info .«refresh_frame_flags»)
+  refreshed = slot-refreshed (ok .info .«refresh_frame_flags») (ok .some-slot) flags-small
+
   slot-small : b .slot < 8
-  slot-small = rw (ok .slot-is) (hit (ok .info .«refresh_frame_flags») empty (replicate 8 empty) (ok .some-slot) flags-small .within)
+  slot-small = rw (ok .slot-is) (refreshed .below)
 
   show-says : support (q .header) ≡ accepted tt → FrameSays q s (showUnit (b .slot)) (Existing (b .slot))
   show-says f = record { unit = show-unit s (b .slot); reads = rw (show-payload s (b .slot)) (show-frame q f (b .slot) slot-small) }
@@ -95,9 +100,7 @@ module _ {q : Sequence} {new : Option (List ℕ)} {s : List ℕ} {x : Segment} {
   -- a golden fills the slot that its segment's show units name
   golden-fills : (p : ℕ) (ss : List Slot) → length ss ≡ 8 → getD (refresh (ok .info .«refresh_frame_flags») (filled p true false) ss) (b .slot) empty ≡ filled p true false
   golden-fills p ss n =
-      let f : ok .info .«refresh_frame_flags» < 2 ^ length ss = rw n flags-small in
-      let w = hit (ok .info .«refresh_frame_flags») (filled p true false) ss (ok .some-slot) f in
-      rw (ok .slot-is, ← n) (w .holds)
+      rw (ok .slot-is) (filled-at _ _ (filled p true false) ss (rw n (refreshed .below)) (refreshed .set))
 
 -- ---- goldens and keys among the entries
 

@@ -1,3 +1,4 @@
+pub mod SlotLaws
 pub mod UnitLaws
 pub mod SizeLaws
 pub mod RangeLaws

@@ -1,9 +1,9 @@
 -- Laws of the show bytes, written one segment after the other.
-use Prim.Native.Nat.{ℕ, zero, suc, _+_, _*_, _/_, _%_, _^_, _≤_, _<_}
+use Prim.Native.Nat.{ℕ, suc, _+_, _*_, _≤_, _<_}
 use native.Mathlib.Omega.{arith}
 use mathlib.Core.Path.{_≡_, refl, sym, ap, ap₂, _∙_}
 use mathlib.Core.List.{List, [], _∷_, _++_, flatMap}
-use mathlib.Core.Bool.{Bool, true, false, cond as pick}
+use mathlib.Core.Bool.{Bool, false}
 use lib.ListN.{length, set}
 use lib.Dec.{eqb}
 use borrow.Author.Tests.{eqb-false}
@@ -20,9 +20,10 @@ use Rattle.frame.proofs.FrameLaws.{HeaderIs, header-is}
 use Rattle.blocks.specs.Numbers.{segmentCount, keyAt, goldenAt, framesAt}
 use Rattle.pictures.specs.Segments.{Segment}
 use Rattle.frame.specs.UnitFrame.{framePayload, unitFrame}
-use Rattle.pictures.specs.Prepare.{keyOk, goldenFlags, lowest, showUnit}
+use Rattle.pictures.specs.Prepare.{keyOk, goldenFlags, showUnit}
 use Rattle.pictures.specs.Flat.{allSegments, readable, judged, answerOr, slotsOf}
 use Rattle.pictures.proofs.PrepareLaws.{length-all}
+use Rattle.pictures.proofs.SlotLaws.{slot-refreshed}
 use Rattle.pictures.proofs.SegmentLaws.{segmentsBehind, segments-start, segments-end, segments-next}
 
 -- ---- a slot that is named is below 8
@@ -61,18 +62,6 @@ flags-accepts (Frame f) i =
     pick-both (Accepts Flags) (eqb (f .«frame_type») keyFrame) tt (
     pick-cases (Accepts Flags) (eqb (f .«refresh_frame_flags») 0) (λ e. tt) (λ e. let n = eqb-false (f .«refresh_frame_flags») 0 e in (omega arith, i .flags)))) tt
 
-lowest-lt : (n flags : ℕ) → 0 < flags → flags < 2 ^ n → lowest n flags < n
-unfolding lowest
-lowest-lt zero flags h k = absurd (omega arith)
-lowest-lt (suc n) flags h k = go (λ a b. lowest-lt n (flags / 2) a b) (eqb (flags % 2) 1) refl
-  where
-    go : (0 < flags / 2 → flags / 2 < 2 ^ n → lowest n (flags / 2) < n) → (t : Bool) → eqb (flags % 2) 1 ≡ t → pick t 0 (suc (lowest n (flags / 2))) < suc n
-    go more true e = omega arith
-    go more false e =
-        let z = eqb-false (flags % 2) 1 e in
-        let r = more (omega arith) (omega arith) in
-        omega (arith, r)
-
 judged-accepts : (q : Sequence) (rewriting : Bool) (k g : List ℕ) → Accepts (λ n. n < 8) (judged q rewriting k g)
 unfolding judged
 judged-accepts q rewriting k g =
@@ -81,7 +70,7 @@ judged-accepts q rewriting k g =
     next-any (λ n. n < 8) (unitFrame false q k) _ (λ y.
     next-any (λ n. n < 8) (keyOk y) _ (λ _.
     next-accepts HeaderIs (λ n. n < 8) (unitFrame false q g) _ (frame-accepts q g) (λ z i.
-    next-accepts Flags (λ n. n < 8) (goldenFlags z) _ (flags-accepts z i) (λ flags b. lowest-lt 8 flags (b .0) (b .1)))))))
+    next-accepts Flags (λ n. n < 8) (goldenFlags z) _ (flags-accepts z i) (λ flags b. slot-refreshed flags (b .0) (b .1) .below))))))
 
 pub slot-small : (q : Sequence) (rewriting : Bool) (k g : List ℕ) → answerOr 0 (judged q rewriting k g) < 8
 slot-small q rewriting k g = go (judged q rewriting k g) (judged-accepts q rewriting k g)

@@ -61,14 +61,14 @@ goldenFlags (Frame f) =
     pick (eqb (f .«frame_type») keyFrame) (refused 32) (
     pick (eqb (f .«refresh_frame_flags») 0) (refused 33) (accepted (f .«refresh_frame_flags»)))) (refused 31)
 
--- the lowest of n slots whose bit is set
-unfoldable pub lowest : ℕ → ℕ → ℕ
+-- the lowest of n slots whose bit is set; n where none is
+abbrev pub lowest : ℕ → ℕ → ℕ
 lowest zero flags = 0
 lowest (suc n) flags = pick (eqb (flags % 2) 1) 0 (suc (lowest n (flags / 2)))
 
--- 01: the show index is the lowest slot refreshed
-abbrev pub slotOf : ℕ → ℕ
-slotOf flags = lowest 8 flags
+-- 01: the show index is the lowest slot refreshed; flags have eight bits, and 8 stands for none
+unfoldable pub slotOf : ℕ → ℕ
+slotOf flags = lowest 8 (flags % 256)
 
 -- ---- a segment
 

@@ -1,4 +1,5 @@
-// The requests on lists: assembly and play.
+// The requests on lists: assembly and play, and the slot that show units name.
 pub mod assemble_ops;
 mod assembled;
 pub mod play_ops;
+pub mod slot_ops;

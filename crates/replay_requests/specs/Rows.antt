@@ -49,6 +49,7 @@ rows =
     ∷ ("assemble", row (thenAny (numberKind ∷ number32Kind ∷ number32Kind ∷ []) (bytesKind ∷ bytesKind ∷ numberKind ∷ [])) (thenAny (numberKind ∷ numberKind ∷ namedKind ∷ []) (toldKind ∷ [])) (lendsBytes + lendsEnds + lendsNumbers + fillsOwn))
     ∷ ("play", row (any (numberKind ∷ afterColon bytesKind ∷ [])) (any (toldKind ∷ [])) fillsOwn)
     ∷ ("scan", row (thenAny (bytesKind ∷ []) (bytesKind ∷ [])) (any (toldKind ∷ [])) fillsOwn)
+    ∷ ("slot", row (just (byteKind ∷ [])) (just (numberKind ∷ [])) fillsOwn)
     ∷ []
 
 -- a name that is none asks for a field of no kind

@@ -22,6 +22,7 @@ use replay_headers::header_ops;
 use replay_headers::obu_ops;
 use replay_lists::assemble_ops;
 use replay_lists::play_ops;
+use replay_lists::slot_ops;
 use replay_scan::scan_ops;
 use replay_units::container_ops;
 
@@ -66,6 +67,8 @@ const PLAY: u64 = 0x706c_6179;
 
 const SCAN: u64 = 0x7363_616e;
 
+const SLOT: u64 = 0x736c_6f74;
+
 // No operation refuses with this number: a line whose name is none of these is no request, and is never operated on.
 const NO_REQUEST: u32 = u32::MAX;
 
@@ -96,6 +99,7 @@ fn row_of(key: u64) -> Row
         ASSEMBLE => Row(0x030302, 0x020101, 0x070202, 0x09, 0x1111),
         PLAY => Row(0, 0x1102, 0, 0x09, 0x1000),
         SCAN => Row(0x01, 0x01, 0, 0x09, 0x1000),
+        SLOT => Row(0x04, 0, 0x02, 0, 0x1000),
         _ => Row(0x0f, 0, 0, 0, 0),
     }
 }
@@ -195,6 +199,7 @@ pub fn operate(
         ASSEMBLE => assemble_ops::assemble(lent, s, ends, numbers, memory, out_ends, out_numbers),
         PLAY => play_ops::play(s, ends, numbers, out_numbers),
         SCAN => scan_ops::scan(s, ends, out_numbers),
+        SLOT => slot_ops::slot(a, out_numbers),
         _ => refused(NO_REQUEST),
     }
 }

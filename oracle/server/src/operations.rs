@@ -2,7 +2,7 @@
 
 use anyhow::Result;
 
-use crate::assemble::{assemble_multi, AssembleParams, Segment};
+use crate::assemble::{assemble_multi, lowest_refreshed_slot, AssembleParams, Segment};
 use crate::bitio::{leb128_encode, BitReader};
 use crate::container;
 use crate::frame_header::parse_frame_header_info;
@@ -40,6 +40,8 @@ pub fn perform(operation: &str, args: &[&str]) -> Answer {
         ("assemble", [gop, fps, den, list @ ..]) => {
             assemble(number(gop)?, number(fps)?, number(den)?, list)
         }
+        // The Rust has none for no flags: 8 stands for it.
+        ("slot", [flags]) => done(lowest_refreshed_slot(number(flags)?).unwrap_or(8).to_string()),
         _ => None,
     }
 }

@@ -90,13 +90,18 @@ unfolding operations found wordKey keyFrom
 returns-20 c = as-named _ _ _ _ _ _ _ "scan" _ _ (c .before .before .before .before .match .keys20) refl refl (ap (numbersTold _ _) (c .before .before .scan .ensures))
 
 returns-21 : tie.Need-returns-21
+unfolding operations found wordKey keyFrom
+returns-21 c = as-named _ _ _ _ _ _ _ "slot" _ _ (c .before .before .before .before .match .keys21) (c .before .before .before .before .before .before .number-at .ensures) refl (ap (numbersTold _ _) (c .before .before .slot .ensures))
+
+returns-22 : tie.Need-returns-22
 unfolding operations wordKey keyFrom
-returns-21 c = as-none _ _ _ _ _ _ _ _ _ (c .before .match .rest) (c .refused .ensures)
+returns-22 c = as-none _ _ _ _ _ _ _ _ _ (c .before .match .rest) (c .refused .ensures)
 
 pub operate-spec : {M : Type 1} → statement M
 operate-spec =
     tie.close
     (tie.spec
+    (λ c κs. search needs)
     (λ c κs. search needs)
     (λ c κs. search needs)
     (λ c κs. search needs)
@@ -169,4 +174,6 @@ operate-spec =
     returns-19
     (λ c. search needs)
     returns-20
-    returns-21)
+    (λ c. search needs)
+    returns-21
+    returns-22)

@@ -80,10 +80,14 @@ unfolding rowOf rows found wordKey keyFrom
 returns-18 c = ap rowOf (sym (c .match .keys18))
 
 returns-19 : tie.Need-returns-19
+unfolding rowOf rows found wordKey keyFrom
+returns-19 c = ap rowOf (sym (c .match .keys19))
+
+returns-20 : tie.Need-returns-20
 unfolding rowOf rows wordKey keyFrom
-returns-19 c =
-    let (((((((before, split), write), canon), packets), assemble), play), scan) = c .match .rest in
-    found-none _ _ rows _ (((((((((before, λ h. split (inr h)), λ h. split (inl h)), λ h. write (inr h)), λ h. write (inl h)), canon), packets), assemble), play), scan)
+returns-20 c =
+    let ((((((((before, split), write), canon), packets), assemble), play), scan), slot) = c .match .rest in
+    found-none _ _ rows _ ((((((((((before, λ h. split (inr h)), λ h. split (inl h)), λ h. write (inr h)), λ h. write (inl h)), canon), packets), assemble), play), scan), slot)
 
 pub row-of-spec : {M : Type 1} → statement M
 row-of-spec =
@@ -107,4 +111,5 @@ row-of-spec =
     returns-16
     returns-17
     returns-18
-    returns-19)
+    returns-19
+    returns-20)
