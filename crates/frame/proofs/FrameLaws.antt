@@ -115,7 +115,7 @@ module _ (s : List ℕ) (h : SequenceHeader) (n : ℕ) where
       then-holds (λ v. v < 256) FrameIs (run (refreshFlags (h .opening .model) n (x .start)) s p) _ (flags-hold p (x .start)) (λ flags p l.
       record { type = i .type; showable = i .showable; flags = l }))
 
-  -- and what follows the first bit, either kind of frame header
+  -- and either kind of frame header, from its first bit on
   pub bits-hold : (p : ℕ) → Holds HeaderIs (run (frameBits h n) s p)
   unfolding run frameBits
   bits-hold p =
@@ -124,6 +124,7 @@ module _ (s : List ℕ) (h : SequenceHeader) (n : ℕ) where
       pick-both (Holds HeaderIs) (eqb existing 1) (slot-holds s p (hasPointInfo (h .opening))) (
       then-holds FrameIs HeaderIs (run (frameInfo h n) s p) _ (info-holds p) (λ f p i. i))) (λ x p i. i))
 
+-- and what is read under a sequence header that is looked at first
 pub header-holds : (has : OperatingPoint → Bool) (s : List ℕ) (q : Sequence) (p : ℕ) → Holds HeaderIs (frameHeader has s p q)
 unfolding frameHeader
 header-holds has s q p =

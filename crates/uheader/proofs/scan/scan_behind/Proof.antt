@@ -20,8 +20,8 @@ use Rattle.uheader.proofs.scan.scan_behind.Statement.{statement}
 use Rattle.uheader.proofs.scan.scan_behind.Tie as tie
 
 -- what becomes of the rest
-abbrev after : List RefSlot → FrameFront → ℕ → Reading Rest → ScanStep
-after slots x insert y = scanned slots (answerOf (andThen y (λ r end. reads (scanOf x r insert end) end)))
+abbrev afterRest : List RefSlot → FrameFront → ℕ → Reading Rest → ScanStep
+afterRest slots x insert y = scanned slots (answerOf (andThen y (λ r end. reads (scanOf x r insert end) end)))
 
 -- the whole of it, as the cursor has gone
 gone : (c : tie.After-frame-tail)
@@ -51,7 +51,7 @@ returns-2 c =
     let t = c .before .before .before .before in
     let a = t .before .before .before .before .before .before .before .before .before .args in
     c .stopped2 .ensures
-    ∙ ap (after (a .slots) (a .x) (a .insert))
+    ∙ ap (afterRest (a .slots) (a .x) (a .insert))
     (refused (scanRest signMagnitude (a .header) (a .removals) (a .slots) (a .x)) (now (a .payload)) (a .insert) (gone t) (c .before .if2 .taken))
 
 returns-3 : tie.Need-returns-3
@@ -60,7 +60,7 @@ returns-3 c =
     let t = c .before .before .before .before .before in
     let a = t .before .before .before .before .before .before .before .before .before .args in
     c .finished .ensures
-    ∙ ap (after (a .slots) (a .x) (a .insert))
+    ∙ ap (afterRest (a .slots) (a .x) (a .insert))
     (accepted (scanRest signMagnitude (a .header) (a .removals) (a .slots) (a .x)) (now (a .payload)) (a .insert) (gone t) (c .before .before .if2 .left))
 
 pub scan-behind-spec : {M : Type 1} → statement M

@@ -16,8 +16,8 @@ use Rattle.uheader.proofs.scan.scan_header.Statement.{statement}
 use Rattle.uheader.proofs.scan.scan_header.Tie as tie
 
 -- what becomes of an opening
-abbrev after : SequenceHeader → ℕ → List RefSlot → List ℕ → Reading FrameFront → ScanStep
-after h n slots f y = scanned slots (answerOf (andThen y (λ x insert. scanBehind signMagnitude h n slots f x insert)))
+abbrev afterOpening : SequenceHeader → ℕ → List RefSlot → List ℕ → Reading FrameFront → ScanStep
+afterOpening h n slots f y = scanned slots (answerOf (andThen y (λ x insert. scanBehind signMagnitude h n slots f x insert)))
 
 returns : tie.Need-returns
 unfolding scanHeader scanBy
@@ -25,7 +25,7 @@ returns c =
     let k = c .before .before .before .before in
     let a = k .before .before .args in
     c .scan-behind .ensures
-    ∙ ap (after (a .header) (a .removals) (a .slots) (now (a .payload))) (sym (ap openedSays (c .before .before .opened .given .1)) ∙ k .open-scan .ensures)
+    ∙ ap (afterOpening (a .header) (a .removals) (a .slots) (now (a .payload))) (sym (ap openedSays (c .before .before .opened .given .1)) ∙ k .open-scan .ensures)
 
 returns-2 : tie.Need-returns-2
 unfolding scanHeader scanBy
@@ -33,7 +33,7 @@ returns-2 c =
     let k = c .before .before .before .before in
     let a = k .before .before .args in
     c .stopped .ensures
-    ∙ ap (after (a .header) (a .removals) (a .slots) (now (a .payload))) (sym (ap openedSays (c .before .before .opened2 .given .1)) ∙ k .open-scan .ensures)
+    ∙ ap (afterOpening (a .header) (a .removals) (a .slots) (now (a .payload))) (sym (ap openedSays (c .before .before .opened2 .given .1)) ∙ k .open-scan .ensures)
 
 pub scan-header-spec : {M : Type 1} → statement M
 scan-header-spec = tie.close (tie.spec _ (λ c. search needs) (λ c κs. search needs) (λ c. search needs) _ returns returns-2)
