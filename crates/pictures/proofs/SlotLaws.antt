@@ -1,37 +1,34 @@
--- Laws of the slot that show units name. What holds at each of the 256 flags is computed there, whichever slot they name.
-use Prim.Native.Nat.{ℕ, zero, suc, _/_, _%_, _^_, _≤_, _<_}
+-- Laws of the slot that show units name. What holds of each of the 256 flags is computed, so that no proof depends on which slot it is.
+use Prim.Native.Nat.{ℕ, zero, suc, _/_, _%_, _^_, _<_}
 use native.Mathlib.Omega.{arith}
-use mathlib.Core.Path.{_≡_, refl, sym, ap₂, subst, _∙_}
+use mathlib.Core.Path.{_≡_, refl, ap₂, subst, _∙_}
 use mathlib.Core.List.{List, []}
 use mathlib.Core.Bool.{Bool, true, false, cond as pick, _&&_}
 use lib.ListN.{getD}
-use lib.Dec.{T, eqb, ltb, leb, eqb→eq, ltb→lt, leb→le}
-use mir.Val.{Fits}
-use mir.Syntax.{w64}
-use mir.Facts.{fits-le, fits-lit}
+use lib.Dec.{T, eqb, ltb, eqb→eq, ltb→lt}
 use borrow.Author.Tests.{ltb-true, ltb-false, ne-eqb}
 use Rattle.pictures.specs.Prepare.{slotOf}
 
 -- ---- a test of each number below n
 
-abbrev pub passes : ℕ → (ℕ → Bool) → Bool
-passes zero test = true
-passes (suc n) test = passes n test && test n
+abbrev allBelow : ℕ → (ℕ → Bool) → Bool
+allBelow zero test = true
+allBelow (suc n) test = allBelow n test && test n
 
 both : (a b : Bool) → T (a && b) → T a × T b
 both true b t = (tt, t)
 both false b t = absurd t
 
-passed : (n : ℕ) (test : ℕ → Bool) → T (passes n test) → (k : ℕ) → k < n → T (test k)
-passed zero test t k h = absurd (omega arith)
-passed (suc n) test t k h = go (passed n test (both (passes n test) (test n) t .0) k) (ltb k n) refl
+each-below : (n : ℕ) (test : ℕ → Bool) → T (allBelow n test) → (k : ℕ) → k < n → T (test k)
+each-below zero test t k h = absurd (omega arith)
+each-below (suc n) test t k h = go (each-below n test (both (allBelow n test) (test n) t .0) k) (ltb k n) refl
   where
     go : (k < n → T (test k)) → (b : Bool) → ltb k n ≡ b → T (test k)
     go before true e = before (ltb-true k n e)
     go before false e =
         let l = ltb-false k n e in
         let i : n ≡ k = omega arith in
-        subst (λ (j : ℕ). T (test j)) i (both (passes n test) (test n) t .1)
+        subst (λ (j : ℕ). T (test j)) i (both (allBelow n test) (test n) t .1)
 
 -- ---- the slot of eight flags
 
@@ -47,7 +44,7 @@ pub slot-refreshed : (flags : ℕ) → 0 < flags → flags < 256 → Refreshed f
 unfolding slotOf isRefreshed
 slot-refreshed flags h k =
     let some : eqb flags 0 ≡ false = ne-eqb flags 0 (λ e. omega arith) in
-    let t = subst (λ (b : Bool). T (pick b true (ltb (slotOf flags) 8 && eqb (flags / 2 ^ slotOf flags % 2) 1))) some (passed 256 isRefreshed tt flags k) in
+    let t = subst (λ (b : Bool). T (pick b true (ltb (slotOf flags) 8 && eqb (flags / 2 ^ slotOf flags % 2) 1))) some (each-below 256 isRefreshed tt flags k) in
     let p = both (ltb (slotOf flags) 8) (eqb (flags / 2 ^ slotOf flags % 2) 1) t in
     record { below = ltb→lt (slotOf flags) 8 (p .0); set = eqb→eq (flags / 2 ^ slotOf flags % 2) 1 (p .1) }
 
@@ -56,30 +53,18 @@ slot-low : (flags : ℕ) → slotOf (flags % 256) ≡ slotOf flags
 unfolding slotOf
 slot-low flags = let e : flags % 256 % 256 ≡ flags % 256 = omega arith in rw e
 
-isSlotOrNone : ℕ → Bool
-isSlotOrNone f = leb (slotOf f) 8
-
-slot-most : (flags : ℕ) → slotOf flags ≤ 8
-unfolding slotOf isSlotOrNone
-slot-most flags =
-    subst (λ (x : ℕ). x ≤ 8) (slot-low flags) (leb→le (slotOf (flags % 256)) 8 (passed 256 isSlotOrNone tt (flags % 256) (omega arith)))
-
 -- ---- the table, sixteen rows of sixteen
 
-abbrev pub entryAt : List (List ℕ) → ℕ → ℕ → ℕ
+abbrev entryAt : List (List ℕ) → ℕ → ℕ → ℕ
 entryAt table i j = getD (getD table i []) j 0
 
 -- 02: entry f is the slot of f
-abbrev pub isEntry : List (List ℕ) → ℕ → Bool
+abbrev isEntry : List (List ℕ) → ℕ → Bool
 isEntry table f = eqb (entryAt table (f / 16) (f % 16)) (slotOf f)
 
-module _ (table : List (List ℕ)) (right : T (passes 256 (isEntry table))) (flags : ℕ) where
-  pub looked-up : entryAt table (flags / 16 % 16) (flags % 16) ≡ slotOf flags
-  looked-up =
-      let f = flags % 256 in
-      let i : flags / 16 % 16 ≡ f / 16 = omega arith in
-      let j : flags % 16 ≡ f % 16 = omega arith in
-      ap₂ (entryAt table) i j ∙ eqb→eq (entryAt table (f / 16) (f % 16)) (slotOf f) (passed 256 (isEntry table) right f (omega arith)) ∙ slot-low flags
-
-  pub entry-fits : Fits w64 (entryAt table (flags / 16 % 16) (flags % 16))
-  entry-fits = fits-le (subst (λ (x : ℕ). x ≤ 8) (sym looked-up) (slot-most flags)) (fits-lit tt)
+pub looked-up : (table : List (List ℕ)) → T (allBelow 256 (isEntry table)) → (flags : ℕ) → entryAt table (flags / 16 % 16) (flags % 16) ≡ slotOf flags
+looked-up table right flags =
+    let f = flags % 256 in
+    let i : flags / 16 % 16 ≡ f / 16 = omega arith in
+    let j : flags % 16 ≡ f % 16 = omega arith in
+    ap₂ (entryAt table) i j ∙ eqb→eq (entryAt table (f / 16) (f % 16)) (slotOf f) (each-below 256 (isEntry table) right f (omega arith)) ∙ slot-low flags

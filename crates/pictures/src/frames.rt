@@ -50,7 +50,7 @@ fn refreshed_slot(info: FrameHeaderInfo) -> GoldenSlot
             if f.refresh_frame_flags == 0 {
                 return GoldenSlot::Refused(33);
             }
-            GoldenSlot::Lowest(lowest_refreshed_slot(f.refresh_frame_flags))
+            GoldenSlot::Lowest(lowest_refreshed_slot(f.refresh_frame_flags) as u64)
         }
     }
 }

@@ -23,8 +23,8 @@ const LOWEST_SLOTS: [[u8; 16]; 16] = [
 ];
 
 // 01: the lowest slot refreshed; 8 where none of the eight is.
-pub fn lowest_refreshed_slot(flags: u64) -> u64
+pub fn lowest_refreshed_slot(flags: u64) -> u8
     ensures { λ r. ⌜ r ≡ slotOf flags ⌝ }
 {
-    LOWEST_SLOTS[(flags / 16 % 16) as usize][(flags % 16) as usize] as u64
+    LOWEST_SLOTS[(flags / 16 % 16) as usize][(flags % 16) as usize]
 }

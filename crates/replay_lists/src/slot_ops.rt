@@ -10,5 +10,5 @@ use protocol::answer::done;
 pub fn slot(flags: u64, numbers: &mut [u64]) -> Answer
     ensures { λ r. ⌜ numbered r (now (numbers .exit)) ≡ slotTold flags (now (numbers .entry)) ⌝ }
 {
-    done().number(lowest_refreshed_slot(flags), numbers)
+    done().number(lowest_refreshed_slot(flags) as u64, numbers)
 }

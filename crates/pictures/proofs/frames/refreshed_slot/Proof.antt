@@ -37,5 +37,6 @@ refreshed-slot-spec =
     returns-2
     returns-3
     (λ c κs. search needs)
+    (λ c. search needs)
     returns-4
     returns-5)

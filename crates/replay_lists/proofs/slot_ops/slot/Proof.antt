@@ -18,4 +18,4 @@ returns c =
     slot-told (n .before .before .before .before .before .args .flags) _ (n .number .ensures) (n .before .before .before .done .ensures) (n .before .before .lowest-refreshed-slot .ensures)
 
 pub slot-spec : {M : Type 1} → statement M
-slot-spec = tie.close (tie.spec (λ c κs. search needs) (λ c κs. search needs) (λ c κs. search needs) (λ c. search needs) returns)
+slot-spec = tie.close (tie.spec (λ c κs. search needs) (λ c κs. search needs) (λ c. search needs) (λ c κs. search needs) (λ c. search needs) returns)
