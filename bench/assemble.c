@@ -67,15 +67,17 @@ static void fill(struct order *o) {
     for (unsigned i = 0; i < BOARDS; i++) {
         uint64_t *s = o->segments + 5 * i;
         put_board(o, i, s);
-        // Even, as gop_size is: at a lone last frame the Rust gives another list (document 02 §4).
-        s[4] = i + 1 < BOARDS ? o->frames / BOARDS / 2 * 2 : left;
+        s[4] = i + 1 < BOARDS ? o->frames / BOARDS : left;
         left -= s[4];
     }
 }
 
 static struct lent room_for(const struct order *o) {
     struct lent m = {.list = o->frames, .pictures = o->in.len + TIMING * BOARDS};
-    for (int i = 0; i < BOARDS; i++) m.cues += (o->segments[5 * i + 4] + o->gop_size - 1) / o->gop_size;
+    for (int i = 0; i < BOARDS; i++) {
+        uint64_t frames = o->segments[5 * i + 4], rest = frames % o->gop_size;
+        m.cues += frames / o->gop_size + (rest > 1 || frames == 1);
+    }
     m.all = 4 * (m.list + m.cues + 2 * BOARDS) + m.pictures + 5 * BOARDS + HEADER;
     m.out = (struct listing){.list = lend(4 * m.list), .cues = lend(4 * m.cues), .pictures = lend(m.pictures),
                              .ends = lend(4 * 2 * BOARDS), .shows = lend(5 * BOARDS), .segments = BOARDS,

@@ -45,11 +45,10 @@ uint32_t magbelo_split_obu_stream(const uint8_t *data, size_t data_len, uint8_t 
  * `segments` has five numbers for each segment: where its key unit starts and ends in `picture`, where its golden
  * unit does, and how many frames it has; `segment_numbers` counts the numbers, five times the segments. Returns 0 and
  * writes: to `list` an entry for each unit, four times its segment (from 0) plus its kind, 0 for a key, 1 for a golden, 2
- * for a show unit; to `cues` the units, counted from 1, at which playing can start: of each segment its first unit and
- * every gop_size-th behind that, even where it is the segment's last; to `pictures` the key and golden units by segment
- * and to `ends` the end of each; to `shows` the show units, five bytes a segment; to `header` the sequence header OBU.
- * `*units`, `*cue_count`, `*picture_len` and `*header_len` say how many of each there are, `*golden_slot` the slot of the
- * first segment's golden. Nothing behind them changes.
+ * for a show unit; to `cues` the units, counted from 1, at which playing can start; to `pictures` the key and golden
+ * units by segment and to `ends` the end of each; to `shows` the show units, five bytes a segment; to `header` the
+ * sequence header OBU. `*units`, `*cue_count`, `*picture_len` and `*header_len` say how many of each there are,
+ * `*golden_slot` the slot of the first segment's golden. Nothing behind them changes.
  *
  * Room that is always enough, for n segments with f frames in all:
  *   list      f entries, no fewer

@@ -24,11 +24,8 @@ BATCH = 50_000
 # Differences that docs/DIFFERENCES.md lists: (operation, why, test of request, Rust's answer and ours).
 KNOWN = [
     ('timed', 'timing a reduced header', lambda line, rust, ours: rust.startswith('ok ') and ours == 'no 17'),
-    ('annexb', 'sizes inside Annex B',
-     lambda line, rust, ours: model.is_annexb_with_sizes(line) and goes_by_its_rule(line, rust, ours)),
+    ('annexb', 'sizes inside Annex B', lambda line, rust, ours: ignores_sizes(line, rust, ours)),
     ('scan', 'explicit tiles of no width', lambda line, rust, ours: divides_by_zero(line, rust)),
-    ('assemble', 'a lone last frame',
-     lambda line, rust, ours: model.has_lone_last_frame(line) and goes_by_its_rule(line, rust, ours)),
 ]
 
 REFUSED = re.compile('no ([0-9]+)(?: ([0-9]+))?')
@@ -119,9 +116,11 @@ def rust_agrees(rust, answer):
     return number == int(refusal[1]) and segment in (None, refusal[2])
 
 
-def goes_by_its_rule(line, rust, ours):
-    """The Rust's answer is not ours but exactly the one by the Rust's own rule."""
-    return not rust_agrees(rust, ours) and rust_agrees(rust, model.answer(rust_request(line), model.AS_RUST))
+def ignores_sizes(line, rust, ours):
+    """An OBU inside Annex B has its size bit set, and the Rust's answer is the one without a look at it."""
+    if rust_agrees(rust, ours) or not model.is_annexb_with_sizes(line):
+        return False
+    return rust_agrees(rust, model.answer(rust_request(line), model.AS_RUST))
 
 
 def divides_by_zero(line, rust):

@@ -60,7 +60,7 @@ static const struct source listing = {
     {TIMED, 0x32, 1, 0x10, 0x12, 0, 0x32, 2, 0x38, 0x10, TIMED, 0x32, 1, 0x10, 0x12, 0, 0x32, 2, 0x38, 0x10}, 60,
     {24, 30, 54, 60},
     {0x12, 0, 0x1A, 1, 0xB8, 0x12, 0, 0x1A, 1, 0xB8},
-    {0, 1, 2, 0, 4}, 5,
+    {0, 1, 2, 2, 4}, 5,
 };
 
 // K G and another key and golden, which refreshes slots 5 and 7; frames 4 and 3.
@@ -70,7 +70,7 @@ static const struct source different = {
     {TIMED, 0x32, 1, 0x10, 0x12, 0, 0x32, 2, 0x38, 0x10, TIMED, 0x32, 2, 0x10, 0xAB, 0x12, 0, 0x32, 3, 0x39, 0x40, 0xCD}, 62,
     {24, 30, 55, 62},
     {0x12, 0, 0x1A, 1, 0xB8, 0x12, 0, 0x1A, 1, 0xD8},
-    {0, 1, 2, 0, 4, 5, 6}, 7,
+    {0, 1, 2, 2, 4, 5, 6}, 7,
 };
 
 // An order of two segments: gop_size, frames, where the second golden ends, the rooms, and the answer.
@@ -91,7 +91,7 @@ struct handed_out {
 
 // What is handed out, over memory that held 0xA5.
 static void expect(struct handed_out *x, const struct source *s) {
-    static const uint32_t cues[] = {1, 4, 5};
+    static const uint32_t cues[] = {1, 5};
     memcpy(x->list, s->list, s->units * 4);
     memcpy(x->cues, cues, sizeof cues);
     memcpy(x->ends, s->ends, sizeof s->ends);
@@ -99,7 +99,7 @@ static void expect(struct handed_out *x, const struct source *s) {
     memcpy(x->shows, s->shows, sizeof s->shows);
     memcpy(x->header, s->out + 2, 19);
     x->units = s->units;
-    x->cue_count = 3;
+    x->cue_count = 2;
     x->picture_len = s->out_len;
     x->header_len = 19;
     x->slot = 3;
@@ -143,7 +143,7 @@ struct room_case {
 
 static const struct room_case room_cases[] = {
     {"one board", {KEY, 0x32, 1, 0x10, 0x12, 0, 0x32, 2, 0x38, 0x10}, 22, 1, {0, 16, 16, 22, 2}, 3, 0, 1, 1, 4},
-    {"one board, gop_size 2", {KEY, 0x32, 1, 0x10, 0x12, 0, 0x32, 2, 0x38, 0x10}, 22, 1, {0, 16, 16, 22, 7}, 2, 0, 1, 1, 4},
+    {"one board, gop_size 2", {KEY, 0x32, 1, 0x10, 0x12, 0, 0x32, 2, 0x38, 0x10}, 22, 1, {0, 16, 16, 22, 7}, 2, 0, 0, 1, 4},
     {"one timed board, gop_size 2", {TIMED, 0x32, 1, 0x10, 0x12, 0, 0x32, 2, 0x38, 0x10}, 30, 1, {0, 24, 24, 30, 6}, 2, 1, 0, 1, 4},
     {"as many cues as there may be", {TIMED, 0x32, 1, 0x10, 0x12, 0, 0x32, 2, 0x38, 0x10}, 30, 1, {0, 24, 24, 30, 5}, 3, 1, 1, 1, 4},
     {"ranges that overlap", {KEY, 0x32, 1, 0x10, 0x12, 0, 0x32, 2, 0x38, 0x10}, 22, 3,
@@ -233,13 +233,13 @@ static void run_nulls(void) {
 int main(void) {
     static const struct assemble_case orders[] = {
         {"the listing, room to spare", &listing, 3, {4, 1}, 44, 16, 16, 128, 16, 32, 64, 0},
-        {"the listing, room just enough", &listing, 3, {4, 1}, 44, 5, 3, 60, 4, 10, 19, 0},
-        {"a list entry short", &listing, 3, {4, 1}, 44, 4, 3, 60, 4, 10, 19, 35},
-        {"a cue short", &listing, 3, {4, 1}, 44, 5, 2, 60, 4, 10, 19, 35},
-        {"a picture byte short", &listing, 3, {4, 1}, 44, 5, 3, 59, 4, 10, 19, 35},
-        {"an end short", &listing, 3, {4, 1}, 44, 5, 3, 60, 3, 10, 19, 35},
-        {"a show byte short", &listing, 3, {4, 1}, 44, 5, 3, 60, 4, 9, 19, 35},
-        {"a header byte short", &listing, 3, {4, 1}, 44, 5, 3, 60, 4, 10, 18, 35},
+        {"the listing, room just enough", &listing, 3, {4, 1}, 44, 5, 2, 60, 4, 10, 19, 0},
+        {"a list entry short", &listing, 3, {4, 1}, 44, 4, 2, 60, 4, 10, 19, 35},
+        {"a cue short", &listing, 3, {4, 1}, 44, 5, 1, 60, 4, 10, 19, 35},
+        {"a picture byte short", &listing, 3, {4, 1}, 44, 5, 2, 59, 4, 10, 19, 35},
+        {"an end short", &listing, 3, {4, 1}, 44, 5, 2, 60, 3, 10, 19, 35},
+        {"a show byte short", &listing, 3, {4, 1}, 44, 5, 2, 60, 4, 9, 19, 35},
+        {"a header byte short", &listing, 3, {4, 1}, 44, 5, 2, 60, 4, 10, 18, 35},
         {"a range past the end", &listing, 3, {4, 1}, 45, 16, 16, 128, 16, 32, 64, 36},
         {"gop_size 1", &listing, 1, {4, 1}, 44, 16, 16, 128, 16, 32, 64, 22},
         {"one frame in all", &listing, 3, {1, 0}, 44, 16, 16, 128, 16, 32, 64, 23},
@@ -248,8 +248,8 @@ int main(void) {
         {"a golden without a frame in segment 1", &listing, 3, {4, 1}, 40, 16, 16, 128, 16, 32, 64, 28 + (2ull << 32)},
         {"a golden cut in segment 1", &listing, 3, {4, 1}, 43, 16, 16, 128, 16, 32, 64, 5 + (2ull << 32)},
         {"two different segments, room to spare", &different, 3, {4, 3}, 46, 16, 16, 128, 16, 32, 64, 0},
-        {"two different segments, room just enough", &different, 3, {4, 3}, 46, 7, 3, 62, 4, 10, 19, 0},
-        {"two different segments, a picture byte short", &different, 3, {4, 3}, 46, 7, 3, 61, 4, 10, 19, 35},
+        {"two different segments, room just enough", &different, 3, {4, 3}, 46, 7, 2, 62, 4, 10, 19, 0},
+        {"two different segments, a picture byte short", &different, 3, {4, 3}, 46, 7, 2, 61, 4, 10, 19, 35},
         {"two different segments, a golden cut in segment 1", &different, 3, {4, 3}, 45, 16, 16, 128, 16, 32, 64, 5 + (2ull << 32)},
     };
     static const struct stream_case cases[] = {

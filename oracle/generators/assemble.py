@@ -22,9 +22,6 @@ SMALL_ASSEMBLE = [
     f'assemble 3 25 1 {KEY_UNIT} {GOLDEN_UNIT} 4 {KEY_UNIT} {GOLDEN_UNIT} 1',
     *[f'assemble {gop} 25 1 {KEY_UNIT} {GOLDEN_UNIT} {frames}'
       for gop in (0, 1, 2, 3, 4, TOP) for frames in (0, 1, 2, 3, 4, 5, 7)],
-    # Every choice of the boards that end in a lone frame.
-    *[' '.join([f'assemble {gop} 25 1', *[f'{KEY_UNIT} {GOLDEN_UNIT} {frames}' for frames in counts]])
-      for gop in (2, 3) for counts in itertools.product((gop, gop + 1), repeat=3)],
     'assemble 3 25 1', 'assemble 0 25 1', 'assemble 2 0 0', f'assemble 3 0 0 {KEY_UNIT} {GOLDEN_UNIT} 2',
     f'assemble 3 4294967295 4294967295 {KEY_UNIT} {GOLDEN_UNIT} 2',
     f'assemble 3 25 1 {TIMED_KEY_UNIT} {GOLDEN_UNIT} 4', f'assemble 3 25 1 {TIMED_KEY_UNIT} 80 4',
@@ -90,10 +87,10 @@ def assemble(rng, count, exhaustive):
 
 
 def real_orders():
-    """Real encoders' keys and goldens, with a lone last frame and without; files come in threes: golden, key, and both."""
+    """Real encoders' keys and goldens; files come in threes: golden, key, and both."""
     streams = corpus_streams()
     pairs = [(key, golden) for golden, key, _ in zip(streams[0::3], streams[1::3], streams[2::3])]
-    lines = [request('assemble', 3, 30, 1, *pair, frames) for pair in pairs for frames in (4, 5)]
+    lines = [request('assemble', 3, 30, 1, key, golden, 4) for key, golden in pairs]
     lines += [request('assemble', 3, 30, 1, key, golden, 1, key, golden, 2) for key, golden in pairs]
     lines += [request('assemble', 2, 30000, 1001, *pair, 1, *other, 3) for pair, other in zip(pairs, pairs[1:])]
     return lines

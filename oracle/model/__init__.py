@@ -5,7 +5,7 @@ so that it is a third opinion; its author had read the Rust. An operation not in
 model.
 """
 
-from .assembly import assemble, assemble_as_rust, assembly_room, has_lone_last, slot
+from .assembly import assemble, assembly_room, slot
 from .bitio import bits, leb, lebput, shortest_leb128, uvlc
 from .container import annexb, annexb_as_rust, canon, has_inner_size, packets, stream, wannexb, wstream
 from .header import emit, frame, seq, support, timed
@@ -47,7 +47,6 @@ AS_RUST = {
     **OPERATIONS,
     'annexb': (annexb_as_rust, [byte_string], []),
     'scan': (scan_as_rust, [byte_string], [byte_string]),
-    'assemble': (assemble_as_rust, *OPERATIONS['assemble'][1:]),
 }
 
 # The same by AV1's own rules, where the scan follows the Rust.
@@ -113,16 +112,6 @@ def is_annexb_with_sizes(line):
         return name == 'annexb' and len(words) == 1 and has_inner_size(byte_string(words[0]))
     except NoRequest:
         return False
-
-
-def has_lone_last_frame(line):
-    """Whether it assembles a board with a lone last frame: there the Rust has another last unit."""
-    name, words, _ = parts(line)
-    try:
-        gop, *_, boards = arguments(words, *OPERATIONS['assemble'][1:]) if name == 'assemble' else (0, [])
-    except NoRequest:
-        return False
-    return any(has_lone_last(frames, gop) for _, _, frames in boards)
 
 
 def perform(operations, name, words, lent):

@@ -1,4 +1,4 @@
-"""Assembly: the refusals in 01's order, then the list of units and the cues, with 02's lone last frame."""
+"""Assembly: the refusals in 01's order, then the list of units and the cues."""
 
 from dataclasses import dataclass, field
 
@@ -106,19 +106,15 @@ def show_unit(slot):
     return bytes([0x12, 0x00, 0x1a, 0x01, 0x80 + 16 * slot + 8])
 
 
-def has_lone_last(frames, gop):
-    """Whether a board's last block is one frame behind other blocks."""
-    return 1 < gop < frames and frames % gop == 1
-
-
-def kinds_of(frames, gop, lone_is_key):
-    """A board's units by kind. `lone_is_key`: whether a lone last frame is a key too; in the Rust it is a show unit."""
+def kinds_of(frames, gop):
+    """A board's units by kind, and for each whether it is a cue."""
     kinds = []
     while len(kinds) < frames:
         block = min(frames - len(kinds), gop)
-        kinds += ['key', 'golden'][:block] + ['show'] * (block - 2)
-    if has_lone_last(frames, gop) and not lone_is_key:
-        kinds[-1] = 'show'
+        if block == 1 and 'golden' in kinds[:2]:
+            kinds.append('show')
+        else:
+            kinds += ['key', 'golden'][:block] + ['show'] * (block - 2)
     return kinds
 
 
@@ -131,7 +127,7 @@ class Assembly:
     picture_bytes: int = 0
 
 
-def assembled(gop, fps, fps_den, boards, lone_is_key=True):
+def assembled(gop, fps, fps_den, boards):
     check_counts(gop, boards)
     made = Assembly(common_header(boards))
     h = header_of(made.header_obu[2])
@@ -145,22 +141,18 @@ def assembled(gop, fps, fps_den, boards, lone_is_key=True):
                 key, golden = with_header(key, new_payload), with_header(golden, new_payload)
             made.slots.append(golden_slot(h, key, golden))
         bytes_of = {'key': key, 'golden': golden, 'show': show_unit(made.slots[-1])}
-        kinds = kinds_of(frames, gop, lone_is_key)
+        kinds = kinds_of(frames, gop)
         made.cues += [len(made.units) + place for place, kind in enumerate(kinds, 1) if kind == 'key']
         made.units += [bytes_of[kind] for kind in kinds]
         made.picture_bytes += len(key) + len(golden)
     return made
 
 
-def assemble(gop, fps, fps_den, boards, lone_is_key=True):
-    made = assembled(gop, fps, fps_den, boards, lone_is_key)
+def assemble(gop, fps, fps_den, boards):
+    made = assembled(gop, fps, fps_den, boards)
     shown_cues = ','.join(map(str, made.cues))
     words = [len(made.units), made.slots[0], hexadecimal(written([made.header_obu])), shown_cues]
     return ' '.join(map(str, words + [hexadecimal(unit) for unit in made.units]))
-
-
-def assemble_as_rust(gop, fps, fps_den, boards):
-    return assemble(gop, fps, fps_den, boards, lone_is_key=False)
 
 
 def assembly_room(gop, fps, fps_den, boards):

@@ -30,7 +30,7 @@ timed_header = 0x0_a ∷ 0x11 ∷ timed_payload
 abbrev pub timed_k : List ℕ
 timed_k = (0x12 ∷ 0x00 ∷ []) ++ timed_header ++ (0x32 ∷ 0x01 ∷ 0x10 ∷ [])
 
--- 01: K G K G, frames 4 and 1; 02 §4: the fourth unit is a key and a cue
+-- 01: K G K G, frames 4 and 1
 abbrev pub picture_kg : List ℕ
 picture_kg = unit_k ++ unit_g ++ unit_k ++ unit_g
 
@@ -39,13 +39,13 @@ ranges_kg n m = 0 ∷ 16 ∷ 16 ∷ 22 ∷ n ∷ 22 ∷ 38 ∷ 38 ∷ 44 ∷ m �
 
 -- as much as is needed, and no more
 abbrev pub room_kg : OutputRoom
-room_kg = record { list = 5; cues = 3; picture = 60; ends = 4; shows = 10; header = 19 }
+room_kg = record { list = 5; cues = 2; picture = 60; ends = 4; shows = 10; header = 19 }
 
 abbrev pub output_kg : Output
 output_kg =
     record {
-      list = 0 ∷ 1 ∷ 2 ∷ 0 ∷ 4 ∷ [];
-      cues = 1 ∷ 4 ∷ 5 ∷ [];
+      list = 0 ∷ 1 ∷ 2 ∷ 2 ∷ 4 ∷ [];
+      cues = 1 ∷ 5 ∷ [];
       picture = timed_k ++ unit_g ++ timed_k ++ unit_g;
       ends = 24 ∷ 30 ∷ 54 ∷ 60 ∷ [];
       shows = 0x12 ∷ 0x00 ∷ 0x1_a ∷ 0x01 ∷ 0x_b8 ∷ 0x12 ∷ 0x00 ∷ 0x1_a ∷ 0x01 ∷ 0x_b8 ∷ [];
@@ -83,13 +83,13 @@ abbrev pub ranges_timed : List ℕ
 ranges_timed = 0 ∷ 24 ∷ 24 ∷ 30 ∷ 4 ∷ 30 ∷ 55 ∷ 55 ∷ 62 ∷ 3 ∷ []
 
 abbrev pub room_two : OutputRoom
-room_two = record { list = 7; cues = 3; picture = 62; ends = 4; shows = 10; header = 19 }
+room_two = record { list = 7; cues = 2; picture = 62; ends = 4; shows = 10; header = 19 }
 
 abbrev pub output_two : Output
 output_two =
     record {
-      list = 0 ∷ 1 ∷ 2 ∷ 0 ∷ 4 ∷ 5 ∷ 6 ∷ [];
-      cues = 1 ∷ 4 ∷ 5 ∷ [];
+      list = 0 ∷ 1 ∷ 2 ∷ 2 ∷ 4 ∷ 5 ∷ 6 ∷ [];
+      cues = 1 ∷ 5 ∷ [];
       picture = picture_timed;
       ends = 24 ∷ 30 ∷ 55 ∷ 62 ∷ [];
       shows = show_unit 3 ++ show_unit 5;

@@ -1,24 +1,25 @@
 -- Laws of cues counted: as many as key units, wherever they stand.
-use Prim.Native.Nat.{ℕ, suc, ◌+◌, ◌-◌, ◌/◌, ◌≤◌, ◌<◌, min}
+use Prim.Native.Nat.{ℕ, suc, ◌+◌, ◌*◌, ◌-◌, ◌%◌, ◌≤◌, ◌<◌}
 use native.Mathlib.Omega.{arith}
-use native.Mathlib.Nat.{div-eq_of_lt, div-eq-sub-div, add-div_right}
 use native.Mathlib.Numerals.{add-one}
-use mathlib.Core.Path.{◌≡◌, refl, sym, ap, ◌∙◌}
+use mathlib.Core.Path.{◌≡◌, refl, ap, ◌∙◌}
 use mathlib.Core.List.{List, [], ◌∷◌, ◌++◌, map}
 use mathlib.Core.Bool.{Bool, true, false, cond as pick}
 use lib.ListN.{length, length-append, length-map}
-use lib.Dec.{ltb}
-use borrow.Author.Tests.{ltb-true, ltb-false}
-use Rattle.blocks.specs.Blocks.{Kind, block, kinds, positions, is_key_entry, number, entries_of, layout, list_of, cues_from, total}
+use lib.Dec.{eqb}
+use Rattle.blocks.specs.Blocks.{Kind, code, block, next_block, standing, blocks, kinds, positions, is_key_entry, number, layout, list_of, total}
+use Rattle.blocks.specs.declared.blocks.Block.{Block}
+use Rattle.blocks.specs.declared.blocks.Standing.{Standing}
 use Rattle.blocks.specs.Numbers.{head_frames, segment_count, records_behind, frames_at, frames_in}
+use Rattle.blocks.specs.code.Lay.{entries_of, cues_from, block_cue}
 use Rattle.blocks.proofs.NumberLaws.{behind-start, behind-end, behind_more}
-use Rattle.blocks.proofs.BlockLaws.{kinds-more, kinds-none, by_blocks, length-layout}
-use Rattle.blocks.proofs.LayLaws.{cues-append, entries-append, cues-none, block-cue}
+use Rattle.blocks.proofs.BlockLaws.{length-layout}
+use Rattle.blocks.proofs.LayLaws.{cues-append, next-cue, blocks-none, next-some, next-left, blocks_more, entries-append}
 use Rattle.blocks.proofs.ListLaws.{entries_from, list-more, list-none}
 
 -- ---- positions counted
 
-count-anywhere : {A : Type 0} (is : A → Bool) (p q : ℕ) (l : List A) → length (positions is p l) ≡ length (positions is q l)
+pub count-anywhere : {A : Type 0} (is : A → Bool) (p q : ℕ) (l : List A) → length (positions is p l) ≡ length (positions is q l)
 unfolding positions
 count-anywhere is p q [] = refl
 count-anywhere {A} is p q (a ∷ l) = go (count-anywhere is (suc p) (suc q) l) (is a)
@@ -28,7 +29,7 @@ count-anywhere {A} is p q (a ∷ l) = go (count-anywhere is (suc p) (suc q) l) (
     go e true = ap suc e
     go e false = e
 
-count_most : {A : Type 0} (is : A → Bool) (p : ℕ) (l : List A) → length (positions is p l) ≤ length l
+pub count_most : {A : Type 0} (is : A → Bool) (p : ℕ) (l : List A) → length (positions is p l) ≤ length l
 unfolding positions
 count_most is p [] = omega arith
 count_most {A} is p (a ∷ l) = go (count_most is (suc p) l) (is a)
@@ -48,34 +49,77 @@ count-append xs ys =
     let m = count-anywhere is_key_entry (suc (0 + length xs)) 1 ys in
     omega arith
 
--- ---- a segment's cues: one for each block, so its frames by gop, rounded up
-
-round-more : (gop n : ℕ) → 1 ≤ gop → 1 ≤ n → (n + (gop - 1)) / gop ≡ ((n - min n gop) + (gop - 1)) / gop + 1
-round-more gop n g h = div-eq-sub-div g (omega arith) ∙ ap (λ (k : ℕ). k + 1) (go (ltb n gop) refl)
+-- the segment does not matter
+count-cons : (x y : ℕ) (xs ys : List ℕ) → is_key_entry x ≡ is_key_entry y → cue_count xs ≡ cue_count ys → cue_count (x ∷ xs) ≡ cue_count (y ∷ ys)
+unfolding positions
+count-cons x y xs ys e h =
+    let a = count-anywhere is_key_entry 2 1 xs in
+    let b = count-anywhere is_key_entry 2 1 ys in
+    rw e (go (is_key_entry y) (omega arith))
   where
-    go : (t : Bool) → ltb n gop ≡ t → (n + (gop - 1) - gop) / gop ≡ ((n - min n gop) + (gop - 1)) / gop
-    go true e = let w = ltb-true n gop e in div-eq_of_lt (omega arith) ∙ sym (div-eq_of_lt (omega arith))
-    go false e = let w = ltb-false n gop e in ap (λ (k : ℕ). k / gop) (omega arith)
+    go : (t : Bool) → length (positions is_key_entry 2 xs) ≡ length (positions is_key_entry 2 ys)
+        → length (pick t (1 ∷ positions is_key_entry 2 xs) (positions is_key_entry 2 xs)) ≡ length (pick t (1 ∷ positions is_key_entry 2 ys) (positions is_key_entry 2 ys))
+    go true e = ap suc e
+    go false e = e
 
-pub count-rounded : (gop n : ℕ) → 1 ≤ gop → (p i : ℕ) → length (cues_from p (entries_of i (kinds gop n))) ≡ (n + (gop - 1)) / gop
-count-rounded gop n g =
-    by_blocks gop (λ n. (p i : ℕ) → length (cues_from p (entries_of i (kinds gop n))) ≡ (n + (gop - 1)) / gop) g
-    (λ p i. ap (λ (l : List Kind). length (cues_from p (entries_of i l))) (kinds-none gop) ∙ ap length (cues-none p) ∙ sym (div-eq_of_lt (omega arith)))
-    (λ n h ih p i.
-    let b = entries_of i (block (min n gop)) in
-    let later = entries_of i (kinds gop (n - min n gop)) in
-    let a = ap (λ (l : List Kind). length (cues_from p (entries_of i l))) (kinds-more gop n g h) in
-    let e = ap (λ (l : List ℕ). length (cues_from p l)) (entries-append i (block (min n gop)) (kinds gop (n - min n gop))) in
-    let k = ap length (cues-append p b later) ∙ length-append (cues_from p b) (cues_from (p + length b) later) in
-    let q = ap length (block-cue p i (min n gop) (omega arith)) in
-    omega (arith, a, e, k, q, ih (p + length b) i, round-more gop n g h)) n
+pub count-segment : (i : ℕ) (ks : List Kind) → cue_count (entries_of i ks) ≡ cue_count (entries_of 0 ks)
+count-segment i [] = refl
+count-segment i (k ∷ ks) =
+    let e : (i * 4 + code k) % 4 ≡ (0 * 4 + code k) % 4 = omega arith in
+    count-cons (i * 4 + code k) (0 * 4 + code k) (entries_of i ks) (entries_of 0 ks) (ap (λ (n : ℕ). eqb n 0) e) (count-segment i ks)
 
--- as the code has it
-pub rounded-none : (gop n : ℕ) → 1 ≤ gop → n ≡ 0 → 0 ≡ (n + (gop - 1)) / gop
-rounded-none gop n g e = sym (div-eq_of_lt (omega arith))
+count_none : cue_count [] ≡ 0
+unfolding positions
+count_none = refl
 
-pub rounded-some : (gop n : ℕ) → 1 ≤ gop → 1 ≤ n → (n - 1) / gop + 1 ≡ (n + (gop - 1)) / gop
-rounded-some gop n g h = let z : (n - 1) + gop ≡ n + (gop - 1) = omega arith in sym (add-div_right (n - 1) g) ∙ ap (λ (k : ℕ). k / gop) z
+-- ---- one more
+
+pub one_more : (key : Bool) (n : ℕ) → key ≡ true → n + 1 ≡ n + length (block_cue key 0)
+one_more key n e = rw e
+
+pub none_more : (key : Bool) (n : ℕ) → key ≡ false → n ≡ n + length (block_cue key 0)
+none_more key n e = rw e (omega arith)
+
+cue-most : (key : Bool) → length (block_cue key 0) ≤ 1
+cue-most true = omega arith
+cue-most false = omega arith
+
+-- ---- a segment's cues
+
+-- n are counted, and the segment stands at t
+pub record CountingSegment (gop frames n : ℕ) (t : Standing) : Type 0 where
+  pub fuel : ℕ
+  pub enough : t.left ≤ fuel
+  pub sum : n + cue_count (entries_of 0 (blocks fuel gop t.after t.left)) ≡ cue_count (entries_of 0 (kinds gop frames))
+  pub small : n + t.left ≤ frames
+
+pub counting-start : (gop frames : ℕ) → CountingSegment gop frames 0 (standing false frames)
+counting-start gop frames = record { fuel = frames; enough = omega arith; sum = omega arith; small = omega arith }
+
+module _ {gop frames n : ℕ} {t : Standing} (s : CountingSegment gop frames n t) where
+  pub counting-end : t.left ≤ 0 → n ≡ cue_count (entries_of 0 (kinds gop frames))
+  counting-end h =
+      let z : t.left ≡ 0 = omega arith in
+      let e : cue_count (entries_of 0 (blocks s.fuel gop t.after t.left)) ≡ 0 =
+      ap (λ (m : ℕ). cue_count (entries_of 0 (blocks s.fuel gop t.after m))) z ∙ ap (λ (l : List Kind). cue_count (entries_of 0 l)) (blocks-none s.fuel gop t.after) ∙ count_none in
+      omega (arith, s.sum, e)
+
+  pub counting-turn : {b : Block} (n' : ℕ) → b ≡ next_block gop t → 1 ≤ t.left → 1 ≤ gop → n' ≡ n + length (block_cue b.key 0) → CountingSegment gop frames n' b.behind
+  counting-turn {b} n' is h g w =
+      let later = blocks (s.fuel - 1) gop b.behind.after b.behind.left in
+      let m = next-some gop t is h g in
+      let a = ap (λ (l : List Kind). cue_count (entries_of 0 l)) (blocks_more gop t is s.fuel h s.enough) in
+      let e = ap cue_count (entries-append 0 (block b.key b.size) later) in
+      let k = count-append (entries_of 0 (block b.key b.size)) (entries_of 0 later) in
+      let q = ap length (next-cue gop t 0 0 is m) in
+      let u = cue-most b.key in
+      let f = next-left gop t is in
+      record {
+        fuel = s.fuel - 1;
+        enough = omega (arith, s.enough);
+        sum = omega (arith, s.sum, a, e, k, q);
+        small = omega (arith, s.small);
+      }
 
 -- ---- all segments' cues
 
@@ -87,7 +131,7 @@ pub all_start : (gop : ℕ) (rs : List ℕ) → CountingAll gop rs 0 0
 all_start gop rs =
     record { within = omega arith; sum = omega (arith, ap (λ (l : List (List ℕ)). cue_count (map number (layout gop 0 (map head_frames l)))) (behind-start rs)) }
 
-all_most : (gop : ℕ) (rs : List ℕ) → 1 ≤ gop → cue_count (list_of gop (frames_in rs)) ≤ total (frames_in rs)
+pub all_most : (gop : ℕ) (rs : List ℕ) → 1 ≤ gop → cue_count (list_of gop (frames_in rs)) ≤ total (frames_in rs)
 all_most gop rs g =
     omega (arith, count_most is_key_entry 1 (list_of gop (frames_in rs)), length-map (layout gop 0 (frames_in rs)) number, length-layout gop 0 (frames_in rs) g)
 
@@ -95,12 +139,12 @@ module _ {gop : ℕ} {rs : List ℕ} {i n : ℕ} (s : CountingAll gop rs i n) wh
   pub all_end : segment_count rs ≤ i → n ≡ cue_count (list_of gop (frames_in rs))
   all_end h =
       let e : cue_count (entries_from gop rs i) ≡ 0 =
-      ap (λ (l : List (List ℕ)). cue_count (map number (layout gop i (map head_frames l)))) (behind-end rs i h) ∙ ap cue_count (list-none gop i) ∙ ap length (cues-none 0) in
+      ap (λ (l : List (List ℕ)). cue_count (map number (layout gop i (map head_frames l)))) (behind-end rs i h) ∙ ap cue_count (list-none gop i) ∙ count_none in
       omega (arith, s.sum, e)
 
-  module _ (h : i < segment_count rs) (g : 1 ≤ gop) where
+  module _ (h : i < segment_count rs) where
     abbrev mine : ℕ
-    mine = (frames_at rs i + (gop - 1)) / gop
+    mine = cue_count (entries_of 0 (kinds gop (frames_at rs i)))
 
     parts : cue_count (entries_from gop rs i) ≡ mine + cue_count (entries_from gop rs (i + 1))
     parts =
@@ -109,12 +153,12 @@ module _ {gop : ℕ} {rs : List ℕ} {i n : ℕ} (s : CountingAll gop rs i n) wh
         let a = ap (λ (l : List (List ℕ)). cue_count (map number (layout gop i (map head_frames l)))) (behind_more rs i h) in
         let b = ap cue_count (list-more gop i frames ns) in
         let k = count-append (entries_of i (kinds gop frames)) (map number (layout gop (suc i) ns)) in
-        let m = count-rounded gop frames g 0 i in
+        let m = count-segment i (kinds gop frames) in
         let z = ap (λ (j : ℕ). cue_count (map number (layout gop j ns))) (add-one i) in
         omega (arith, a, b, k, m, z)
 
-    pub all_small : (r : ℕ) → r ≡ mine → n + r ≤ total (frames_in rs)
-    all_small r e = omega (arith, s.sum, parts, all_most gop rs g)
+    pub all_small : (r : ℕ) → 1 ≤ gop → r ≡ mine → n + r ≤ total (frames_in rs)
+    all_small r g e = omega (arith, s.sum, parts, all_most gop rs g)
 
     pub all-turn : (r : ℕ) → r ≡ mine → CountingAll gop rs (i + 1) (n + r)
     all-turn r e = record { within = omega arith; sum = omega (arith, s.sum, parts) }

@@ -4,18 +4,22 @@ use native.Mathlib.Omega.{arith}
 use native.Mathlib.Numerals.{add-one}
 use mathlib.Core.Path.{◌≡◌, refl, sym, ap, ap₂, subst, ◌∙◌}
 use mathlib.Core.List.{List, [], ◌∷◌, ◌++◌}
-use mathlib.Core.Bool.{Bool, true, false, cond as pick}
+use mathlib.Core.Bool.{Bool, true, false, not, cond as pick, ◌||◌}
 use lib.ListN.{length, set, replicate, length-append, length-map, length-replicate}
+use lib.Dec.{leb}
+use borrow.Author.Tests.{le-leb}
 use Rattle.bitio.specs.Lent.{pasted}
 use Rattle.bitio.proofs.LentLaws.{pasted-nil, pasted-one, pasted-more, pasted_length, pasted-set}
-use Rattle.blocks.proofs.BlockLaws.{kinds-more, kinds-none, length-block}
-use Rattle.blocks.specs.Blocks.{Kind, Show, code, block, kinds, entries_of, positions, is_key_entry, cues_from}
-use Rattle.blocks.specs.code.Lay.{CanLay, Laid}
+use Rattle.blocks.proofs.BlockLaws.{length-block}
+use Rattle.blocks.specs.Blocks.{Kind, Key, Show, code, block, next_block, standing, blocks, kinds, positions, is_key_entry}
+use Rattle.blocks.specs.declared.blocks.Block.{Block}
+use Rattle.blocks.specs.declared.blocks.Standing.{Standing}
+use Rattle.blocks.specs.code.Lay.{entries_of, cues_from, block_cue, CanLay, Laid}
 
 -- ---- stores
 
 -- one more of the same behind n of them
-replicate_more : (n v : ℕ) → replicate n v ++ (v ∷ []) ≡ replicate (suc n) v
+pub replicate_more : (n v : ℕ) → replicate n v ++ (v ∷ []) ≡ replicate (suc n) v
 replicate_more zero v = refl
 replicate_more (suc n) v = ap (λ (l : List ℕ). v ∷ l) (replicate_more n v)
 
@@ -37,40 +41,51 @@ two-and-more d w x y zs h =
     let b : set (pasted d w (x ∷ [])) (w + 1) y ≡ pasted d w (x ∷ y ∷ []) = pasted-set d w (x ∷ []) y (omega arith) in
     ap (λ (l : List ℕ). pasted (set l (w + 1) y) (w + 2) zs) a ∙ ap (λ (l : List ℕ). pasted l (w + 2) zs) b ∙ pasted-more d w (x ∷ y ∷ []) (omega arith) zs
 
+-- ---- a block
+
+pub entries-shows : (i n : ℕ) → entries_of i (replicate n Show) ≡ replicate n (i * 4 + 2)
+entries-shows i zero = refl
+entries-shows i (suc n) = ap (λ (l : List ℕ). (i * 4 + 2) ∷ l) (entries-shows i n)
+
+pub block_one : (i n : ℕ) (key : Bool) → 1 ≤ n → n < 2 → (i * 4 + code (pick key Key Show)) ∷ [] ≡ entries_of i (block key n)
+block_one i zero key h k = absurd (omega arith)
+block_one i (suc zero) key h k = refl
+block_one i (suc (suc n)) key h k = absurd (omega arith)
+
+pub block_more : (i n : ℕ) (key : Bool) → 2 ≤ n → (i * 4) ∷ (i * 4 + 1) ∷ replicate (n - 2) (i * 4 + 2) ≡ entries_of i (block key n)
+block_more i zero key h = absurd (omega arith)
+block_more i (suc zero) key h = absurd (omega arith)
+block_more i (suc (suc n)) key h =
+    let e : i * 4 ≡ i * 4 + 0 = omega arith in
+    let k : suc (suc n) - 2 ≡ n = omega arith in
+    ap₂ (λ (x y : ℕ). x ∷ (i * 4 + 1) ∷ replicate y (i * 4 + 2)) e k ∙ ap (λ (l : List ℕ). (i * 4 + 0) ∷ (i * 4 + 1) ∷ l) (sym (entries-shows i n))
+
+-- ---- a cue
+
+module _ (key : Bool) (c at : ℕ) where
+  pub cue-room : (n : ℕ) → key ≡ true → c + length (block_cue key at) ≤ n → c < n
+  cue-room n e h = let k : length (block_cue key at) ≡ 1 = rw e in omega (arith, k)
+
+  pub cue-put : (d : List ℕ) → key ≡ true → c < length d → set d c (at + 1) ≡ pasted d c (block_cue key at)
+  cue-put d e h = rw e (ap (set d c) (add-one at) ∙ pasted-one d c (suc at) h)
+
+  pub cue-next : key ≡ true → c + 1 ≡ c + length (block_cue key at)
+  cue-next e = rw e
+
+  pub cue-none : (d : List ℕ) → key ≡ false → (d ≡ pasted d c (block_cue key at)) × (c ≡ c + length (block_cue key at))
+  cue-none d e = rw e (sym (pasted-nil d c), omega arith)
+
 -- ---- entries
 
 pub length-entries : (i : ℕ) (ks : List Kind) → length (entries_of i ks) ≡ length ks
 length-entries i ks = rw (length-map, length-map)
 
-pub entries-append : (i : ℕ) (ks ms : List Kind) → entries_of i (ks ++ ms) ≡ entries_of i ks ++ entries_of i ms
-entries-append i [] ms = refl
-entries-append i (k ∷ ks) ms = ap (λ (l : List ℕ). (i * 4 + code k) ∷ l) (entries-append i ks ms)
-
--- ---- a block
-
-pub length-block-entries : (i n : ℕ) → length (entries_of i (block n)) ≡ n
-length-block-entries i n = length-entries i (block n) ∙ length-block n
-
-entries-shows : (i n : ℕ) → entries_of i (replicate n Show) ≡ replicate n (i * 4 + 2)
-entries-shows i zero = refl
-entries-shows i (suc n) = ap (λ (l : List ℕ). (i * 4 + 2) ∷ l) (entries-shows i n)
-
-pub block_one : (i n : ℕ) → 1 ≤ n → n < 2 → (i * 4) ∷ [] ≡ entries_of i (block n)
-block_one i zero h k = absurd (omega arith)
-block_one i (suc zero) h k = let e : i * 4 ≡ i * 4 + 0 = omega arith in ap (λ (x : ℕ). x ∷ []) e
-block_one i (suc (suc n)) h k = absurd (omega arith)
-
-pub block_more : (i n : ℕ) → 2 ≤ n → (i * 4) ∷ (i * 4 + 1) ∷ replicate (n - 2) (i * 4 + 2) ≡ entries_of i (block n)
-block_more i zero h = absurd (omega arith)
-block_more i (suc zero) h = absurd (omega arith)
-block_more i (suc (suc n)) h =
-    let e : i * 4 ≡ i * 4 + 0 = omega arith in
-    let k : suc (suc n) - 2 ≡ n = omega arith in
-    ap₂ (λ (x y : ℕ). x ∷ (i * 4 + 1) ∷ replicate y (i * 4 + 2)) e k ∙ ap (λ (l : List ℕ). (i * 4 + 0) ∷ (i * 4 + 1) ∷ l) (sym (entries-shows i n))
+pub length-block-entries : (i n : ℕ) (key : Bool) → length (entries_of i (block key n)) ≡ n
+length-block-entries i n key = length-entries i (block key n) ∙ length-block key n
 
 -- ---- positions
 
-positions-append : {A : Type 0} (is : A → Bool) (p : ℕ) (l m : List A) → positions is p (l ++ m) ≡ positions is p l ++ positions is (p + length l) m
+pub positions-append : {A : Type 0} (is : A → Bool) (p : ℕ) (l m : List A) → positions is p (l ++ m) ≡ positions is p l ++ positions is (p + length l) m
 unfolding positions
 positions-append is p [] m = ap (λ (k : ℕ). positions is k m) (omega arith)
 positions-append {A} is p (a ∷ l) m = go (positions-append is (suc p) l m) (is a)
@@ -150,71 +165,132 @@ module _ {d₀ e₀ : List ℕ} {p₀ c₀ : ℕ} {all d e : List ℕ} {p c : �
       let k : c + 0 ≡ c₀ + length (cues_from p₀ all) = rw z at h.next in
       record { list = sym (pasted-nil d p) ∙ a; cues = sym (pasted-nil e c) ∙ b; next = omega (arith, k) }
 
--- ---- a block has one cue: its key
+-- ---- the blocks of a segment
 
-cue-yes : (p i : ℕ) (l : List ℕ) → cues_from p ((i * 4 + 0) ∷ l) ≡ suc p ∷ cues_from (suc p) l
+pub blocks-none : (k gop : ℕ) (after : Bool) → blocks k gop after 0 ≡ []
+unfolding blocks
+blocks-none zero gop after = refl
+blocks-none (suc k) gop after =
+    let n : min 0 gop ≡ 0 = omega arith in
+    rw n (blocks-none k gop (after || leb 2 0))
+
+pub next-is : (gop n : ℕ) (s : Standing) → n ≡ min s.left gop
+    → ◌≡◌ {A = Block} (record { size = n; key = not s.after || leb 2 n; behind = record { left = s.left - n; after = s.after || leb 2 n } }) (next_block gop s)
+next-is gop n s e = rw e
+
+module _ (gop : ℕ) (s : Standing) {b : Block} (is : b ≡ next_block gop s) where
+  -- a block has some units, and leaves the others
+  pub next-some : 1 ≤ s.left → 1 ≤ gop → 1 ≤ b.size
+  next-some h g = omega (arith, ap (λ (x : Block). x.size) is)
+
+  pub next-left : b.size + b.behind.left ≡ s.left
+  next-left = omega (arith, ap (λ (x : Block). x.size) is, ap (λ (x : Block). x.behind.left) is)
+
+  pub blocks_more : (k : ℕ) → 1 ≤ s.left → s.left ≤ k → blocks k gop s.after s.left ≡ block b.key b.size ++ blocks (k - 1) gop b.behind.after b.behind.left
+  unfolding blocks
+  blocks_more zero h w = absurd (omega arith)
+  blocks_more (suc k) h w = let z : suc k - 1 ≡ k = omega arith in rw (z, is)
+
+-- what is left of a segment that stands at s, with k blocks at most
+pub record Segmenting (d₀ e₀ : List ℕ) (p₀ c₀ i gop frames : ℕ) (d e : List ℕ) (p c : ℕ) (s : Standing) : Type 0 where
+  pub fuel : ℕ
+  pub enough : s.left ≤ fuel
+  pub laying : Laying d₀ e₀ p₀ c₀ (entries_of i (kinds gop frames)) d e p c (entries_of i (blocks fuel gop s.after s.left))
+
+-- ---- a block's cue is the position of its key
+
+cue-yes : (p x : ℕ) (l : List ℕ) → is_key_entry x ≡ true → cues_from p (x ∷ l) ≡ suc p ∷ cues_from (suc p) l
 unfolding positions
-cue-yes p i l = let e : (i * 4 + 0) % 4 ≡ 0 = omega arith in rw e
+cue-yes p x l e = rw e
 
-cue-no : (p i k : ℕ) (l : List ℕ) → k < 2 → cues_from p ((i * 4 + suc k) ∷ l) ≡ cues_from (suc p) l
+cue-no : (p x : ℕ) (l : List ℕ) → is_key_entry x ≡ false → cues_from p (x ∷ l) ≡ cues_from (suc p) l
 unfolding positions
-cue-no p i zero l h = let e : (i * 4 + 1) % 4 ≡ 1 = omega arith in rw e
-cue-no p i (suc zero) l h = let e : (i * 4 + 2) % 4 ≡ 2 = omega arith in rw e
-cue-no p i (suc (suc k)) l h = absurd (omega arith)
+cue-no p x l e = rw e
 
-pub cues-none : (p : ℕ) → cues_from p [] ≡ []
+key-yes : (i : ℕ) → is_key_entry (i * 4 + 0) ≡ true
+key-yes i = let e : (i * 4 + 0) % 4 ≡ 0 = omega arith in rw e
+
+key-golden : (i : ℕ) → is_key_entry (i * 4 + 1) ≡ false
+key-golden i = let e : (i * 4 + 1) % 4 ≡ 1 = omega arith in rw e
+
+key-show : (i : ℕ) → is_key_entry (i * 4 + 2) ≡ false
+key-show i = let e : (i * 4 + 2) % 4 ≡ 2 = omega arith in rw e
+
+cues-none : (p : ℕ) → cues_from p [] ≡ []
 unfolding positions
 cues-none p = refl
 
-pub cues-shows : (p i n : ℕ) → cues_from p (entries_of i (replicate n Show)) ≡ []
+cues-shows : (p i n : ℕ) → cues_from p (entries_of i (replicate n Show)) ≡ []
 cues-shows p i zero = cues-none p
-cues-shows p i (suc n) = cue-no p i 1 (entries_of i (replicate n Show)) (omega arith) ∙ cues-shows (suc p) i n
+cues-shows p i (suc n) = cue-no p (i * 4 + 2) (entries_of i (replicate n Show)) (key-show i) ∙ cues-shows (suc p) i n
 
-pub block-cue : (p i n : ℕ) → 1 ≤ n → cues_from p (entries_of i (block n)) ≡ suc p ∷ []
-block-cue p i zero h = absurd (omega arith)
-block-cue p i (suc zero) h = cue-yes p i [] ∙ ap (λ (l : List ℕ). suc p ∷ l) (cues-none (suc p))
-block-cue p i (suc (suc n)) h =
-    cue-yes p i ((i * 4 + 1) ∷ entries_of i (replicate n Show))
-    ∙ ap (λ (l : List ℕ). suc p ∷ l) (cue-no (suc p) i 0 (entries_of i (replicate n Show)) (omega arith) ∙ cues-shows (suc (suc p)) i n)
+cues-more : (p i n : ℕ) (key : Bool) → cues_from p (entries_of i (block key (suc (suc n)))) ≡ suc p ∷ []
+cues-more p i n key =
+    cue-yes p (i * 4 + 0) ((i * 4 + 1) ∷ entries_of i (replicate n Show)) (key-yes i)
+    ∙ ap (λ (l : List ℕ). suc p ∷ l) (cue-no (suc p) (i * 4 + 1) (entries_of i (replicate n Show)) (key-golden i) ∙ cues-shows (suc (suc p)) i n)
 
--- ---- a turn: one block of a segment of which so many frames are left
+block-cue : (p i n : ℕ) (after : Bool) → 1 ≤ n → cues_from p (entries_of i (block (not after || leb 2 n) n)) ≡ block_cue (not after || leb 2 n) p
+block-cue p i zero after h = absurd (omega arith)
+block-cue p i (suc zero) true h = cue-no p (i * 4 + 2) [] (key-show i) ∙ cues-none (suc p)
+block-cue p i (suc zero) false h = cue-yes p (i * 4 + 0) [] (key-yes i) ∙ ap (λ (l : List ℕ). suc p ∷ l) (cues-none (suc p))
+block-cue p i (suc (suc n)) true h = rw (le-leb 2 (suc (suc n)) (omega arith)) (cues-more p i n true)
+block-cue p i (suc (suc n)) false h = cues-more p i n false
 
-pub record Segmenting (d₀ e₀ : List ℕ) (p₀ c₀ i gop frames : ℕ) (d e : List ℕ) (p c left : ℕ) : Type 0 where
-  pub laying : Laying d₀ e₀ p₀ c₀ (entries_of i (kinds gop frames)) d e p c (entries_of i (kinds gop left))
+pub next-cue : (gop : ℕ) (s : Standing) {b : Block} (p i : ℕ) → b ≡ next_block gop s → 1 ≤ b.size → cues_from p (entries_of i (block b.key b.size)) ≡ block_cue b.key p
+next-cue gop s {b} p i is h =
+    let k : b.key ≡ (not s.after || leb 2 b.size) =
+    ap (λ (x : Block). x.key) is ∙ sym (ap (λ (x : Block). not s.after || leb 2 x.size) is) in
+    ap (λ (t : Bool). cues_from p (entries_of i (block t b.size))) k ∙ block-cue p i b.size s.after h ∙ sym (ap (λ (t : Bool). block_cue t p) k)
 
-module _ {d₀ e₀ : List ℕ} {p₀ c₀ i gop frames : ℕ} {d e : List ℕ} {p c left : ℕ} (s : Segmenting d₀ e₀ p₀ c₀ i gop frames d e p c left) where
-  pub segment-end : left ≤ 0 → Laid d₀ e₀ d e p₀ c₀ c (entries_of i (kinds gop frames))
+-- ---- a turn: one block of the segment
+
+pub entries-append : (i : ℕ) (ks ms : List Kind) → entries_of i (ks ++ ms) ≡ entries_of i ks ++ entries_of i ms
+entries-append i [] ms = refl
+entries-append i (k ∷ ks) ms = ap (λ (l : List ℕ). (i * 4 + code k) ∷ l) (entries-append i ks ms)
+
+pub segment-start : (d e : List ℕ) (p c i gop frames : ℕ) → CanLay d e p c (entries_of i (kinds gop frames)) → Segmenting d e p c i gop frames d e p c (standing false frames)
+segment-start d e p c i gop frames h =
+    record { fuel = frames; enough = omega arith; laying = laying-start d e p c (entries_of i (kinds gop frames)) h }
+
+module _ {d₀ e₀ : List ℕ} {p₀ c₀ i gop frames : ℕ} {d e : List ℕ} {p c : ℕ} {t : Standing} (s : Segmenting d₀ e₀ p₀ c₀ i gop frames d e p c t) where
+  pub segment-end : t.left ≤ 0 → Laid d₀ e₀ d e p₀ c₀ c (entries_of i (kinds gop frames))
   segment-end h =
-      let z : left ≡ 0 = omega arith in
-      laying-end (entries_of i (kinds gop left)) s.laying (ap (λ (n : ℕ). entries_of i (kinds gop n)) z ∙ ap (entries_of i) (kinds-none gop))
+      let z : t.left ≡ 0 = omega arith in
+      laying-end (entries_of i (blocks s.fuel gop t.after t.left)) s.laying
+      (ap (λ (k : ℕ). entries_of i (blocks s.fuel gop t.after k)) z ∙ ap (entries_of i) (blocks-none s.fuel gop t.after))
 
-  module _ (n : ℕ) (some : 1 ≤ left) (g : 1 ≤ gop) (is : n ≡ min left gop) where
+  module _ {b : Block} (some : 1 ≤ t.left) (is : b ≡ next_block gop t) where
     abbrev block_entries : List ℕ
-    block_entries = entries_of i (block n)
+    block_entries = entries_of i (block b.key b.size)
 
     abbrev later_entries : List ℕ
-    later_entries = entries_of i (kinds gop (left - n))
+    later_entries = entries_of i (blocks (s.fuel - 1) gop b.behind.after b.behind.left)
+
+    block-split : entries_of i (blocks s.fuel gop t.after t.left) ≡ block_entries ++ later_entries
+    block-split = ap (entries_of i) (blocks_more gop t is s.fuel some s.enough) ∙ entries-append i (block b.key b.size) _
 
     block_here : Laying d₀ e₀ p₀ c₀ (entries_of i (kinds gop frames)) d e p c (block_entries ++ later_entries)
-    block_here =
-        subst (λ (l : List ℕ). Laying d₀ e₀ p₀ c₀ (entries_of i (kinds gop frames)) d e p c l)
-        (ap (entries_of i) (kinds-more gop left g some ∙ ap (λ (m : ℕ). block m ++ kinds gop (left - m)) (sym is)) ∙ entries-append i (block n) (kinds gop (left - n))) s.laying
+    block_here = rw (← block-split) s.laying
 
     block_room : CanLay d e p c block_entries
     block_room = can-front block_entries later_entries (laying-can (block_entries ++ later_entries) block_here)
 
-    pub segment-room : (p + n ≤ length d) × (c < length e) × (p + n < 4294967296)
-    segment-room =
-        let r = block_room in
-        let k = length-block-entries i n in
-        let q = ap length (block-cue p i n (omega arith)) in
-        (omega (arith, r.list), omega (arith, r.cues), omega (arith, r.small))
+    pub segment-list-room : p + b.size ≤ length d
+    segment-list-room = omega (arith, block_room.list, length-block-entries i b.size b.key)
 
-    pub segment-turn : (d' : List ℕ) → d' ≡ pasted d p block_entries → Segmenting d₀ e₀ p₀ c₀ i gop frames d' (set e c (p + 1)) (p + n) (c + 1) (left - n)
-    segment-turn d' x =
-        let q = block-cue p i n (omega arith) in
-        let w : Laid d e d' (set e c (p + 1)) p c (c + 1) block_entries =
-        record { list = x; cues = ap (set e c) (add-one p) ∙ pasted-one e c (suc p) segment-room.1 ∙ ap (pasted e c) (sym q); next = omega (arith, ap length q) } in
+    pub segment-small : p + b.size < 4294967296
+    segment-small = omega (arith, block_room.small, length-block-entries i b.size b.key)
+
+    pub segment-cue-room : 1 ≤ b.size → c + length (block_cue b.key p) ≤ length e
+    segment-cue-room h = omega (arith, block_room.cues, ap length (next-cue gop t p i is h))
+
+    pub segment-turn : (d' e' : List ℕ) (c' : ℕ) → 1 ≤ b.size → d' ≡ pasted d p block_entries → e' ≡ pasted e c (block_cue b.key p) → c' ≡ c + length (block_cue b.key p)
+        → Segmenting d₀ e₀ p₀ c₀ i gop frames d' e' (p + b.size) c' b.behind
+    segment-turn d' e' c' h x y k =
+        let q = next-cue gop t p i is h in
+        let w : Laid d e d' e' p c c' block_entries = record { list = x; cues = y ∙ ap (pasted e c) (sym q); next = omega (arith, k, ap length q) } in
         record {
-          laying = subst (λ (m : ℕ). Laying d₀ e₀ p₀ c₀ (entries_of i (kinds gop frames)) d' (set e c (p + 1)) (p + m) (c + 1) later_entries) (length-block-entries i n) (laying-more block_entries later_entries d' (set e c (p + 1)) (c + 1) block_here w);
+          fuel = s.fuel - 1;
+          enough = omega (arith, s.enough, next-left gop t is);
+          laying = subst (λ (m : ℕ). Laying d₀ e₀ p₀ c₀ (entries_of i (kinds gop frames)) d' e' (p + m) c' later_entries) (length-block-entries i b.size b.key) (laying-more block_entries later_entries d' e' c' block_here w);
         }

@@ -3,4 +3,3 @@ pub mod BlockLaws
 pub mod LayLaws
 pub mod ListLaws
 pub mod CountLaws
-pub mod RustLaws

@@ -4,24 +4,25 @@ use native.Mathlib.Omega.{arith}
 use native.Mathlib.Numerals.{add-one}
 use mathlib.Core.Path.{◌≡◌, refl, sym, ap, subst, ◌∙◌}
 use mathlib.Core.List.{List, [], ◌∷◌, ◌++◌, map, map-append}
+use mathlib.Core.Bool.{false}
 use lib.ListN.{length}
-use Rattle.blocks.specs.Blocks.{kinds, number, entries_of, stacked, layout, list_of}
+use Rattle.blocks.specs.Blocks.{kinds, number, layout, list_of}
 use Rattle.blocks.specs.Numbers.{head_frames, segment_count, records_behind, frames_at, frames_in}
-use Rattle.blocks.specs.code.Lay.{CanLay, Laid, CanLayAll}
+use Rattle.blocks.specs.code.Lay.{entries_of, CanLay, Laid, CanLayAll}
 use Rattle.blocks.proofs.NumberLaws.{behind-start, behind-end, behind_more}
-use Rattle.blocks.proofs.BlockLaws.{length-kinds}
+use Rattle.blocks.proofs.BlockLaws.{length-blocks}
 use Rattle.blocks.proofs.LayLaws.{length-entries, can-front, Laying, laying-start, laying-can, laying-more, laying-end}
 
-pub length-segment : (i gop n : ℕ) → 1 ≤ gop → length (entries_of i (kinds gop n)) ≡ n
-length-segment i gop n g = length-entries i (kinds gop n) ∙ length-kinds gop n g
+pub length-kinds : (i gop n : ℕ) → 1 ≤ gop → length (entries_of i (kinds gop n)) ≡ n
+length-kinds i gop n g = length-entries i (kinds gop n) ∙ length-blocks n gop false n g (omega arith)
 
 -- the entries of a segment and of those behind it
 pub list-more : (gop i n : ℕ) (ns : List ℕ) → map number (layout gop i (n ∷ ns)) ≡ entries_of i (kinds gop n) ++ map number (layout gop (suc i) ns)
-unfolding stacked
+unfolding layout
 list-more gop i n ns = rw map-append
 
 pub list-none : (gop i : ℕ) → map number (layout gop i []) ≡ []
-unfolding stacked
+unfolding layout
 list-none gop i = refl
 
 -- the entries of the segments from i on
@@ -67,11 +68,11 @@ module _ {d₀ e₀ : List ℕ} {gop : ℕ} {rs d e : List ℕ} {i at c : ℕ} (
     list-room = can-front segment_entries (entries_from gop rs (i + 1)) (laying-can (segment_entries ++ entries_from gop rs (i + 1)) segment-here)
 
     pub list-small : 1 ≤ gop → at + frames < 4294967296
-    list-small g = omega (arith, list-room.small, length-segment i gop frames g)
+    list-small g = omega (arith, list-room.small, length-kinds i gop frames g)
 
     pub list-turn : 1 ≤ gop → (d' e' : List ℕ) (c' : ℕ) → Laid d e d' e' at c c' segment_entries → Listing d₀ e₀ gop rs d' e' (i + 1) (at + frames) c'
     list-turn g d' e' c' w =
         record {
           within = omega arith;
-          laying = subst (λ (m : ℕ). Laying d₀ e₀ 0 0 (list_of gop (frames_in rs)) d' e' (at + m) c' (entries_from gop rs (i + 1))) (length-segment i gop frames g) (laying-more segment_entries (entries_from gop rs (i + 1)) d' e' c' segment-here w);
+          laying = subst (λ (m : ℕ). Laying d₀ e₀ 0 0 (list_of gop (frames_in rs)) d' e' (at + m) c' (entries_from gop rs (i + 1))) (length-kinds i gop frames g) (laying-more segment_entries (entries_from gop rs (i + 1)) d' e' c' segment-here w);
         }

@@ -1,5 +1,7 @@
--- The blocks of a segment, the unit list and the cue list (01, 'Unit list and cue list'; 02 §4).
-use Rattle.std.specs.Prelude.{ℕ, zero, suc, ◌+◌, ◌*◌, ◌/◌, ◌%◌, List, [], ◌∷◌, ◌++◌, map, Bool, false, cond as pick, ◌&&◌, ◌||◌, replicate, leb, eqb}
+-- The blocks of a segment, the unit list and the cue list (01, 'Unit list and cue list').
+use Rattle.std.specs.Prelude.{ℕ, zero, suc, ◌+◌, ◌*◌, ◌-◌, ◌%◌, min, List, [], ◌∷◌, ◌++◌, map, Bool, false, not, cond as pick, ◌||◌, replicate, leb, eqb}
+use Rattle.blocks.specs.declared.blocks.Block.{Block}
+use Rattle.blocks.specs.declared.blocks.Standing.{Standing}
 
 -- 01: the kinds of a list's units
 pub data Kind : Type 0 where
@@ -7,24 +9,34 @@ pub data Kind : Type 0 where
 
 -- ---- the blocks of one segment
 
--- 01: a block of so many units is a key, a golden, then show units; 02 §4: it begins with a key however short it is
-abbrev pub block : ℕ → List Kind
-block zero = []
-block (suc zero) = Key ∷ []
-block (suc (suc n)) = Key ∷ Golden ∷ replicate n Show
+-- a block of so many units: key, golden, then show units; of a single unit, key says whether it is a key
+abbrev pub block : Bool → ℕ → List Kind
+block key zero = []
+block key (suc zero) = pick key Key Show ∷ []
+block key (suc (suc n)) = Key ∷ Golden ∷ replicate n Show
 
--- blocks of these sizes, one behind the other
-unfoldable pub blocks : List ℕ → List Kind
-blocks [] = []
-blocks (n ∷ ns) = block n ++ blocks ns
+-- 01: the next block of a segment has min(frames left, gop_size) units, and starts with a key unless it is one unit after a golden
+abbrev pub next_block : ℕ → Standing → Block
+next_block gop s =
+    record {
+      size = min s.left gop;
+      key = not s.after || leb 2 (min s.left gop);
+      behind = record { left = s.left - min s.left gop; after = s.after || leb 2 (min s.left gop) };
+    }
 
--- 01: blocks of min(frames left, gop_size) units: whole ones, then what is left over, which may be nothing
-abbrev pub block_sizes : ℕ → ℕ → List ℕ
-block_sizes gop n = replicate (n / gop) gop ++ (n % gop ∷ [])
+abbrev pub standing : Bool → ℕ → Standing
+standing after left = record { left = left; after = after }
+
+-- one block behind the other, k at most; after: the segment has had a golden
+unfoldable pub blocks : ℕ → ℕ → Bool → ℕ → List Kind
+blocks zero gop after left = []
+blocks (suc k) gop after left =
+    block (next_block gop (standing after left)).key (next_block gop (standing after left)).size
+    ++ blocks k gop (next_block gop (standing after left)).behind.after (next_block gop (standing after left)).behind.left
 
 -- the units of a segment of n frames
-unfoldable pub kinds : ℕ → ℕ → List Kind
-kinds gop n = blocks (block_sizes gop n)
+abbrev pub kinds : ℕ → ℕ → List Kind
+kinds gop n = blocks n gop false n
 
 -- ---- the list
 
@@ -42,18 +54,10 @@ code Show = 2
 abbrev pub number : Entry → ℕ
 number e = e.segment * 4 + code e.kind
 
--- the entries of segment i with these units
-abbrev pub entries_of : ℕ → List Kind → List ℕ
-entries_of i ks = map number (map (λ k. record { segment = i; kind = k }) ks)
-
--- the entries of segments with these units, one segment behind the other, the first being segment i
-unfoldable pub stacked : ℕ → List (List Kind) → List Entry
-stacked i [] = []
-stacked i (ks ∷ kss) = map (λ k. record { segment = i; kind = k }) ks ++ stacked (suc i) kss
-
--- of segments with these frames
-abbrev pub layout : ℕ → ℕ → List ℕ → List Entry
-layout gop i ns = stacked i (map (kinds gop) ns)
+-- the entries of segments with these frames, one segment after the other, the first being segment i
+unfoldable pub layout : ℕ → ℕ → List ℕ → List Entry
+layout gop i [] = []
+layout gop i (n ∷ ns) = map (λ k. record { segment = i; kind = k }) (kinds gop n) ++ layout gop (suc i) ns
 
 abbrev pub list_of : ℕ → List ℕ → List ℕ
 list_of gop ns = map number (layout gop 0 ns)
@@ -68,12 +72,9 @@ positions pass p (a ∷ l) = pick (pass a) (p ∷ positions pass (suc p) l) (pos
 abbrev pub is_key_entry : ℕ → Bool
 is_key_entry n = eqb (n % 4) 0
 
--- 01: cues count units from 1; of entries of which the first stands behind p others, and of a list
-abbrev pub cues_from : ℕ → List ℕ → List ℕ
-cues_from p list = positions is_key_entry (suc p) list
-
+-- 01: cues count units from 1
 abbrev pub cues_of : List ℕ → List ℕ
-cues_of list = cues_from 0 list
+cues_of list = positions is_key_entry 1 list
 
 -- ---- the frames ordered
 
@@ -81,13 +82,3 @@ cues_of list = cues_from 0 list
 unfoldable pub total : List ℕ → ℕ
 total [] = 0
 total (n ∷ ns) = n + total ns
-
--- ---- the Rust's rule, which was 01's before 02 §4: proofs/RustLaws says where it gives another list, and nothing else goes by it
-
--- where a golden came before, a block of one unit shows it again; after: there was one in this segment
-unfoldable pub rust_blocks : Bool → List ℕ → List Kind
-rust_blocks after [] = []
-rust_blocks after (n ∷ ns) = pick (after && eqb n 1) (Show ∷ []) (block n) ++ rust_blocks (after || leb 2 n) ns
-
-abbrev pub rust_kinds : ℕ → ℕ → List Kind
-rust_kinds gop n = rust_blocks false (block_sizes gop n)

@@ -1,13 +1,43 @@
 // The unit list and the cue list, laid out in lent memory in one pass. An entry is four times its segment plus its kind: 0 for
 // a key, 1 for a golden, 2 for a show unit; cues count units from 1.
-ghost use Rattle.std.specs.Prelude.{◌≡◌, ◌+◌, ◌-◌, ◌/◌, ◌≤◌, ◌<◌, length, replicate};
+ghost use Rattle.std.specs.Prelude.{◌≡◌, cond as pick, ◌+◌, ◌≤◌, ◌<◌, length, replicate};
 ghost use Rattle.bitio.specs.Lent.{pasted};
-ghost use Rattle.blocks.specs.Blocks.{block, kinds, entries_of, list_of, cues_of, total};
+ghost use Rattle.blocks.specs.Blocks.{Show, Key, code, block, next_block, kinds, list_of, cues_of, total};
 ghost use Rattle.blocks.specs.Numbers.{frames_in};
-ghost use Rattle.blocks.specs.code.Lay.{CanLay, Laid, CanLayAll};
+ghost use Rattle.blocks.specs.code.Lay.{entries_of, cues_from, block_cue, CanLay, Laid, CanLayAll};
 
 use crate::numbers::{frames_of, segment_count};
 use bitio::numbers::least;
+
+// Where a segment stands: its frames left, and whether it has had a golden.
+#[derive(Drop)]
+struct Standing {
+    left: usize,
+    after: bool,
+}
+
+// A block: how many units it has, whether its first is a key, and where the segment stands behind it.
+#[derive(Drop)]
+struct Block {
+    size: usize,
+    key: bool,
+    behind: Standing,
+}
+
+// The next block of a segment.
+fn next_block(gop: usize, s: Standing) -> Block
+    ensures { result ≡ next_block gop s }
+{
+    let n = least(s.left, gop);
+    Block {
+        size: n,
+        key: !s.after | (n >= 2),
+        behind: Standing {
+            left: s.left - n,
+            after: s.after | (n >= 2),
+        },
+    }
+}
 
 // Writes n times v.
 fn fill(list: &mut [u32], at: usize, n: usize, v: u32)
@@ -21,21 +51,46 @@ fn fill(list: &mut [u32], at: usize, n: usize, v: u32)
     }
 }
 
-// Writes the entries of a block of n units: its key, its golden, then show units.
-fn put_block(list: &mut [u32], at: usize, segment: u32, n: usize)
+// The kind of a block's only unit.
+fn lone(key: bool) -> u32
+    ensures { result ≡ code (pick key Key Show) }
+{
+    if key {
+        return 0;
+    }
+    2
+}
+
+// Writes the entries of a block of n units.
+fn put_block(list: &mut [u32], at: usize, segment: u32, key: bool, n: usize)
     requires room { at + n ≤ length list.old }
     requires units { 1 ≤ n }
     requires small { segment < 1073741823 }
-    ensures { list.new ≡ pasted list.old at (entries_of segment (block n)) }
+    ensures { list.new ≡ pasted list.old at (entries_of segment (block key n)) }
 {
     let first = segment * 4;
-    list[at] = first;
     if n < 2 {
+        list[at] = first + lone(key);
         return;
     }
+    list[at] = first;
     let golden = at + 1;
     list[golden] = first + 1;
     fill(list, at + 2, n - 2, first + 2);
+}
+
+// Writes the cue of a block behind `at` units, if it starts with a key, and returns the place of the next cue.
+fn put_cue(cues: &mut [u32], c: usize, at: usize, key: bool) -> usize
+    requires room { c + length (block_cue key at) ≤ length cues.old }
+    requires small { at < 4294967295 }
+    ensures cues { cues.new ≡ pasted cues.old c (block_cue key at) }
+    ensures next { result ≡ c + length (block_cue key at) }
+{
+    if key {
+        cues[c] = at as u32 + 1;
+        return c + 1;
+    }
+    c
 }
 
 // Writes the entries of a segment behind `at` others, and their cues from c; returns the place of the next cue.
@@ -53,16 +108,18 @@ fn put_segment(
     requires small { segment < 1073741823 }
     ensures { Laid list.old cues.old list.new cues.new at c result (entries_of segment (kinds gop frames)) }
 {
-    let mut left = frames;
+    let mut s = Standing {
+        left: frames,
+        after: false,
+    };
     let mut p = at;
     let mut q = c;
-    while left > 0 {
-        let n = least(left, gop);
-        put_block(list, p, segment, n);
-        cues[q] = p as u32 + 1;
-        q = q + 1;
-        p = p + n;
-        left = left - n;
+    while s.left > 0 {
+        let b = next_block(gop, s);
+        put_block(list, p, segment, b.key, b.size);
+        q = put_cue(cues, q, p, b.key);
+        p = p + b.size;
+        s = b.behind;
     }
     q
 }
@@ -85,15 +142,33 @@ pub fn put_list(list: &mut [u32], cues: &mut [u32], gop: u64, segments: &[u64]) 
     c
 }
 
-// How many cues a segment has, with nothing laid out: one for each block, so its frames by gop, rounded up.
+// One more for a block that starts with a key.
+fn count_cue(n: usize, key: bool) -> usize
+    requires { n < 18446744073709551615 }
+    ensures { result ≡ n + length (block_cue key 0) }
+{
+    if key {
+        return n + 1;
+    }
+    n
+}
+
+// How many cues a segment has, with nothing laid out.
 fn count_segment(gop: usize, frames: usize) -> usize
     requires { 1 ≤ gop }
-    ensures { result ≡ (frames + (gop - 1)) / gop }
+    ensures { result ≡ length (cues_from 0 (entries_of 0 (kinds gop frames))) }
 {
-    if frames == 0 {
-        return 0;
+    let mut s = Standing {
+        left: frames,
+        after: false,
+    };
+    let mut count: usize = 0;
+    while s.left > 0 {
+        let b = next_block(gop, s);
+        count = count_cue(count, b.key);
+        s = b.behind;
     }
-    (frames - 1) / gop + 1
+    count
 }
 
 // How many cues all segments have. Their entries are as many as their frames.

@@ -2,7 +2,7 @@
 use Rattle.std.specs.Prelude.{ℕ, suc, ◌+◌, ◌*◌, ◌-◌, ◌^◌, List, [], ◌∷◌, ◌++◌, map, length}
 use Rattle.std.proofs.Math.Option.{none, some}
 use Rattle.bitio.specs.Parse.{Answer, refused, accepted}
-use Rattle.blocks.specs.Blocks.{code, kinds, rust_kinds}
+use Rattle.blocks.specs.Blocks.{code, kinds}
 use Rattle.pictures.specs.Segments.{Segment}
 use Rattle.pictures.specs.Prepare.{slot_of, show_unit}
 use Rattle.pictures.specs.Assemble.{Outcome, stopped, made, Output, OutputRoom, and_also, sizes, assembled, assemble, named, units_of}
@@ -67,12 +67,12 @@ assembly_rows =
     ∷ (handed_out (assemble room_two settings_kg picture_timed ranges_timed), handed_out (made output_two))
     -- 01's list with as much room as it needs, and with each room one too small
     ∷ (roomed_kg room_kg, handed_out (made output_kg))
-    ∷ (roomed_kg (record { list = 4; cues = 3; picture = 60; ends = 4; shows = 10; header = 19 }), refused 35)
-    ∷ (roomed_kg (record { list = 5; cues = 2; picture = 60; ends = 4; shows = 10; header = 19 }), refused 35)
-    ∷ (roomed_kg (record { list = 5; cues = 3; picture = 59; ends = 4; shows = 10; header = 19 }), refused 35)
-    ∷ (roomed_kg (record { list = 5; cues = 3; picture = 60; ends = 3; shows = 10; header = 19 }), refused 35)
-    ∷ (roomed_kg (record { list = 5; cues = 3; picture = 60; ends = 4; shows = 9; header = 19 }), refused 35)
-    ∷ (roomed_kg (record { list = 5; cues = 3; picture = 60; ends = 4; shows = 10; header = 18 }), refused 35)
+    ∷ (roomed_kg (record { list = 4; cues = 2; picture = 60; ends = 4; shows = 10; header = 19 }), refused 35)
+    ∷ (roomed_kg (record { list = 5; cues = 1; picture = 60; ends = 4; shows = 10; header = 19 }), refused 35)
+    ∷ (roomed_kg (record { list = 5; cues = 2; picture = 59; ends = 4; shows = 10; header = 19 }), refused 35)
+    ∷ (roomed_kg (record { list = 5; cues = 2; picture = 60; ends = 3; shows = 10; header = 19 }), refused 35)
+    ∷ (roomed_kg (record { list = 5; cues = 2; picture = 60; ends = 4; shows = 9; header = 19 }), refused 35)
+    ∷ (roomed_kg (record { list = 5; cues = 2; picture = 60; ends = 4; shows = 10; header = 18 }), refused 35)
     -- ranges past the end or backwards, half a record, no record
     ∷ (ranged_kg (0 ∷ 16 ∷ 16 ∷ 22 ∷ 4 ∷ 22 ∷ 38 ∷ 38 ∷ 45 ∷ 1 ∷ []), refused 36)
     ∷ (ranged_kg (0 ∷ 16 ∷ 16 ∷ 15 ∷ 4 ∷ []), refused 36)
@@ -109,13 +109,13 @@ assembly_rows =
     -- a rewritten unit keeps its extension byte; the header OBU handed out has none when it is new, and its own when not
     ∷ (assembled_at 3 (ordered extended_k unit_g 2 ∷ []), extended_made timed_header)
     ∷ (assembled_at 3 (ordered extended_timed_k unit_g 2 ∷ []), extended_made (0x0_e ∷ 0x20 ∷ 0x11 ∷ timed_payload))
-    -- the kinds of 1 to 5 frames at gop_size 2, and of 3 and 5 by the Rust's rule
+    -- the kinds of 1 to 5 frames at gop_size 2
     ∷ (
-      accepted (map (λ n. map code (kinds 2 n)) (1 ∷ 2 ∷ 3 ∷ 4 ∷ 5 ∷ []) ++ map (λ n. map code (rust_kinds 2 n)) (3 ∷ 5 ∷ [])),
-      accepted ((0 ∷ []) ∷ (0 ∷ 1 ∷ []) ∷ (0 ∷ 1 ∷ 0 ∷ []) ∷ (0 ∷ 1 ∷ 0 ∷ 1 ∷ []) ∷ (0 ∷ 1 ∷ 0 ∷ 1 ∷ 0 ∷ []) ∷ (0 ∷ 1 ∷ 2 ∷ []) ∷ (0 ∷ 1 ∷ 0 ∷ 1 ∷ 2 ∷ []) ∷ []),
+      accepted (map (λ n. map code (kinds 2 n)) (1 ∷ 2 ∷ 3 ∷ 4 ∷ 5 ∷ [])),
+      accepted ((0 ∷ []) ∷ (0 ∷ 1 ∷ []) ∷ (0 ∷ 1 ∷ 2 ∷ []) ∷ (0 ∷ 1 ∷ 0 ∷ 1 ∷ []) ∷ (0 ∷ 1 ∷ 0 ∷ 1 ∷ 2 ∷ []) ∷ []),
     )
     -- the units of 01's list, and numbers that name none
-    ∷ (accepted (units_of output_kg), accepted (timed_k ∷ unit_g ∷ show_unit 3 ∷ timed_k ∷ timed_k ∷ []))
+    ∷ (accepted (units_of output_kg), accepted (timed_k ∷ unit_g ∷ show_unit 3 ∷ show_unit 3 ∷ timed_k ∷ []))
     ∷ (accepted (map (named output_kg.picture output_kg.ends output_kg.shows) (3 ∷ 8 ∷ 9 ∷ 10 ∷ [])), accepted ([] ∷ [] ∷ [] ∷ [] ∷ []))
     -- 02: the slots of no flags, of one, of two and of all
     ∷ (accepted (map slot_of (0 ∷ 8 ∷ 128 ∷ 40 ∷ 255 ∷ []) ∷ []), accepted ((8 ∷ 3 ∷ 7 ∷ 3 ∷ 0 ∷ []) ∷ []))

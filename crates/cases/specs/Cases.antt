@@ -32,7 +32,7 @@ use Rattle.syntax.specs.Syntax.{run}
 use Rattle.syntax.specs.Repeat.{times}
 use Rattle.frame.specs.Frame.{show_existing, frame_start, frame_modes, frame_front, buffer_removal, refresh_flags, frame_info, frame_bits, frame_header, parse_frame, parse_frame_from}
 use Rattle.header.specs.Support.{support, supported_sequence}
-use Rattle.blocks.specs.Blocks.{blocks, kinds, stacked, positions, total, rust_blocks}
+use Rattle.blocks.specs.Blocks.{blocks, layout, positions, total}
 use Rattle.pictures.specs.Segments.{segment_at, segments_from, segments_of}
 use Rattle.pictures.specs.Prepare.{first_of, sent, slot_of, prepare}
 use Rattle.pictures.specs.Assemble.{and_also, in_segment, overall, none_empty, sizes, same_bytes, same_headers, prepare_all, ends_from, output_fits, assembled, assemble, named, units_of}
@@ -77,5 +77,5 @@ abbrev pub rows : List Row
 rows = marked_rows ++ (packet_rows ++ (assembly_rows ++ (boardlist_rows ++ (player_rows ++ line_rows))))
 
 pub cases : check rows ≡ true
-unfolding check many many_f read_leb leb_read leb_bytes leb_write sized framed passes head_obu_of obus_of obu_bytes unit_bytes flat_map is_type count cut group others join behind joined units stream_units flat stream_bytes inner_obu_of length_obu_of frame_unit_of temporal_unit_of annexb_units_of annexb_unit annexb_bytes read write bit_at bits_at bits_within read_bits leading_zeros uvlc_suffix uvlc bits_of halvings uvlc_zeros read_flag read_or flag_or uvlc_or timing_info decoder_model_info opening operating_point operating_points frame_size frame_ids coding_tools screen_tools filters color_description color_sampling coding sequence_header parse_sequence limited retimed with_timing timed put put_or put_flag put_flag_or put_uvlc_or fits fits_or flag_fits_or uvlc_fits_or put_timing put_model put_opening put_point put_points put_size put_ids put_tools put_screen put_filters put_color put_sampling put_coding put_sequence timing_fits model_fits opening_fits point_fits points_fit size_fits ids_fit tools_fit screen_fits color_fits sampling_fits coding_fits emittable of_bits pack_n pack trailed sequence_bytes emitted run show_existing frame_start frame_modes frame_front times buffer_removal refresh_flags frame_info frame_bits frame_header parse_frame_from parse_frame and_next has last_payload part span support blocks kinds rust_blocks stacked positions total segment_at segments_from segments_of first_of sent unit_frame frame_payload slot_of prepare and_also in_segment overall none_empty sizes supported_sequence same_bytes same_headers prepare_all ends_from output_fits assembled assemble first_payload named units_of number_at units_length file_numbers_from is_file read_into file_numbers_after has_room lent pasted digits_in decimal line lines listing refresh keep_as play units_from merged_at packets_at stamped bytes_of merge_packets alone behind_p canonical_at canonical hex_digit hex_text hex_value all_hex hex_bytes pairs byte_string number_from read_number word key_from word_key decoded_to decoded_in is_marked number_field room_prefix separator_of refilled_of places_in bytes_field value_of value_field field_of fields_in part_text value_text item_text is_printed opened_of past_of items_text answer_text
+unfolding check many many_f read_leb leb_read leb_bytes leb_write sized framed passes head_obu_of obus_of obu_bytes unit_bytes flat_map is_type count cut group others join behind joined units stream_units flat stream_bytes inner_obu_of length_obu_of frame_unit_of temporal_unit_of annexb_units_of annexb_unit annexb_bytes read write bit_at bits_at bits_within read_bits leading_zeros uvlc_suffix uvlc bits_of halvings uvlc_zeros read_flag read_or flag_or uvlc_or timing_info decoder_model_info opening operating_point operating_points frame_size frame_ids coding_tools screen_tools filters color_description color_sampling coding sequence_header parse_sequence limited retimed with_timing timed put put_or put_flag put_flag_or put_uvlc_or fits fits_or flag_fits_or uvlc_fits_or put_timing put_model put_opening put_point put_points put_size put_ids put_tools put_screen put_filters put_color put_sampling put_coding put_sequence timing_fits model_fits opening_fits point_fits points_fit size_fits ids_fit tools_fit screen_fits color_fits sampling_fits coding_fits emittable of_bits pack_n pack trailed sequence_bytes emitted run show_existing frame_start frame_modes frame_front times buffer_removal refresh_flags frame_info frame_bits frame_header parse_frame_from parse_frame and_next has last_payload part span support blocks layout positions total segment_at segments_from segments_of first_of sent unit_frame frame_payload slot_of prepare and_also in_segment overall none_empty sizes supported_sequence same_bytes same_headers prepare_all ends_from output_fits assembled assemble first_payload named units_of number_at units_length file_numbers_from is_file read_into file_numbers_after has_room lent pasted digits_in decimal line lines listing refresh keep_as play units_from merged_at packets_at stamped bytes_of merge_packets alone behind_p canonical_at canonical hex_digit hex_text hex_value all_hex hex_bytes pairs byte_string number_from read_number word key_from word_key decoded_to decoded_in is_marked number_field room_prefix separator_of refilled_of places_in bytes_field value_of value_field field_of fields_in part_text value_text item_text is_printed opened_of past_of items_text answer_text
 cases = refl

@@ -76,6 +76,6 @@ marked_rows =
     ∷ (frame payload_k (0x10 ∷ []), accepted ((0 ∷ 0 ∷ 1 ∷ 0 ∷ 255 ∷ 0 ∷ []) ∷ []))
     ∷ (frame payload_k (0x38 ∷ 0x10 ∷ []), accepted ((0 ∷ 1 ∷ 1 ∷ 1 ∷ 8 ∷ 0 ∷ []) ∷ []))
     ∷ (frame payload_k (0x_b8 ∷ []), accepted ((1 ∷ 3 ∷ []) ∷ []))
-    -- 01, 'Unit list and cue list', with 02 §4: the listing's kinds, cues and slots
-    ∷ (marked_of (assemble room_kg settings_kg picture_kg (ranges_kg 4 1)), accepted ((0 ∷ 1 ∷ 2 ∷ 0 ∷ 4 ∷ []) ∷ (1 ∷ 4 ∷ 5 ∷ []) ∷ (show_unit 3 ++ show_unit 3) ∷ []))
+    -- 01, 'Unit list and cue list': the listing's kinds, cues and slots
+    ∷ (marked_of (assemble room_kg settings_kg picture_kg (ranges_kg 4 1)), accepted ((0 ∷ 1 ∷ 2 ∷ 2 ∷ 4 ∷ []) ∷ (1 ∷ 5 ∷ []) ∷ (show_unit 3 ++ show_unit 3) ∷ []))
     ∷ []

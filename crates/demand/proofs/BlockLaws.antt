@@ -1,19 +1,19 @@
 -- The entries of segments one behind the other are `Following`, whatever their blocks, and so are today's.
-use Prim.Native.Nat.{ℕ, zero, suc, ◌+◌, ◌-◌, ◌≤◌, ◌<◌}
+use Prim.Native.Nat.{ℕ, zero, suc, ◌+◌, ◌-◌, ◌≤◌, ◌<◌, min}
 use native.Mathlib.Omega.{arith}
 use mathlib.Core.Path.{◌≡◌, refl, ap, subst, ◌∙◌}
 use mathlib.Core.List.{List, [], ◌∷◌, ◌++◌, map}
 use mathlib.Core.Logic.{◌⊎◌, inl, inr}
-use mathlib.Core.Bool.{Bool, true, false, cond}
+use mathlib.Core.Bool.{Bool, true, false, not, cond, ◌||◌}
 use mathlib.Core.Option.{Option, none, some}
 use lib.ListN.{length, get_or, replicate, length-append, length-map, get_or-append}
 use lib.Seq.{get_or-append-add}
-use lib.Dec.{ltb}
+use lib.Dec.{leb, ltb}
 use borrow.Author.Tests.{ltb-true, ltb-false}
 use Rattle.bitio.specs.Every.{Every}
 use Rattle.bitio.specs.Every.Every.{nothing, also}
-use Rattle.blocks.proofs.BlockLaws.{length-kinds}
-use Rattle.blocks.specs.Blocks.{Kind, Key, Golden, Show, block, blocks, block_sizes, kinds, Entry, stacked, layout, total}
+use Rattle.blocks.proofs.BlockLaws.{length-blocks}
+use Rattle.blocks.specs.Blocks.{Kind, Key, Golden, Show, block, blocks, kinds, Entry, layout, total}
 use Rattle.demand.specs.Kinds.{segment_behind}
 use Rattle.demand.proofs.Following.{entry, first, Behind, Ordered, Following}
 use Rattle.demand.proofs.ListLaws.{get_d-map-lt}
@@ -35,6 +35,10 @@ proper b [] = Unit
 proper b (k ∷ ks) = (Next b k) × (proper (some k) ks)
 
 -- ---- segments one behind the other, the first being segment i
+
+unfoldable pub stacked : ℕ → List (List Kind) → List Entry
+stacked i [] = []
+stacked i (ks ∷ kss) = map (entry i) ks ++ stacked (suc i) kss
 
 abbrev pub lengths : List (List Kind) → List ℕ
 lengths kss = map (λ ks. length ks) kss
@@ -100,35 +104,45 @@ following-stacked kss ps =
       order = ordered-stacked 0 kss ps none;
     }
 
--- ---- blocks are proper, of whatever sizes
+-- ---- blocks are proper
 
-proper-shows : (c : ℕ) (b : Option Kind) (rest : List Kind) → Led b → ((b' : Option Kind) → proper b' rest) → proper b (replicate c Show ++ rest)
+proper-shows : (c : ℕ) (b : Option Kind) (rest : List Kind) → Led b → ((b' : Option Kind) → Led b' → proper b' rest) → proper b (replicate c Show ++ rest)
 unfolding proper
-proper-shows zero b rest l h = h b
-proper-shows (suc c) b rest l h = (l, proper-shows c (some Show) rest (inr refl) h)
+proper-shows zero b rest a h = h b a
+proper-shows (suc c) b rest a h = (a, proper-shows c (some Show) rest (inr refl) h)
 
-proper-block : (n : ℕ) (b : Option Kind) (rest : List Kind) → ((b' : Option Kind) → proper b' rest) → proper b (block n ++ rest)
+pub proper-block : (c : ℕ) (after : Bool) (b : Option Kind) (rest : List Kind) → (after ≡ true → Led b)
+    → ((b' : Option Kind) → ((after || leb 2 c) ≡ true → Led b') → proper b' rest) → proper b (block (not after || leb 2 c) c ++ rest)
 unfolding proper
-proper-block zero b rest h = h b
-proper-block (suc zero) b rest h = (tt, h (some Key))
-proper-block (suc (suc n)) b rest h = (tt, (refl, proper-shows n (some Golden) rest (inl refl) h))
-
-pub proper-blocks : (sizes : List ℕ) (b : Option Kind) → proper b (blocks sizes)
-unfolding blocks proper
-proper-blocks [] b = tt
-proper-blocks (n ∷ ns) b = proper-block n b (blocks ns) (proper-blocks ns)
+proper-block zero true b rest a h = h b a
+proper-block zero false b rest a h = h b a
+proper-block (suc zero) true b rest a h = (a refl, h (some Show) (λ _. inr refl))
+proper-block (suc zero) false b rest a h = (tt, h (some Key) (λ e. let z : ◌≡◌ {A = ℕ} 0 1 = cc in absurd (omega arith)))
+proper-block (suc (suc c)) after b rest a h = (tt, (refl, proper-shows c (some Golden) rest (inl refl) (λ b' w. h b' (λ _. w))))
 
 -- ---- today's blocks
 
+proper-blocks : (f gop : ℕ) (after : Bool) (left : ℕ) (b : Option Kind) → (after ≡ true → Led b) → proper b (blocks f gop after left)
+unfolding blocks proper
+proper-blocks zero gop after left b a = tt
+proper-blocks (suc f) gop after left b a =
+    let c = min left gop in
+    proper-block c after b _ a (λ b' a'. proper-blocks f gop (after || leb 2 c) (left - c) b' a')
+
 proper-kinds : (gop : ℕ) (ns : List ℕ) → Every (proper none) (map (kinds gop) ns)
-unfolding kinds
 proper-kinds gop [] = nothing
-proper-kinds gop (n ∷ ns) = also (proper-blocks (block_sizes gop n) none) (proper-kinds gop ns)
+proper-kinds gop (n ∷ ns) = also (proper-blocks n gop false n none (λ e. let z : ◌≡◌ {A = ℕ} 0 1 = cc in absurd (omega arith))) (proper-kinds gop ns)
 
 lengths-kinds : (gop : ℕ) (ns : List ℕ) → 1 ≤ gop → lengths (map (kinds gop) ns) ≡ ns
 lengths-kinds gop [] g = refl
-lengths-kinds gop (n ∷ ns) g = rw (length-kinds gop n g, lengths-kinds gop ns g)
+lengths-kinds gop (n ∷ ns) g = rw (length-blocks n gop false n g (omega arith), lengths-kinds gop ns g)
+
+layout-stacked : (gop i : ℕ) (ns : List ℕ) → layout gop i ns ≡ stacked i (map (kinds gop) ns)
+unfolding layout stacked
+layout-stacked gop i [] = refl
+layout-stacked gop i (n ∷ ns) = rw (layout-stacked gop (suc i) ns)
 
 pub following-layout : (gop : ℕ) (ns : List ℕ) → 1 ≤ gop → Following ns (layout gop 0 ns)
 following-layout gop ns g =
-    subst (λ (l : List ℕ). Following l (layout gop 0 ns)) (lengths-kinds gop ns g) (following-stacked (map (kinds gop) ns) (proper-kinds gop ns))
+    subst (λ (l : List ℕ). Following l (layout gop 0 ns)) (lengths-kinds gop ns g)
+    (rw (layout-stacked gop 0 ns) (following-stacked (map (kinds gop) ns) (proper-kinds gop ns)))

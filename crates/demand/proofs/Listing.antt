@@ -192,10 +192,10 @@ has_model (accepted q) = q.header.opening.model.decoder_model_info_present
 
 -- the kinds of the units handed out
 abbrev kinds_kg : List Kind
-kinds_kg = Key ∷ Golden ∷ Show ∷ Key ∷ Key ∷ []
+kinds_kg = Key ∷ Golden ∷ Show ∷ Show ∷ Key ∷ []
 
 abbrev kinds_two : List Kind
-kinds_two = Key ∷ Golden ∷ Show ∷ Key ∷ Key ∷ Golden ∷ Show ∷ []
+kinds_two = Key ∷ Golden ∷ Show ∷ Show ∷ Key ∷ Golden ∷ Show ∷ []
 
 models : (has_model (parse_sequence (list_header segments_kg)) ∷ has_model (parse_sequence (list_header segments_timed)) ∷ []) ≡ false ∷ false ∷ []
 unfolding many many_f and_next bit_at bits_at bits_within read_bits leading_zeros uvlc_suffix uvlc leb_read read_leb sized passes head_obu_of obus_of is_type first_payload read_flag read_or flag_or uvlc_or timing_info decoder_model_info opening operating_point operating_points frame_size frame_ids coding_tools screen_tools filters color_description color_sampling coding sequence_header parse_sequence
@@ -248,38 +248,34 @@ abbrev kinds_in : ℕ → List (List (Answer Kind)) → List (Answer Kind)
 kinds_in i l = get_or l i []
 
 -- the positions that the lists' kinds have shown
-pub shown-positions : (map (shown_at kinds_kg) (1 ∷ 2 ∷ 3 ∷ 4 ∷ 5 ∷ []) ∷ map (shown_at kinds_two) (1 ∷ 2 ∷ 3 ∷ 4 ∷ 5 ∷ 6 ∷ 7 ∷ []) ∷ []) ≡ (1 ∷ 2 ∷ 2 ∷ 4 ∷ 5 ∷ []) ∷ (1 ∷ 2 ∷ 2 ∷ 4 ∷ 5 ∷ 6 ∷ 6 ∷ []) ∷ []
+pub shown-positions : (map (shown_at kinds_kg) (1 ∷ 2 ∷ 3 ∷ 4 ∷ 5 ∷ []) ∷ map (shown_at kinds_two) (1 ∷ 2 ∷ 3 ∷ 4 ∷ 5 ∷ 6 ∷ 7 ∷ []) ∷ []) ≡ (1 ∷ 2 ∷ 2 ∷ 2 ∷ 5 ∷ []) ∷ (1 ∷ 2 ∷ 2 ∷ 2 ∷ 5 ∷ 6 ∷ 6 ∷ []) ∷ []
 shown-positions = refl
 
 -- Written as a stream or as Annex B, with any room, read back and played from a cue on, the lists show those positions,
 -- whatever refused units are played before and between them: document 01's own list, and the one of two segments.
-pub shown_kg : (us : List (List ℕ)) → ReadBack (units_of output_kg) us → (cue : ℕ) → Memᴰ cue (1 ∷ 4 ∷ 5 ∷ []) → (course : Course start cue (drop (cue - 1) us)) → Throughout (Shows kinds_kg us) course
+pub shown_kg : (us : List (List ℕ)) → ReadBack (units_of output_kg) us → (cue : ℕ) → Memᴰ cue (1 ∷ 5 ∷ []) → (course : Course start cue (drop (cue - 1) us)) → Throughout (Shows kinds_kg us) course
 shown_kg = shown-from settings_kg segments_kg output_kg demanded_kg kinds_kg (ap (kinds_in 0) kinds-are)
 
--- a screen switched on late starts at the key that the lone last frame is: it shows 4 and 5
-pub shown-from-four : (us : List (List ℕ)) → ReadBack (units_of output_kg) us → (course : Course start 4 (drop 3 us)) → Throughout (Shows kinds_kg us) course
-shown-from-four us w = shown_kg us w 4 (Memᴰ.tail (Memᴰ.head refl))
-
-pub shown_two : (us : List (List ℕ)) → ReadBack (units_of output_two) us → (cue : ℕ) → Memᴰ cue (1 ∷ 4 ∷ 5 ∷ []) → (course : Course start cue (drop (cue - 1) us)) → Throughout (Shows kinds_two us) course
+pub shown_two : (us : List (List ℕ)) → ReadBack (units_of output_two) us → (cue : ℕ) → Memᴰ cue (1 ∷ 5 ∷ []) → (course : Course start cue (drop (cue - 1) us)) → Throughout (Shows kinds_two us) course
 shown_two = shown-from settings_kg segments_two output_two demanded_two kinds_two (ap (kinds_in 1) kinds-are)
 
 -- the same is handed out for the timed ones, and shows the same
-pub shown_timed : (us : List (List ℕ)) → ReadBack (units_of output_two) us → (cue : ℕ) → Memᴰ cue (1 ∷ 4 ∷ 5 ∷ []) → (course : Course start cue (drop (cue - 1) us)) → Throughout (Shows kinds_two us) course
+pub shown_timed : (us : List (List ℕ)) → ReadBack (units_of output_two) us → (cue : ℕ) → Memᴰ cue (1 ∷ 5 ∷ []) → (course : Course start cue (drop (cue - 1) us)) → Throughout (Shows kinds_two us) course
 shown_timed = shown-from settings_kg segments_timed output_two demanded_timed kinds_two (ap (kinds_in 2) kinds-are)
 
 -- ---- such units and such a course
 
--- with room for 120 bytes and seven ends either container carries the list's own
+-- with room for 96 bytes and seven ends either container carries the list's own
 abbrev CarriedOwn : Container → Type 0
-CarriedOwn c = (write c (record { bytes = 120; ends = 7 }) (units_of output_two) ≡ accepted (accepted_list (write c (record { bytes = 120; ends = 7 }) (units_of output_two))))
-    × (read c (record { bytes = 120; ends = 7 }) (accepted_list (write c (record { bytes = 120; ends = 7 }) (units_of output_two))) ≡ accepted (units_of output_two))
+CarriedOwn c = (write c (record { bytes = 96; ends = 7 }) (units_of output_two) ≡ accepted (accepted_list (write c (record { bytes = 96; ends = 7 }) (units_of output_two))))
+    × (read c (record { bytes = 96; ends = 7 }) (accepted_list (write c (record { bytes = 96; ends = 7 }) (units_of output_two))) ≡ accepted (units_of output_two))
 
 carried-both : (CarriedOwn stream) × (CarriedOwn annexb)
 unfolding many many_f leb_read read_leb sized leb_write leb_bytes framed passes head_obu_of obus_of obu_bytes unit_bytes flat_map is_type count has part span named units_of cut group others join behind joined units stream_units flat stream_bytes inner_obu_of length_obu_of frame_unit_of temporal_unit_of annexb_units_of annexb_unit annexb_bytes read write
 carried-both = ((refl, refl), (refl, refl))
 
 carries_own : (c : Container) → CarriedOwn c → ReadBack (units_of output_two) (units_of output_two)
-carries_own c w = record { container = c; room = record { bytes = 120; ends = 7 }; bytes = _; written = w.0; room' = record { bytes = 120; ends = 7 }; read_back = w.1 }
+carries_own c w = record { container = c; room = record { bytes = 96; ends = 7 }; bytes = _; written = w.0; room' = record { bytes = 96; ends = 7 }; read_back = w.1 }
 
 -- so the claim on what is read back has an instance in each
 pub in-stream : ReadBack (units_of output_two) (units_of output_two)
@@ -296,7 +292,7 @@ abbrev goldened : State
 goldened = state_after keyed 2 unit_g
 
 abbrev rekeyed : State
-rekeyed = state_after (state_after (state_after goldened 3 (show_unit 3)) 4 timed_k) 5 timed_other_k
+rekeyed = state_after (state_after (state_after goldened 3 (show_unit 3)) 4 (show_unit 3)) 5 timed_other_k
 
 -- Refused in between: a show unit before there is a header, one of a slot that holds a key not showable, the other segment's show unit before
 -- its golden, and bytes that are no OBU.

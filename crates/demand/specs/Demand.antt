@@ -155,6 +155,6 @@ pub record Demand (set : Settings) (xs : List Segment) (es : List Entry) (n : �
   pub played : (us : List (List ℕ)) → ReadBack g.units us → (cue : ℕ) → Memᴰ cue g.cues → (course : Course start cue (drop (cue - 1) us))
       → Throughout (λ p st. PlaysRight set header xs us cue p st) course
 
--- of what assembly has handed out: as many units as frames are ordered in all, in the blocks of 01, 'Unit list and cue list', and 02 §4 (`layout`)
+-- of what assembly has handed out: as many units as frames are ordered in all, in the blocks of 01, 'Unit list and cue list' (`layout`)
 abbrev pub Demand3 : Settings → List Segment → Output → Type 0
 Demand3 set xs r = Demand set xs (layout set.gop 0 (frames_of xs)) (total (frames_of xs)) (handed r)

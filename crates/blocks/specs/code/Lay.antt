@@ -1,8 +1,20 @@
 -- Lists and cues laid out in lent memory, from the flat numbers of the segments.
-use Rattle.std.specs.Prelude.{ℕ, ◌+◌, ◌≤◌, ◌<◌, ◌≡◌, List, length}
+use Rattle.std.specs.Prelude.{ℕ, suc, ◌+◌, ◌≤◌, ◌<◌, ◌≡◌, List, [], ◌∷◌, map, Bool, cond as pick, length}
 use Rattle.bitio.specs.Lent.{pasted}
 use Rattle.blocks.specs.Numbers.{segment_count, frames_in}
-use Rattle.blocks.specs.Blocks.{list_of, cues_from}
+use Rattle.blocks.specs.Blocks.{Kind, number, positions, is_key_entry, list_of}
+
+-- the entries of segment i with these units
+abbrev pub entries_of : ℕ → List Kind → List ℕ
+entries_of i ks = map number (map (λ k. record { segment = i; kind = k }) ks)
+
+-- the cues of entries of which the first stands behind p others
+abbrev pub cues_from : ℕ → List ℕ → List ℕ
+cues_from p xs = positions is_key_entry (suc p) xs
+
+-- the cue of a block behind p units: its first, if that is a key
+abbrev pub block_cue : Bool → ℕ → List ℕ
+block_cue key p = pick key (suc p ∷ []) []
 
 -- the entries xs have room in the list d at p, their cues in e at c, and cues are u32
 pub record CanLay (d e : List ℕ) (p c : ℕ) (xs : List ℕ) : Type 0 where

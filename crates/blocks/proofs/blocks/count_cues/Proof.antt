@@ -22,10 +22,10 @@ add-n : tie.Need-overflow-add-n invariant-loop decreases-loop
 add-n c =
     let r = rw c.before.frames-of.ensures at c.count-segment.ensures in
     let p = c.before.before.before.before.before.before.requires in
-    omega (arith, all_small c.before.before.before.loop.invariant (omega arith) p.0 _ r, p.1)
+    omega (arith, all_small c.before.before.before.loop.invariant (omega arith) _ p.0 r, p.1)
 
 loop-again : tie.Need-loop-preserved invariant-loop decreases-loop
-loop-again c = all-turn c.before.before.before.loop.invariant (omega arith) c.before.before.before.before.before.before.requires.0 _ (rw c.before.frames-of.ensures at c.count-segment.ensures)
+loop-again c = all-turn c.before.before.before.loop.invariant (omega arith) _ (rw c.before.frames-of.ensures at c.count-segment.ensures)
 
 returns : tie.Need-returns invariant-loop decreases-loop
 returns c = all_end c.before.loop.invariant (omega arith)

@@ -1,22 +1,44 @@
 use borrow.Author.Rules.{rules}
 use native.Mathlib.Omega.{arith}
-use native.Mathlib.Nat.{div-le_self}
-use Prim.Native.Nat.{◌-◌, ◌≤◌}
-use Rattle.blocks.proofs.CountLaws.{rounded-none, rounded-some}
+use Rattle.blocks.proofs.CountLaws.{CountingSegment, counting-start, counting-end, counting-turn}
+use Rattle.blocks.proofs.LayLaws.{next-some, next-left}
 use Rattle.blocks.proofs.blocks.count_segment.Statement.{statement}
 use Rattle.blocks.proofs.blocks.count_segment.Tie as tie
 
-some : (c : tie.Else1) → 1 ≤ c.before.args.frames
-some c = omega (arith, c.if1.false)
+abbrev invariant-loop : tie.invariant-loop
+invariant-loop gop frames s₀ count₀ s count = CountingSegment gop frames count s
 
-add-result : tie.Need-overflow-add-result
-add-result c = let s = c.before in omega (arith, s.ranges.frames, some c, div-le_self (s.args.frames - 1) s.args.gop)
+abbrev decreases-loop : tie.decreases-loop
+decreases-loop gop frames s₀ count₀ s count = s.left
 
-returns : tie.Need-returns
-returns c = let s = c.before in rounded-none s.args.gop s.args.frames s.requires c.if1.true
+loop-holds : tie.Need-loop-init invariant-loop decreases-loop
+loop-holds c = counting-start _ _
 
-returns-2 : tie.Need-returns-2
-returns-2 c = let s = c.before in rounded-some s.args.gop s.args.frames s.requires (some c)
+count-cue-requires : tie.Need-count-cue-requires invariant-loop decreases-loop
+count-cue-requires c κs = omega (arith, c.before.before.before.loop.invariant.small, c.before.if1.true)
+
+loop-less : tie.Need-loop-smaller invariant-loop decreases-loop
+loop-less c =
+    let l = c.before.before.before.before.before in
+    let e = c.before.before.next-block.ensures in
+    let h = c.before.before.before.if1.true in
+    omega (arith, next-left _ l.loop.s e, next-some _ l.loop.s e h l.before.requires)
+
+loop-again : tie.Need-loop-preserved invariant-loop decreases-loop
+loop-again c = let l = c.before.before.before.before.before in counting-turn l.loop.invariant _ c.before.before.next-block.ensures c.before.before.before.if1.true l.before.requires c.before.count-cue.ensures
+
+returns : tie.Need-returns invariant-loop decreases-loop
+returns c = counting-end c.before.before.loop.invariant c.if1.false
 
 pub count-segment-spec : {M : Type 1} → statement M
-count-segment-spec = tie.close (tie.spec returns (λ c. search rules) (λ c. search rules) add-result returns-2)
+count-segment-spec =
+    tie.close
+    (tie.spec
+    invariant-loop
+    decreases-loop
+    loop-holds
+    (λ c κs. search rules)
+    count-cue-requires
+    loop-less
+    loop-again
+    returns)

@@ -1,69 +1,63 @@
 use borrow.Author.Rules.{rules}
 use native.Mathlib.Omega.{arith}
-use Prim.Native.Nat.{◌+◌, ◌≤◌, ◌<◌}
-use lib.ListN.{length}
-use Rattle.blocks.proofs.LayLaws.{Segmenting, laying-start, segment-end, segment-room, segment-turn}
+use Rattle.blocks.proofs.LayLaws.{next-some, next-left, Segmenting, segment-start, segment-end, segment-list-room, segment-small, segment-cue-room, segment-turn}
 use Rattle.blocks.proofs.blocks.put_segment.Statement.{statement}
 use Rattle.blocks.proofs.blocks.put_segment.Tie as tie
 
 abbrev invariant-loop : tie.invariant-loop
-invariant-loop list₀ cues₀ at c segment gop frames left₀ p₀ q₀ list cues left p q = Segmenting list₀ cues₀ at c segment gop frames list cues p q left
+invariant-loop list₀ cues₀ at c segment gop frames s₀ p₀ q₀ list cues s p q = Segmenting list₀ cues₀ at c segment gop frames list cues p q s
 
 abbrev decreases-loop : tie.decreases-loop
-decreases-loop list₀ cues₀ at c segment gop frames left₀ p₀ q₀ list cues left p q = left
+decreases-loop list₀ cues₀ at c segment gop frames s₀ p₀ q₀ list cues s p q = s.left
 
 loop-holds : tie.Need-loop-init invariant-loop decreases-loop
-loop-holds c = record { laying = laying-start _ _ _ _ _ c.before.before.requires.0 }
-
--- the block and its cue have room
-room : (t : tie.After-least invariant-loop decreases-loop)
-    → let l = t.before.before.loop in (l.p + t.least.result ≤ length l.list) × (l.q < length l.cues) × (l.p + t.least.result < 4294967296)
-room t =
-    let i = t.before in
-    segment-room i.before.loop.invariant _ i.loop-test.true i.before.before.before.before.requires.1.0 t.least.ensures
-
--- a block has some units
-some : (t : tie.After-least invariant-loop decreases-loop) → 1 ≤ t.least.result
-some t = let i = t.before in omega (arith, t.least.ensures, i.loop-test.true, i.before.before.before.before.requires.1.0)
+loop-holds c = let a = c.before.before.args in segment-start a.list.now a.cues.now a.at a.c a.segment a.gop a.frames c.before.before.requires.0
 
 put-block-requires : tie.Need-put-block-requires invariant-loop decreases-loop
-put-block-requires c κs = ((room c.before).0, (some c.before, c.before.before.before.before.before.before.requires.1.1))
+put-block-requires c κs =
+    let n = c.before in
+    let l = n.before.before.before in
+    let g = l.before.before.before.requires in
+    let h = n.before.if1.true in
+    (segment-list-room l.loop.invariant h n.next-block.ensures, (next-some _ l.loop.s n.next-block.ensures h g.1.0, g.1.1))
 
-cast-cues : tie.Need-overflow-cast-cues invariant-loop decreases-loop
-cast-cues c = omega (arith, (room c.before.before.before.before).2)
-
-add-cues : tie.Need-overflow-add-cues invariant-loop decreases-loop
-add-cues c = omega (arith, (room c.before.before.before.before).2, some c.before.before.before.before)
-
-slice-write-cues : tie.Need-slice-write-cues invariant-loop decreases-loop
-slice-write-cues c = (room c.before.before.before.before).1
-
-add-q : tie.Need-overflow-add-q invariant-loop decreases-loop
-add-q c = search rules
+put-cue-requires : tie.Need-put-cue-requires invariant-loop decreases-loop
+put-cue-requires c κs =
+    let n = c.before.before.before.before.before in
+    let l = n.before.before.before in
+    let g = l.before.before.before.requires in
+    let h = n.before.if1.true in
+    let e = n.next-block.ensures in
+    let k = next-some _ l.loop.s e h g.1.0 in
+    (segment-cue-room l.loop.invariant h e k, omega (arith, segment-small l.loop.invariant h e, k))
 
 add-p : tie.Need-overflow-add-p invariant-loop decreases-loop
-add-p c = omega (arith, (room c.before.before.before.before).2)
-
-sub-left : tie.Need-overflow-sub-left invariant-loop decreases-loop
-sub-left c = search rules
+add-p c = let n = c.before.before.before.before.before.before.before.before.before in omega (arith, segment-small n.before.before.before.loop.invariant n.before.if1.true n.next-block.ensures)
 
 loop-less : tie.Need-loop-smaller invariant-loop decreases-loop
-loop-less c = omega (arith, some c.before.before.before.before)
+loop-less c =
+    let n = c.before.before.before.before.before.before.before.before.before.before in
+    let l = n.before.before.before in
+    let e = n.next-block.ensures in
+    omega (arith, next-left _ l.loop.s e, next-some _ l.loop.s e n.before.if1.true l.before.before.before.requires.1.0)
 
 loop-again : tie.Need-loop-preserved invariant-loop decreases-loop
 loop-again c =
-    let t = c.before.before.before.before in
-    let i = t.before in
-    segment-turn i.before.loop.invariant _ i.loop-test.true i.before.before.before.before.requires.1.0 t.least.ensures _ c.before.before.put-block.ensures
+    let n = c.before.before.before.before.before.before.before.before.before.before in
+    let l = n.before.before.before in
+    let h = n.before.if1.true in
+    let e = n.next-block.ensures in
+    let w = c.before.before.before.before.put-cue.ensures in
+    segment-turn l.loop.invariant h e _ _ _ (next-some _ l.loop.s e h l.before.before.before.requires.1.0) c.before.before.before.before.before.before.before.before.put-block.ensures w.0 w.1
 
 same_length : tie.Need-same-length invariant-loop decreases-loop
-same_length c = c.before.loop.invariant.laying.list-len
+same_length c = c.before.before.loop.invariant.laying.list-len
 
 same-length-2 : tie.Need-same-length-2 invariant-loop decreases-loop
-same-length-2 c = c.before.loop.invariant.laying.cues-len
+same-length-2 c = c.before.before.loop.invariant.laying.cues-len
 
 returns : tie.Need-returns invariant-loop decreases-loop
-returns c = segment-end c.before.loop.invariant c.loop-test.false
+returns c = segment-end c.before.before.loop.invariant c.if1.false
 
 pub put-segment-spec : {M : Type 1} → statement M
 put-segment-spec =
@@ -74,13 +68,8 @@ put-segment-spec =
     loop-holds
     (λ c κs. search rules)
     put-block-requires
-    cast-cues
-    add-cues
-    (λ c. search rules)
-    slice-write-cues
-    add-q
+    put-cue-requires
     add-p
-    sub-left
     loop-less
     loop-again
     same_length
