@@ -1,2 +1,4 @@
 // Units from and to Annex B.
+#![tactic(auto)]
+
 pub mod annexb;

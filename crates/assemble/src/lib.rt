@@ -1,4 +1,6 @@
 // The unit list and the cue list of segments (document 01).
+#![tactic(auto)]
+
 pub mod multi;
 pub mod plan;
 pub mod segments;

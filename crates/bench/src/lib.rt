@@ -1,4 +1,6 @@
 // What bench/ measures and oracle/ compares, exported to C.
+#![tactic(auto)]
+
 mod boards;
 mod scans;
 

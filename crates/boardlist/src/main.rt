@@ -1,4 +1,6 @@
 // Reads a file of picture bytes, segments and settings, and prints its unit list (document 01, 'Unit list and cue list').
+#![tactic(auto)]
+
 mod answer;
 
 use answer::answer;

@@ -1,4 +1,6 @@
 // Reads a file of boardlist's form and prints, for each cue of its list and each container, what each position shows.
+#![tactic(auto)]
+
 mod cues;
 mod text;
 

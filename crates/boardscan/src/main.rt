@@ -1,5 +1,7 @@
 // Reads a file of boardlist's form and prints, for each board, the sizes of its key and its golden and what the slots hold
 // behind both (02 §2).
+#![tactic(auto)]
+
 mod scan;
 mod text;
 

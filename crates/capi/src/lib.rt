@@ -1,4 +1,6 @@
 // What a packaging host calls from C: numbers and byte slices only. Declared in include/magbelo.h.
+#![tactic(auto)]
+
 ghost use Rattle.container.specs.Container.{stream, read};
 ghost use Rattle.assemble.specs.Whole.{outcome, six};
 ghost use Rattle.capi.specs.Door.{four, UnitsRead, five, Called};

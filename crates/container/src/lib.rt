@@ -1,4 +1,6 @@
 // Units from and to a stream, lists of units in lent memory, and the OBUs between two positions (document 01).
+#![tactic(auto)]
+
 mod extents;
 pub mod lists;
 pub mod ranges;

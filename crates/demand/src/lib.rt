@@ -1,1 +1,2 @@
 // Demand 3: what is assembled plays as it should. It has no code.
+#![tactic(auto)]

@@ -1,2 +1,4 @@
 // The sequence header of AV1, emitted.
+#![tactic(auto)]
+
 pub mod seq_header;

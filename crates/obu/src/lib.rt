@@ -1,4 +1,6 @@
 // OBUs of AV1 (5.3): one at a position of lent bytes, a whole unit, and one written.
+#![tactic(auto)]
+
 pub mod reader;
 pub mod unit;
 pub mod writer;

@@ -1,2 +1,4 @@
 // Packets joined and units made canonical.
+#![tactic(auto)]
+
 pub mod packets;

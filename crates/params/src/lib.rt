@@ -1,4 +1,6 @@
 // The sections of a frame header behind its tile information (AV1 5.9.2).
+#![tactic(auto)]
+
 pub mod cdef;
 pub mod deltas;
 pub mod filter;

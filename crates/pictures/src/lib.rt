@@ -1,4 +1,6 @@
 // The parts of assembly: sizes, headers, frames, slots, units rewritten, pictures.
+#![tactic(auto)]
+
 pub mod frames;
 pub mod headers;
 pub mod pictures;

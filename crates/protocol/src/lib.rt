@@ -1,4 +1,6 @@
 // The line protocol: lines, their fields, the memory that requests are lent, and what is printed of it.
+#![tactic(auto)]
+
 pub mod answer;
 pub mod fields;
 pub mod input;

@@ -1,4 +1,6 @@
 // Answers the requests of the line protocol, one a line, from standard input to standard output.
+#![tactic(auto)]
+
 use bitio::numbers::least;
 use protocol::input;
 use protocol::input::{Input, read_line};

@@ -1,4 +1,6 @@
 // The requests: a row for each, and the operation that answers it.
+#![tactic(auto)]
+
 ghost use Rattle.std.specs.Prelude.{◌≡◌};
 ghost use Rattle.protocol.specs.Told.{told};
 ghost use Rattle.replay_requests.specs.Rows.{row_of};

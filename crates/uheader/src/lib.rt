@@ -1,4 +1,6 @@
 // The whole frame header of AV1, scanned under a sequence header and the slots that earlier frames left.
+#![tactic(auto)]
+
 pub mod dpb;
 pub mod scan;
 pub mod shape;

@@ -4,21 +4,21 @@ use Rattle.bitio.proofs.EndsLaws.{get_d_past}
 use Rattle.bitio.proofs.ends.end_of.Statement.{statement}
 use Rattle.bitio.proofs.ends.end_of.Tie as tie
 
-mul-result : tie.Need-overflow-mul-result
+mul-result : tie.Need-offset_bounds-ends-i
 mul-result c = search rules
 
-shared-slice-read-result : tie.Need-shared-slice-read-result
+shared-slice-read-result : tie.Need-bounds-ends-i
 shared-slice-read-result c = search rules
 
-cast-result : tie.Need-overflow-cast-result
-cast-result c = omega (arith, c.shared-slice-known.given c.before.before.args.i)
+cast-result : tie.Need-overflow_cast-result
+cast-result c = omega (arith, c.shared_slice_known-1.given c.args.i)
 
-returns : tie.Need-returns
+returns : tie.Need-returns-then-i-ends
 returns c = search rules
 
-returns-2 : tie.Need-returns-2
-returns-2 c = get_d_past c.before.args.ends.now c.before.args.i c.if1.false
+returns-2 : tie.Need-returns
+returns-2 c = get_d_past c.args.ends.now c.args.i c.if-i-ends.false
 
-pub end-of-spec : {M : Type 1} → statement M
-end-of-spec =
+pub end_of_spec : {M : Type 1} → statement M
+end_of_spec =
     tie.close (tie.spec mul-result shared-slice-read-result cast-result returns returns-2)

@@ -4,17 +4,17 @@ use Rattle.bitio.proofs.EndsLaws.{get_d-before}
 use Rattle.bitio.proofs.ends.start_of.Statement.{statement}
 use Rattle.bitio.proofs.ends.start_of.Tie as tie
 
-returns : tie.Need-returns
-returns c = simp c.if1.true
+returns : tie.Need-returns-then-i-eq0
+returns c = simp c.if-i-eq0.true
 
-sub-end-of : tie.Need-overflow-sub-end-of
+sub-end-of : tie.Need-overflow_sub-i
 sub-end-of c = search rules
 
-end-of-requires : tie.Need-end-of-requires
+end-of-requires : tie.Need-end_of-requires
 end-of-requires c κs = search rules
 
-returns-2 : tie.Need-returns-2
-returns-2 c = let a = c.before.before.before.args in c.end_of.ensures ∙ get_d-before a.ends.now a.i c.before.if1.false
+returns-2 : tie.Need-returns
+returns-2 c = let a = c.args in c.end_of.ensures ∙ get_d-before a.ends.now a.i c.if-i-eq0.false
 
-pub start-of-spec : {M : Type 1} → statement M
-start-of-spec = tie.close (tie.spec returns sub-end-of end-of-requires returns-2)
+pub start_of_spec : {M : Type 1} → statement M
+start_of_spec = tie.close (tie.spec returns sub-end-of end-of-requires returns-2)

@@ -3,5 +3,5 @@ use Rattle.bitio.proofs.BitLaws.{shl_one}
 use Rattle.syntax.proofs.choice.power.Statement.{statement}
 use Rattle.syntax.proofs.choice.power.Tie as tie
 
-pub power-spec : {M : Type 1} → statement M
-power-spec = tie.close (tie.spec (λ c. omega arith) (λ c. shl_one _ (omega arith)))
+pub power_spec : {M : Type 1} → statement M
+power_spec = tie.close (tie.spec (λ c. omega arith) (λ c. shl_one _ (omega arith)))

@@ -4,8 +4,8 @@ use native.Mathlib.Omega.{arith}
 use Rattle.syntax.proofs.near.near.Statement.{statement}
 use Rattle.syntax.proofs.near.near.Tie as tie
 
-pub near-spec : {M : Type 1} → statement M
-near-spec =
+pub near_spec : {M : Type 1} → statement M
+near_spec =
     tie.close
     (tie.spec
     (λ c. (rw (lt-ltb _ _ c.if1.true), omega arith))

@@ -9,14 +9,14 @@ use Rattle.syntax.proofs.near.ns.Tie as tie
 returns : tie.Need-returns
 unfolding follow ns
 returns c =
-    let p = c.before.before.before.before.before.before.before.requires in
-    let e = c.before.before.before.before.before.log2.ensures in (
-      rw (← e, ← doubled _ p.0 p.1 e, ← c.before.before.before.before.f.ensures.0, ← c.before.before.f-if.ensures.0, ← c.near.ensures.0),
+    let p = c.requires in
+    let e = c.log2-z.ensures in (
+      rw (← e, ← doubled _ p.0 p.1 e, ← c.f-v.ensures.0, ← c.f_if-extra.ensures.0, ← c.near.ensures.0),
       omega (arith, (place _ p.0 p.1 e).above),
     )
 
-pub ns-spec : {M : Type 1} → statement M
-ns-spec =
+pub ns_spec : {M : Type 1} → statement M
+ns_spec =
     tie.close
     (tie.spec
     (λ c κs. search rules)

@@ -17,8 +17,8 @@ off v h = ap (λ (z : ℤ). z -ℤ pos 128) (to_z_pos w64 {n = v} (omega arith))
 fits : (v : ℕ) → v < 128 → SFits w64 (to_z w64 v -ℤ pos 128)
 fits v h = record { sfits = rw (off v h, lt-ltb v 128 h) (omega arith) }
 
-pub su-7-spec : {M : Type 1} → statement M
-su-7-spec =
+pub su_7_spec : {M : Type 1} → statement M
+su_7_spec =
     tie.close
     (tie.spec
     (λ c. search rules)

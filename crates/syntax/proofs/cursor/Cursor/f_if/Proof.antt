@@ -26,23 +26,23 @@ live : (s : List ℕ) (c : Cursor) (on : Bool) (n : ℕ) {x : Reading ℕ} → o
 unfolding field_at
 live s c on n e r = rw (e, r)
 
-returns : tie.Need-returns
-returns c = with-lt _ _ _ _ (off _ _ _ _ (not-true _ c.if1.true))
+returns : tie.Need-returns-then-not-live
+returns c = with-lt _ _ _ _ (off _ _ _ _ (c.if-not-live.true))
 
 f-requires : tie.Need-f-requires
 f-requires c κs = search rules
 
-enum-known-v : tie.Need-enum-known-v
+enum-known-v : tie.Need-enum_known-v
 enum-known-v c = search rules
 
-enum_told : tie.Need-enum-told
+enum_told : tie.Need-enum_told-1
 enum_told c = search rules
 
-returns-2 : tie.Need-returns-2
-returns-2 c = with-lt _ _ _ _ (live _ _ _ _ (not-false _ c.before.before.before.if1.false) (sym (ap bits_says c.enum_told.given.1) ∙ c.before.before.f.ensures))
+returns-2 : tie.Need-returns-in_default
+returns-2 c = with-lt _ _ _ _ (live _ _ _ _ (c.if-not-live.false) (sym (ap bits_says c.in_default.is) ∙ c.f.ensures))
 
-returns-3 : tie.Need-returns-3
-returns-3 c = with-lt _ _ _ _ (live _ _ _ _ (not-false _ c.before.before.before.before.if1.false) (sym (ap bits_says c.before.v.given.1) ∙ c.before.before.before.f.ensures))
+returns-3 : tie.Need-returns
+returns-3 c = with-lt _ _ _ _ (live _ _ _ _ (c.if-not-live.false) (sym (ap bits_says c.in-Value.is) ∙ c.f.ensures))
 
-pub f-if-spec : {M : Type 1} → statement M
-f-if-spec = tie.close (tie.spec returns f-requires enum-known-v enum_told returns-2 returns-3)
+pub f_if_spec : {M : Type 1} → statement M
+f_if_spec = tie.close (tie.spec returns f-requires enum-known-v enum_told returns-2 returns-3)

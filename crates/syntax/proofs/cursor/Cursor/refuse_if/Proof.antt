@@ -3,6 +3,6 @@ use Rattle.syntax.specs.code.Cursor.{refuse_at}
 use Rattle.syntax.proofs.cursor.Cursor.refuse_if.Statement.{statement}
 use Rattle.syntax.proofs.cursor.Cursor.refuse_if.Tie as tie
 
-pub refuse-if-spec : {M : Type 1} → statement M
+pub refuse_if_spec : {M : Type 1} → statement M
 unfolding refuse_at
-refuse-if-spec = tie.close (tie.spec (λ c. rw (lt-ltb _ _ c.before.before.requires, c.if1.true)) (λ c. rw (lt-ltb _ _ c.before.before.requires, c.if1.false)))
+refuse_if_spec = tie.close (tie.spec (λ c. rw (lt-ltb _ _ c.before.before.requires, c.if1.true)) (λ c. rw (lt-ltb _ _ c.before.before.requires, c.if1.false)))

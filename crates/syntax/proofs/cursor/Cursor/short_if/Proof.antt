@@ -4,5 +4,5 @@ use lib.Pow.{pow_mono}
 use Rattle.syntax.proofs.cursor.Cursor.short_if.Statement.{statement}
 use Rattle.syntax.proofs.cursor.Cursor.short_if.Tie as tie
 
-pub short-if-spec : {M : Type 1} → statement M
-short-if-spec = tie.close (tie.spec (λ c κs. search rules) (λ c. (c.f-if.ensures.0, omega (arith, pow_mono c.before.before.requires))))
+pub short_if_spec : {M : Type 1} → statement M
+short_if_spec = tie.close (tie.spec (λ c κs. search rules) (λ c. (c.f-if.ensures.0, omega (arith, pow_mono c.before.before.requires))))

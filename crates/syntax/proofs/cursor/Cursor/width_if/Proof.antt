@@ -15,8 +15,8 @@ wide-same : (s : List ℕ) (c : Cursor) (on : Bool) (n m : ℕ) → 64 < n → 6
 unfolding field_at
 wide-same s c on n m h k = rw (read_wide s c.pos n h, read_wide s c.pos m k)
 
-pub width-if-spec : {M : Type 1} → statement M
-width-if-spec =
+pub width_if_spec : {M : Type 1} → statement M
+width_if_spec =
     tie.close
     (tie.spec
     (λ c. search rules)
