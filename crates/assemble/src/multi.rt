@@ -21,7 +21,7 @@ use pictures::settings::Settings;
 use pictures::sizes::total_frames;
 
 // How much was written to each lent slice, and the first golden slot.
-#[derive(Drop)]
+#[derive(Clone, Copy)]
 pub struct Counts {
     pub units: usize,
     pub cues: usize,
@@ -32,7 +32,7 @@ pub struct Counts {
     pub golden_slot: u64,
 }
 
-#[derive(Drop)]
+#[derive(Clone, Copy)]
 pub enum Assembled {
     Made(Counts),
     // document 01's number

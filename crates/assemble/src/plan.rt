@@ -26,7 +26,7 @@ use pictures::pictures::{Measured, measure_pictures};
 use pictures::settings::Settings;
 use pictures::sizes::{Checked, check_ranges, check_sizes};
 
-#[derive(Drop)]
+#[derive(Clone, Copy)]
 pub struct Basis {
     // the sequence header that goes out, but its operating points
     pub header: SequenceHeader,
@@ -39,7 +39,7 @@ pub struct Basis {
     pub end: usize,
 }
 
-#[derive(Drop)]
+#[derive(Clone, Copy)]
 pub enum Planned {
     // with how many picture bytes there are, as far as a usize counts them
     Ready(Basis, usize),
@@ -50,7 +50,7 @@ pub enum Planned {
 }
 
 // The arrays stand beside, as an enum could not hold them; after a refusal they are zero.
-#[derive(Drop)]
+#[derive(Clone, Copy)]
 pub struct Plan {
     pub answer: Planned,
     pub points: [OperatingPoint; 32],

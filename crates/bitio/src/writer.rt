@@ -6,12 +6,12 @@ ghost use Rattle.bitio.specs.Write.{with_bit, put_bits, bits_placed, bits_lent, 
 use crate::reader::bits_within;
 
 // A bit position in lent memory: 0 is the most significant bit of byte 0.
-#[derive(Drop)]
+#[derive(Clone, Copy)]
 pub struct BitWriter {
     pub pos: usize,
 }
 
-#[derive(Drop)]
+#[derive(Clone, Copy)]
 pub enum BitPut {
     // the writer behind what was written
     Next(BitWriter),

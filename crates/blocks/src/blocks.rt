@@ -10,14 +10,14 @@ use crate::numbers::{frames_of, segment_count};
 use bitio::numbers::least;
 
 // Where a segment stands: its frames left, and whether it has had a golden.
-#[derive(Drop)]
+#[derive(Clone, Copy)]
 struct Standing {
     left: usize,
     after: bool,
 }
 
 // A block: how many units it has, whether its first is a key, and where the segment stands behind it.
-#[derive(Drop)]
+#[derive(Clone, Copy)]
 struct Block {
     size: usize,
     key: bool,

@@ -9,7 +9,7 @@ use obu::reader::payload;
 pub const WIDTH: usize = 5;
 
 // Where its key starts and ends in the picture bytes, where its golden does, and its frames.
-#[derive(Drop)]
+#[derive(Clone, Copy)]
 pub struct Segment {
     pub key_start: u64,
     pub key_end: u64,

@@ -12,7 +12,7 @@ use uheader::dpb::empty_slots;
 use uheader::scan::{ScanAnswer, scan_uncompressed_header};
 
 // The frames of a unit so far.
-#[derive(Drop)]
+#[derive(Clone, Copy)]
 pub enum Frames {
     Nothing,
     // the size of the first
@@ -22,13 +22,13 @@ pub enum Frames {
 }
 
 // And the slots behind them: beside it, because the checker does not cover an enum that holds an array.
-#[derive(Drop)]
+#[derive(Clone, Copy)]
 pub struct Seen {
     pub frames: Frames,
     pub slots: [RefSlot; 8],
 }
 
-#[derive(Drop)]
+#[derive(Clone, Copy)]
 pub enum UnitAnswer {
     Sized(Size),
     // document 01's number
@@ -36,14 +36,14 @@ pub enum UnitAnswer {
 }
 
 // The size of a unit's first frame, and the slots behind the unit: after a refusal, as they were.
-#[derive(Drop)]
+#[derive(Clone, Copy)]
 pub struct UnitScan {
     pub answer: UnitAnswer,
     pub slots: [RefSlot; 8],
 }
 
 // The key, the golden, and the slots behind both.
-#[derive(Drop)]
+#[derive(Clone, Copy)]
 pub struct SegmentScan {
     pub key: UnitAnswer,
     pub golden: UnitAnswer,

@@ -6,7 +6,7 @@ use obu::reader::{ObuAt, obu_at};
 use obu::unit::{Kind, is_type};
 
 // A unit is written as the OBUs from `lead` to `behind`, then those from `start` to `end` that are no delimiters.
-#[derive(Drop)]
+#[derive(Clone, Copy)]
 pub(crate) struct Extent {
     pub(crate) lead: usize,
     pub(crate) behind: usize,
@@ -14,7 +14,7 @@ pub(crate) struct Extent {
     pub(crate) end: usize,
 }
 
-#[derive(Drop)]
+#[derive(Clone, Copy)]
 struct Ahead {
     lead: usize,
     behind: usize,

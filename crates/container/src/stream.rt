@@ -17,7 +17,7 @@ use crate::units::{ByteCount, Split};
 use bitio::limits::LIMIT;
 use obu::writer::put_bytes;
 
-#[derive(Drop)]
+#[derive(Clone, Copy)]
 struct Size {
     bytes: usize,
     units: usize,

@@ -9,7 +9,7 @@ use crate::ranges::kept_len;
 use obu::reader::{ObuAt, obu_at, refusal};
 use obu::unit::{Kind, is_type};
 
-#[derive(Drop)]
+#[derive(Clone, Copy)]
 pub(crate) enum Seen {
     // how many frames there are, and how many bytes all OBUs have, written
     Stream(usize, usize),

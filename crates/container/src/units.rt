@@ -1,5 +1,5 @@
 // Answers on units in lent memory: their bytes one behind the other, and the u32 end of each.
-#[derive(Drop)]
+#[derive(Clone, Copy)]
 pub enum Split {
     // how many bytes the units have, and how many units there are
     Units(usize, usize),
@@ -7,7 +7,7 @@ pub enum Split {
     Refused(u32),
 }
 
-#[derive(Drop)]
+#[derive(Clone, Copy)]
 pub enum ByteCount {
     // how many bytes were written, or would be
     Bytes(usize),

@@ -11,7 +11,7 @@ pub const SWITCH_FRAME: u64 = 3;
 pub const PRIMARY_REF_NONE: u64 = 7;
 
 // The first fields of a frame that is not shown again.
-#[derive(Drop)]
+#[derive(Clone, Copy)]
 pub struct FrameStart {
     pub frame_type: u64,
     pub show_frame: bool,
@@ -20,7 +20,7 @@ pub struct FrameStart {
 }
 
 // What stands between error_resilient_mode and the removal times.
-#[derive(Drop)]
+#[derive(Clone, Copy)]
 pub struct FrameModes {
     pub disable_cdf_update: bool,
     pub allow_screen_content_tools: bool,
@@ -31,14 +31,14 @@ pub struct FrameModes {
 }
 
 // All that stands before the removal times.
-#[derive(Drop)]
+#[derive(Clone, Copy)]
 pub struct FrameFront {
     pub start: FrameStart,
     pub modes: FrameModes,
 }
 
 // What a frame's own header says of it.
-#[derive(Drop)]
+#[derive(Clone, Copy)]
 pub struct FrameInfo {
     pub frame_type: u64,
     pub show_frame: bool,
@@ -47,14 +47,14 @@ pub struct FrameInfo {
     pub order_hint: u64,
 }
 
-#[derive(Drop)]
+#[derive(Clone, Copy)]
 pub enum FrameHeaderInfo {
     // show_existing_frame: the slot shown
     Existing(u64),
     Frame(FrameInfo),
 }
 
-#[derive(Drop)]
+#[derive(Clone, Copy)]
 pub enum FrameAnswer {
     Header(FrameHeaderInfo),
     // document 01's number

@@ -7,7 +7,7 @@ ghost use Rattle.geometry.specs.Refs as spec;
 use syntax::choice;
 use syntax::cursor::Cursor;
 
-#[derive(Drop)]
+#[derive(Clone, Copy)]
 pub struct RefsAt {
     pub ref_frame_idx: [u64; 7],
     pub at: Cursor,

@@ -12,13 +12,13 @@ use syntax::choice::either;
 use syntax::cursor::Cursor;
 
 // What the sequence header says of sizes.
-#[derive(Drop)]
+#[derive(Clone, Copy)]
 pub struct SizeRules {
     pub largest: FrameSize,
     pub enable_superres: bool,
 }
 
-#[derive(Drop)]
+#[derive(Clone, Copy)]
 pub struct Size {
     pub upscaled_width: u64,
     pub frame_width: u64,
@@ -27,20 +27,20 @@ pub struct Size {
     pub render_height: u64,
 }
 
-#[derive(Drop)]
+#[derive(Clone, Copy)]
 pub struct SizeAt {
     pub size: Size,
     pub at: Cursor,
 }
 
 // Whether a reference was found that has the frame's size, and in which slot.
-#[derive(Drop)]
+#[derive(Clone, Copy)]
 pub struct Sought {
     pub found: bool,
     pub which: u64,
 }
 
-#[derive(Drop)]
+#[derive(Clone, Copy)]
 struct SoughtAt {
     pub sought: Sought,
     pub at: Cursor,

@@ -3,7 +3,7 @@ ghost use Rattle.std.specs.Prelude.{◌≡◌, get_or};
 ghost use Rattle.geometry.specs.Slots as spec;
 
 // 32 bits, so that any value of the type can be scaled.
-#[derive(Drop)]
+#[derive(Clone, Copy)]
 pub struct RefSlot {
     pub order_hint: u64,
     pub upscaled_width: u32,

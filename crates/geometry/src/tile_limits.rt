@@ -16,7 +16,7 @@ const MAX_TILE_COLS: u64 = 64;
 const MAX_TILE_ROWS: u64 = 64;
 
 // In superblocks, and logarithms of numbers of tiles.
-#[derive(Drop)]
+#[derive(Clone, Copy)]
 pub struct TileLimits {
     pub sb_cols: u64,
     pub sb_rows: u64,

@@ -13,26 +13,26 @@ use syntax::cursor::{Cursor, Got};
 use syntax::near;
 
 // Columns or rows whose sizes were read: where the next starts, the widest, and how many.
-#[derive(Drop)]
+#[derive(Clone, Copy)]
 pub struct Tiles {
     pub start_sb: u64,
     pub widest_sb: u64,
     pub count: u64,
 }
 
-#[derive(Drop)]
+#[derive(Clone, Copy)]
 struct TilesAt {
     pub tiles: Tiles,
     pub at: Cursor,
 }
 
-#[derive(Drop)]
+#[derive(Clone, Copy)]
 pub struct TileLogs {
     pub cols_log2: u64,
     pub rows_log2: u64,
 }
 
-#[derive(Drop)]
+#[derive(Clone, Copy)]
 struct TileLogsAt {
     pub logs: TileLogs,
     pub at: Cursor,

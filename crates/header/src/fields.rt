@@ -6,7 +6,7 @@ ghost use Rattle.header.specs.Fields.{read_flag, read_or, flag_or, uvlc_or, flag
 
 use bitio::reader::{BitReader, Bits, Uvlc};
 
-#[derive(Drop)]
+#[derive(Clone, Copy)]
 pub enum Flag {
     // the flag, and the reader behind its bit
     Value(bool, BitReader),

@@ -9,7 +9,7 @@ pub mod read_tools;
 pub mod timing;
 
 // timing_info (AV1 5.5.3), and whether it is there.
-#[derive(Drop)]
+#[derive(Clone, Copy)]
 pub struct TimingInfo {
     pub timing_info_present: bool,
     pub num_units_in_display_tick: u64,
@@ -19,7 +19,7 @@ pub struct TimingInfo {
 }
 
 // decoder_model_info (AV1 5.5.4), and whether it is there.
-#[derive(Drop)]
+#[derive(Clone, Copy)]
 pub struct DecoderModelInfo {
     pub decoder_model_info_present: bool,
     pub buffer_delay_length_minus_1: u64,
@@ -29,7 +29,7 @@ pub struct DecoderModelInfo {
 }
 
 // The fields before the operating points (AV1 5.5.1).
-#[derive(Drop)]
+#[derive(Clone, Copy)]
 pub struct Opening {
     pub seq_profile: u64,
     pub still_picture: bool,
@@ -41,7 +41,7 @@ pub struct Opening {
 }
 
 // One operating point (AV1 5.5.1), with operating_parameters_info (AV1 5.5.5).
-#[derive(Drop)]
+#[derive(Clone, Copy)]
 pub struct OperatingPoint {
     pub idc: u64,
     pub seq_level_idx: u64,
@@ -55,7 +55,7 @@ pub struct OperatingPoint {
 }
 
 // The largest frame, each size less 1 in as many bits as said.
-#[derive(Drop)]
+#[derive(Clone, Copy)]
 pub struct FrameSize {
     pub frame_width_bits_minus_1: u64,
     pub frame_height_bits_minus_1: u64,
@@ -64,7 +64,7 @@ pub struct FrameSize {
 }
 
 // The widths of frame ids.
-#[derive(Drop)]
+#[derive(Clone, Copy)]
 pub struct FrameIds {
     pub frame_id_numbers_present: bool,
     pub delta_frame_id_length_minus_2: u64,
@@ -72,7 +72,7 @@ pub struct FrameIds {
 }
 
 // Coding tools, up to those of the order hint.
-#[derive(Drop)]
+#[derive(Clone, Copy)]
 pub struct Tools {
     pub use_128x128_superblock: bool,
     pub enable_filter_intra: bool,
@@ -87,7 +87,7 @@ pub struct Tools {
 }
 
 // Screen content tools and integer motion vectors: 0 off, 1 on, 2 chosen in each frame; and the order hint's width.
-#[derive(Drop)]
+#[derive(Clone, Copy)]
 pub struct ScreenTools {
     pub seq_choose_screen_content_tools: bool,
     pub seq_force_screen_content_tools: u64,
@@ -96,7 +96,7 @@ pub struct ScreenTools {
     pub order_hint_bits_minus_1: u64,
 }
 
-#[derive(Drop)]
+#[derive(Clone, Copy)]
 pub struct Filters {
     pub enable_superres: bool,
     pub enable_cdef: bool,
@@ -104,7 +104,7 @@ pub struct Filters {
 }
 
 // color_config (AV1 5.5.2), up to the matrix coefficients.
-#[derive(Drop)]
+#[derive(Clone, Copy)]
 pub struct ColorDescription {
     pub high_bitdepth: bool,
     pub twelve_bit: bool,
@@ -116,7 +116,7 @@ pub struct ColorDescription {
 }
 
 // color_config (AV1 5.5.2), from color_range on. sRGB implies a full color_range.
-#[derive(Drop)]
+#[derive(Clone, Copy)]
 pub struct ColorSampling {
     pub color_range: bool,
     pub subsample_x: bool,
@@ -126,7 +126,7 @@ pub struct ColorSampling {
 }
 
 // The fields behind the operating points (AV1 5.5.1).
-#[derive(Drop)]
+#[derive(Clone, Copy)]
 pub struct Coding {
     pub size: FrameSize,
     pub ids: FrameIds,
@@ -139,13 +139,13 @@ pub struct Coding {
 }
 
 // Every field but the operating points, whose array an enum could not hold: it stands beside.
-#[derive(Drop)]
+#[derive(Clone, Copy)]
 pub struct SequenceHeader {
     pub opening: Opening,
     pub coding: Coding,
 }
 
-#[derive(Drop)]
+#[derive(Clone, Copy)]
 pub enum SequenceAnswer {
     Header(SequenceHeader),
     // document 01's number
@@ -153,20 +153,20 @@ pub enum SequenceAnswer {
 }
 
 // A header that was read, and its operating points: those behind the last, and all after a refusal, are zero.
-#[derive(Drop)]
+#[derive(Clone, Copy)]
 pub struct SequenceRead {
     pub answer: SequenceAnswer,
     pub operating_points: [OperatingPoint; 32],
 }
 
-#[derive(Drop)]
+#[derive(Clone, Copy)]
 pub enum Support {
     Supported,
     // document 01's number
     Refused(u32),
 }
 
-#[derive(Drop)]
+#[derive(Clone, Copy)]
 pub enum Emitted {
     // the place behind what was written
     Next(usize),

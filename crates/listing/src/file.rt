@@ -8,7 +8,7 @@ ghost use Rattle.listing.specs.Says.{layout_says, file_says};
 use blocks::numbers::{Segment, WIDTH, put_record};
 
 // What a file holds. The picture bytes lie from start to end.
-#[derive(Drop)]
+#[derive(Clone, Copy)]
 pub struct Layout {
     pub start: usize,
     pub end: usize,
@@ -18,7 +18,7 @@ pub struct Layout {
     pub fps_den: u32,
 }
 
-#[derive(Drop)]
+#[derive(Clone, Copy)]
 pub enum FileAnswer {
     Read(Layout),
     // short, long or unfit
@@ -27,7 +27,7 @@ pub enum FileAnswer {
     Full,
 }
 
-#[derive(Drop)]
+#[derive(Clone, Copy)]
 enum Found {
     Whole(Layout),
     Unfit,

@@ -5,14 +5,14 @@ ghost use Rattle.obu.specs.Place.{extension_says, place_of, obu_place, obu_says,
 
 use bitio::leb128::Leb;
 
-#[derive(Drop)]
+#[derive(Clone, Copy)]
 pub enum Extension {
     Absent,
     // temporal_id in three bits, spatial_id in two, three reserved
     Byte(u8),
 }
 
-#[derive(Drop)]
+#[derive(Clone, Copy)]
 pub struct Obu {
     pub obu_type: u8,
     pub extension: Extension,
@@ -22,7 +22,7 @@ pub struct Obu {
     pub end: usize,
 }
 
-#[derive(Drop)]
+#[derive(Clone, Copy)]
 pub enum ObuAt {
     Found(Obu),
     // no bytes are left

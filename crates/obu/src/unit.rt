@@ -6,7 +6,7 @@ ghost use Rattle.obu.specs.Unit.{is_type, is_kind, count, first_payload, last_pa
 
 use crate::reader::{ObuAt, obu_at, payload, refusal};
 
-#[derive(Drop)]
+#[derive(Clone, Copy)]
 pub enum Kind {
     Any,
     SequenceHeader,
@@ -15,7 +15,7 @@ pub enum Kind {
     Frame,
 }
 
-#[derive(Drop)]
+#[derive(Clone, Copy)]
 pub enum Counted {
     Count(usize),
     // document 01's number, 1 to 5

@@ -10,7 +10,7 @@ ghost use Rattle.obu.specs.Write.{obu_length, obu, obu_placed, obu_lent, obu_put
 use crate::reader::{Extension, is_known_type};
 use bitio::numbers::plus;
 
-#[derive(Drop)]
+#[derive(Clone, Copy)]
 pub enum ObuPut {
     // the place behind what was written
     Next(usize),
@@ -50,7 +50,7 @@ pub fn put_bytes(out: &mut [u8], at: usize, src: &[u8]) -> usize
     ensures { (result ≡ at + length src.now) × (out.new ≡ pasted out.old at src.now) }
 {
     let end = at + src.len();
-    bytes::copy(src, &mut out[at..end]);
+    out[at..end].copy_from_slice(src);
     end
 }
 

@@ -20,7 +20,7 @@ mod merge;
 mod pieces;
 mod runs;
 
-#[derive(Drop)]
+#[derive(Clone, Copy)]
 pub enum Merged {
     // how many bytes the packets have, and how many packets there are
     Packets(usize, usize),

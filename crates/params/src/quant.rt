@@ -7,7 +7,7 @@ use syntax::choice::either;
 use syntax::cursor::{Cursor, Got};
 
 // Each delta as its seven bits stand.
-#[derive(Drop)]
+#[derive(Clone, Copy)]
 pub struct Quantizer {
     pub base_q_idx: u64,
     pub delta_q_y_dc: u64,
@@ -17,7 +17,7 @@ pub struct Quantizer {
     pub delta_q_v_ac: u64,
 }
 
-#[derive(Drop)]
+#[derive(Clone, Copy)]
 pub struct QuantizerAt {
     pub q: Quantizer,
     pub at: Cursor,

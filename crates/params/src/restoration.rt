@@ -6,7 +6,7 @@ ghost use Rattle.params.specs.Restoration as spec;
 use syntax::cursor::{Cursor, Got};
 
 // What lr_params goes by.
-#[derive(Drop)]
+#[derive(Clone, Copy)]
 pub struct Restoration {
     // neither all lossless nor intra block copy, and enable_restoration
     pub on: bool,

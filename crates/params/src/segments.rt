@@ -7,7 +7,7 @@ use syntax::choice;
 use syntax::cursor::{Cursor, Got};
 
 // SEG_LVL_ALT_Q of each segment, as its nine bits stand; 0 where it is not enabled.
-#[derive(Drop)]
+#[derive(Clone, Copy)]
 pub struct SegmentsAt {
     pub alt_q: [u64; 8],
     pub at: Cursor,

@@ -7,7 +7,7 @@ ghost use Rattle.params.specs.code.Side.{lies};
 use syntax::choice;
 use syntax::cursor::{Cursor, Got};
 
-#[derive(Drop)]
+#[derive(Clone, Copy)]
 pub struct OrderHints {
     // of which three bits count
     pub order_hint_bits_minus_1: u64,
@@ -17,7 +17,7 @@ pub struct OrderHints {
 }
 
 // The nearest reference before the frame, of those that were seen.
-#[derive(Drop)]
+#[derive(Clone, Copy)]
 struct Nearest {
     found: bool,
     hint: u64,

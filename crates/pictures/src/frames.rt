@@ -13,7 +13,7 @@ use frame::unit_frame::unit_frame;
 use header::seq_header::{OperatingPoint, SequenceHeader};
 use obu::unit::{Counted, Kind, count_obus};
 
-#[derive(Drop)]
+#[derive(Clone, Copy)]
 pub enum GoldenSlot {
     Lowest(u64),
     // document 01's number

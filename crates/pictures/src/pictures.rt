@@ -15,7 +15,7 @@ use bitio::numbers::plus;
 use blocks::numbers::{golden_of, key_of, segment_count};
 use header::seq_header::{OperatingPoint, SequenceHeader};
 
-#[derive(Drop)]
+#[derive(Clone, Copy)]
 pub enum Measured {
     Bytes(usize),
     // document 01's number, and the segment from 0

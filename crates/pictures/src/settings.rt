@@ -1,5 +1,5 @@
 // Document 01's gop_size, fps and fps_den.
-#[derive(Drop)]
+#[derive(Clone, Copy)]
 pub struct Settings {
     pub gop: u64,
     pub fps: u32,

@@ -8,7 +8,7 @@ ghost use Rattle.pictures.specs.Sizes.{checked_says, sized_all, filled_first, ra
 use bitio::numbers::plus;
 use blocks::numbers::{frames_of, is_whole, is_within, segment_count};
 
-#[derive(Drop)]
+#[derive(Clone, Copy)]
 pub enum Checked {
     Fit,
     // document 01's number

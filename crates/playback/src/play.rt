@@ -15,7 +15,7 @@ use player::slots::Answer;
 use player::start::start_state;
 use player::step::{Played, State, step};
 
-#[derive(Drop)]
+#[derive(Clone, Copy)]
 pub enum Shows {
     // how many positions have their number
     Positions(usize),

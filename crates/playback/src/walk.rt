@@ -11,7 +11,7 @@ use crate::way::{Form, play_list};
 use assemble::multi::{Assembled, assemble_multi};
 use pictures::settings::Settings;
 
-#[derive(Drop)]
+#[derive(Clone, Copy)]
 pub enum Walked {
     // how many positions have their number
     Positions(usize),

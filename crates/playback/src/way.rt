@@ -12,7 +12,7 @@ use annexb::annexb::{split_annexb, write_annexb};
 use container::stream::{split_obu_stream, write_obu_stream};
 use container::units::{ByteCount, Split};
 
-#[derive(Drop)]
+#[derive(Clone, Copy)]
 pub enum Form {
     Stream,
     AnnexB,

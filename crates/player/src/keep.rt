@@ -9,20 +9,20 @@ use obu::reader::{ObuAt, obu_at, payload, refusal};
 use obu::unit::{Kind, is_type};
 
 // The last header, if there has been one.
-#[derive(Drop)]
+#[derive(Clone, Copy)]
 pub enum Last {
     Nothing,
     Header(SequenceHeader),
 }
 
 // And its operating points: beside it, because the checker does not cover an enum that holds an array.
-#[derive(Drop)]
+#[derive(Clone, Copy)]
 pub struct Kept {
     pub last: Last,
     pub points: [OperatingPoint; 32],
 }
 
-#[derive(Drop)]
+#[derive(Clone, Copy)]
 pub enum Headers {
     Read,
     // document 01's number
@@ -30,7 +30,7 @@ pub enum Headers {
 }
 
 // Whether a unit's headers so far were read, and what is kept: with a refusal, what was kept before the unit.
-#[derive(Drop)]
+#[derive(Clone, Copy)]
 pub struct Keeping {
     pub answer: Headers,
     pub kept: Kept,

@@ -7,7 +7,7 @@ ghost use Rattle.player.specs.Values.{acted_on};
 use frame::frame_header::{FrameHeaderInfo, KEY_FRAME};
 
 // Empty, or holding the unit at a position; of an empty slot nothing else is looked at.
-#[derive(Drop)]
+#[derive(Clone, Copy)]
 pub struct Slot {
     pub is_filled: bool,
     pub position: u64,
@@ -15,7 +15,7 @@ pub struct Slot {
     pub key: bool,
 }
 
-#[derive(Drop)]
+#[derive(Clone, Copy)]
 pub enum Answer {
     // the position shown
     Shown(u64),
@@ -25,7 +25,7 @@ pub enum Answer {
 }
 
 // An answer, and the slots afterwards.
-#[derive(Drop)]
+#[derive(Clone, Copy)]
 pub struct Acted {
     pub answer: Answer,
     pub slots: [Slot; 8],

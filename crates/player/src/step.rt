@@ -9,14 +9,14 @@ use bitio::limits::LIMIT;
 use frame::frame_header::FrameAnswer;
 use frame::unit_frame::unit_frame;
 
-#[derive(Drop)]
+#[derive(Clone, Copy)]
 pub struct State {
     pub slots: [Slot; 8],
     pub kept: Kept,
 }
 
 // An answer, and the state afterwards.
-#[derive(Drop)]
+#[derive(Clone, Copy)]
 pub struct Played {
     pub answer: Answer,
     pub state: State,

@@ -2,7 +2,7 @@
 ghost use Rattle.std.specs.Prelude.{◌≡◌, [], ◌∷◌};
 ghost use Rattle.protocol.specs.Answers.{parts_of, refused_with, numbered, with_numbers, parted, with_parts};
 
-#[derive(Drop)]
+#[derive(Clone, Copy)]
 pub struct Answer {
     // document 01's number, 0 for no refusal
     pub refusal: u32,
@@ -89,7 +89,7 @@ impl Answer {
             return self;
         }
         let end = at + src.len();
-        bytes::copy(src, &mut memory[at..end]);
+        memory[at..end].copy_from_slice(src);
         ends[i] = (end % 0x1_0000_0000) as u32;
         let mut answer = self;
         answer.bytes = end;

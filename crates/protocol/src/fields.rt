@@ -9,7 +9,7 @@ use crate::kinds::{BYTES, Format, NO_BYTE, NUMBER, NUMBER_32, OPTIONAL_BYTE, sep
 use crate::text::{Decimal, Decoded, decode, read_decimal, word_end};
 
 // How far the fields of a line have been read.
-#[derive(Drop)]
+#[derive(Clone, Copy)]
 pub struct Fields {
     // where the next one starts: one past the line's end where none is left, far behind it once one was bad
     pub next: usize,
@@ -162,7 +162,7 @@ pub fn read_fields(
     fields
 }
 
-#[derive(Drop)]
+#[derive(Clone, Copy)]
 pub(crate) struct NumberField {
     pub value: u64,
     pub next: usize,

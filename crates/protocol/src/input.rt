@@ -5,7 +5,7 @@ ghost use Rattle.protocol.specs.Lines.{start_input, is_line, Kept};
 use crate::output::Buffer;
 
 // How far the input has been read.
-#[derive(Drop)]
+#[derive(Clone, Copy)]
 pub struct Input {
     // what is left of the piece at hand
     from: usize,

@@ -52,7 +52,7 @@ pub(crate) fn separator(kinds: u64) -> u8
 }
 
 // Kinds that follow each other, and those that may follow them any number of times.
-#[derive(Drop)]
+#[derive(Clone, Copy)]
 pub struct Format {
     pub kinds: u64,
     pub repeated: u64,

@@ -20,7 +20,7 @@ const NUMBER_MARK: u64 = 0xa5a5_a5a5_a5a5_a5a5;
 const ROOM: u64 = 0x726f_6f6d;
 
 // How much a line's prefix `room B E T ` lends, and where the request starts.
-#[derive(Drop)]
+#[derive(Clone, Copy)]
 pub struct Room {
     pub is_given: bool,
     pub bytes: u64,
@@ -57,7 +57,7 @@ pub fn room_prefix(line: &[u8]) -> Room
 }
 
 // What a request is lent, exactly.
-#[derive(Drop)]
+#[derive(Clone, Copy)]
 pub struct Lent {
     // where it fills the program's memory itself, and lends what these numbers say to the call it makes
     pub is_own: bool,

@@ -16,7 +16,7 @@ use bitio::ends::end_of;
 use bitio::numbers::plus;
 
 // How far an answer has been printed.
-#[derive(Drop)]
+#[derive(Clone, Copy)]
 struct Printed {
     // the kind of the item that comes, and those that follow
     kind: u64,

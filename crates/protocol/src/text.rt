@@ -4,7 +4,7 @@ ghost use Rattle.bitio.specs.Lent.{pasted};
 ghost use Rattle.protocol.specs.Text.{hex_digit, hex_value, all_hex, hex_text, hex_bytes, byte_string, read_number, word, word_key};
 ghost use Rattle.protocol.specs.Says.{decoded_says, decoded_to, decoded_in, decimal_says};
 
-#[derive(Drop)]
+#[derive(Clone, Copy)]
 pub(crate) enum Decimal {
     Value(u64),
     // no number, or one past the largest u64
@@ -12,7 +12,7 @@ pub(crate) enum Decimal {
 }
 
 // What putting the bytes of a text into memory answers.
-#[derive(Drop)]
+#[derive(Clone, Copy)]
 pub(crate) enum Decoded {
     // the place behind the bytes
     End(usize),

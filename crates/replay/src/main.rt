@@ -92,7 +92,7 @@ fn answer_request(
 }
 
 // How far the program has come.
-#[derive(Drop)]
+#[derive(Clone, Copy)]
 struct Progress {
     input: Input,
     // how much output waits

@@ -24,7 +24,7 @@ fn put_shown(shown: Shown, so_far: Answer, numbers: &mut [u64]) -> Answer
 }
 
 // How far the units have been played.
-#[derive(Drop)]
+#[derive(Clone, Copy)]
 struct Turn {
     state: State,
     answer: Answer,

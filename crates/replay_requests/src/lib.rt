@@ -68,7 +68,7 @@ const NO_REQUEST: u32 = u32::MAX;
 
 // The kinds of a request's fields, those that may follow them any number of times, the same two of its answer (see
 // protocol::kinds), and what it is lent (see Room::lent).
-#[derive(Drop)]
+#[derive(Clone, Copy)]
 struct Row(u64, u64, u64, u64, u64);
 
 // A name that is none asks for a field of no kind.
@@ -100,7 +100,7 @@ fn row_of(key: u64) -> Row
 }
 
 // A line, read.
-#[derive(Drop)]
+#[derive(Clone, Copy)]
 pub struct Request {
     // there is a line to answer
     pub is_line: bool,

@@ -13,7 +13,7 @@ use uheader::dpb::empty_slots;
 use uheader::scan::scan_uncompressed_header;
 
 // How far the frames have been scanned.
-#[derive(Drop)]
+#[derive(Clone, Copy)]
 struct Turn {
     slots: [RefSlot; 8],
     answer: Answer,

@@ -4,14 +4,14 @@ ghost use Rattle.syntax.specs.code.Cursor.{field_at, refuse_at};
 
 use bitio::reader::{BitReader, Bits};
 
-#[derive(Drop)]
+#[derive(Clone, Copy)]
 pub struct Cursor {
     pub pos: usize,
     // document 01's number, 0 for none
     pub refusal: u32,
 }
 
-#[derive(Drop)]
+#[derive(Clone, Copy)]
 pub struct Got {
     pub v: u64,
     pub at: Cursor,

@@ -24,7 +24,7 @@ use syntax::cursor::Cursor;
 use syntax::signed::su_7;
 
 // The quantizer deltas, as signed numbers.
-#[derive(Drop)]
+#[derive(Clone, Copy)]
 pub struct Deltas {
     pub y_dc: i64,
     pub u_dc: i64,
@@ -33,7 +33,7 @@ pub struct Deltas {
     pub v_ac: i64,
 }
 
-#[derive(Drop)]
+#[derive(Clone, Copy)]
 pub struct HeaderScan {
     // the bit position behind primary_ref_frame
     pub removal_insert_pos: usize,
@@ -45,7 +45,7 @@ pub struct HeaderScan {
     pub deltas: Deltas,
 }
 
-#[derive(Drop)]
+#[derive(Clone, Copy)]
 pub enum ScanAnswer {
     Scanned(HeaderScan),
     // document 01's number
@@ -53,21 +53,21 @@ pub enum ScanAnswer {
 }
 
 // The answer, and the slots behind the frame: after a refusal, as they were.
-#[derive(Drop)]
+#[derive(Clone, Copy)]
 pub struct ScanStep {
     pub answer: ScanAnswer,
     pub slots: [RefSlot; 8],
 }
 
 // All that follows primary_ref_frame.
-#[derive(Drop)]
+#[derive(Clone, Copy)]
 pub struct Rest {
     pub shape: Shape,
     pub quantizer: Quantizer,
 }
 
 // The fields up to primary_ref_frame.
-#[derive(Drop)]
+#[derive(Clone, Copy)]
 pub(crate) enum Opened {
     // and the bit position behind them
     Front(FrameFront, usize),

@@ -14,7 +14,7 @@ use syntax::cursor::{Cursor, Got};
 use syntax::over::read_over;
 
 // What the later sections and the slots need of the earlier ones.
-#[derive(Drop)]
+#[derive(Clone, Copy)]
 pub struct Shape {
     pub refresh_frame_flags: u64,
     pub ref_frame_idx: [u64; 7],
@@ -23,7 +23,7 @@ pub struct Shape {
     pub allow_high_precision_mv: bool,
 }
 
-#[derive(Drop)]
+#[derive(Clone, Copy)]
 pub struct ShapeAt {
     pub shape: Shape,
     pub at: Cursor,

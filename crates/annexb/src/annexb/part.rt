@@ -11,7 +11,7 @@ ghost use Rattle.annexb.specs.code.Spans.{spot_of, part_says, spot_refusal, plac
 use bitio::leb128::Leb;
 use obu::reader::{Extension, Obu};
 
-#[derive(Drop)]
+#[derive(Clone, Copy)]
 pub enum PartAt {
     // where the bytes start and end
     Part(usize, usize),
@@ -19,7 +19,7 @@ pub enum PartAt {
     Refused(u32),
 }
 
-#[derive(Drop)]
+#[derive(Clone, Copy)]
 pub enum InnerAt {
     Found(Obu),
     // the refusal's number: 10 OBU length, 11 overrun, 12 empty OBU, 1 forbidden bit, 3 no extension byte, 2 type; of

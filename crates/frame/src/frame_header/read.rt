@@ -11,13 +11,13 @@ use header::seq_header;
 use header::seq_header::{OperatingPoint, SequenceAnswer, SequenceHeader};
 use syntax::cursor::Cursor;
 
-#[derive(Drop)]
+#[derive(Clone, Copy)]
 pub(crate) struct InfoAt {
     pub info: FrameInfo,
     pub at: Cursor,
 }
 
-#[derive(Drop)]
+#[derive(Clone, Copy)]
 pub(crate) struct HeaderAt {
     pub info: FrameHeaderInfo,
     pub at: Cursor,

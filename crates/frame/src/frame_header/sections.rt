@@ -18,19 +18,19 @@ use syntax::over::read_over;
 // Each frame says: SELECT_SCREEN_CONTENT_TOOLS and SELECT_INTEGER_MV.
 const SELECT: u64 = 2;
 
-#[derive(Drop)]
+#[derive(Clone, Copy)]
 pub struct StartAt {
     pub start: FrameStart,
     pub at: Cursor,
 }
 
-#[derive(Drop)]
+#[derive(Clone, Copy)]
 pub struct ModesAt {
     pub modes: FrameModes,
     pub at: Cursor,
 }
 
-#[derive(Drop)]
+#[derive(Clone, Copy)]
 pub struct FrontAt {
     pub front: FrameFront,
     pub at: Cursor,

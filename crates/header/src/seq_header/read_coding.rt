@@ -14,14 +14,14 @@ use crate::seq_header::{
 use bitio::reader::BitReader;
 
 // The fields and the reader behind them, or the bits run out.
-#[derive(Drop)]
+#[derive(Clone, Copy)]
 pub(crate) enum CodingAt {
     Done(Coding, BitReader),
     Short,
 }
 
 // The sections up to color_config.
-#[derive(Drop)]
+#[derive(Clone, Copy)]
 pub(crate) struct CodingStart {
     pub size: FrameSize,
     pub ids: FrameIds,

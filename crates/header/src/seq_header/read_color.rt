@@ -10,13 +10,13 @@ use crate::seq_header::{ColorDescription, ColorSampling};
 use bitio::reader::{BitReader, Bits};
 
 // Each answer has the fields and the reader behind them, or the bits run out.
-#[derive(Drop)]
+#[derive(Clone, Copy)]
 pub(crate) enum ColorAt {
     Done(ColorDescription, BitReader),
     Short,
 }
 
-#[derive(Drop)]
+#[derive(Clone, Copy)]
 pub(crate) enum SamplingAt {
     Done(ColorSampling, BitReader),
     Short,

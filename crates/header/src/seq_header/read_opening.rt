@@ -10,7 +10,7 @@ use crate::fields::Flag;
 use crate::seq_header::{DecoderModelInfo, Opening, TimingInfo};
 use bitio::reader::{BitReader, Bits, Uvlc};
 
-#[derive(Drop)]
+#[derive(Clone, Copy)]
 pub(crate) enum TimingAt {
     // the fields, and the reader behind them
     Done(TimingInfo, BitReader),
@@ -18,7 +18,7 @@ pub(crate) enum TimingAt {
     Refused(u32),
 }
 
-#[derive(Drop)]
+#[derive(Clone, Copy)]
 pub(crate) enum ModelAt {
     // the fields, and the reader behind them
     Done(DecoderModelInfo, BitReader),
@@ -26,7 +26,7 @@ pub(crate) enum ModelAt {
     Short,
 }
 
-#[derive(Drop)]
+#[derive(Clone, Copy)]
 pub(crate) enum OpeningAt {
     // the fields, and the reader behind them
     Done(Opening, BitReader),
@@ -35,7 +35,7 @@ pub(crate) enum OpeningAt {
 }
 
 // The first five bits.
-#[derive(Drop)]
+#[derive(Clone, Copy)]
 pub(crate) struct OpeningStart {
     pub seq_profile: u64,
     pub still_picture: bool,

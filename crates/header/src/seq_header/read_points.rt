@@ -8,7 +8,7 @@ use crate::fields::Flag;
 use crate::seq_header::{Opening, OperatingPoint};
 use bitio::reader::{BitReader, Bits};
 
-#[derive(Drop)]
+#[derive(Clone, Copy)]
 pub(crate) enum PointAt {
     // the fields, and the reader behind them
     Done(OperatingPoint, BitReader),
@@ -17,7 +17,7 @@ pub(crate) enum PointAt {
 }
 
 // The fields of an operating point up to its decoder model.
-#[derive(Drop)]
+#[derive(Clone, Copy)]
 pub(crate) struct PointStart {
     pub idc: u64,
     pub seq_level_idx: u64,
@@ -25,7 +25,7 @@ pub(crate) struct PointStart {
     pub decoder_model_present: bool,
 }
 
-#[derive(Drop)]
+#[derive(Clone, Copy)]
 pub(crate) enum PointsAnswer {
     // the reader behind the last operating point
     Done(BitReader),
@@ -34,7 +34,7 @@ pub(crate) enum PointsAnswer {
 }
 
 // Those behind the last, and all after a refusal, are zero.
-#[derive(Drop)]
+#[derive(Clone, Copy)]
 pub(crate) struct Points {
     pub answer: PointsAnswer,
     pub list: [OperatingPoint; 32],

@@ -9,38 +9,38 @@ use crate::seq_header::{Filters, FrameIds, FrameSize, ScreenTools, Tools};
 use bitio::reader::{BitReader, Bits};
 
 // Each answer has the fields and the reader behind them, or the bits run out.
-#[derive(Drop)]
+#[derive(Clone, Copy)]
 pub(crate) enum SizeAt {
     Done(FrameSize, BitReader),
     Short,
 }
 
-#[derive(Drop)]
+#[derive(Clone, Copy)]
 pub(crate) enum IdsAt {
     Done(FrameIds, BitReader),
     Short,
 }
 
-#[derive(Drop)]
+#[derive(Clone, Copy)]
 pub(crate) enum ToolsAt {
     Done(Tools, BitReader),
     Short,
 }
 
-#[derive(Drop)]
+#[derive(Clone, Copy)]
 pub(crate) enum ScreenAt {
     Done(ScreenTools, BitReader),
     Short,
 }
 
-#[derive(Drop)]
+#[derive(Clone, Copy)]
 pub(crate) enum FiltersAt {
     Done(Filters, BitReader),
     Short,
 }
 
 // The first five coding tools.
-#[derive(Drop)]
+#[derive(Clone, Copy)]
 pub(crate) struct ToolsStart {
     pub use_128x128_superblock: bool,
     pub enable_filter_intra: bool,

@@ -10,7 +10,7 @@ use crate::packets::runs::{put_run, run_len};
 use bitio::numbers::plus;
 use container::room::has_room;
 
-#[derive(Drop)]
+#[derive(Clone, Copy)]
 struct Total {
     bytes: usize,
     packets: usize,

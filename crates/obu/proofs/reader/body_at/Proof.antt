@@ -18,52 +18,52 @@ number_at s p v n h e =
     let i = is_number (drop p s) v n e in
     (i.read ∙ ap (leb_then v) (drop-drop n p s), omega (arith, i.within, length-drop p s))
 
-got : (c : tie.After-size)
-    → (let a = c.before.before.before.before.before.before.args in
-    (read_leb (drop a.p a.s.now) ≡ leb_then c.size.given.0.0 (drop (a.p + c.size.given.0.1.0) a.s.now)) × (a.p + c.size.given.0.1.0 ≤ length a.s.now))
+got : (c : tie.In-Value)
+    → (let a = c.args in
+    (read_leb (drop a.p a.s.now) ≡ leb_then c.in-Value.size (drop (a.p + c.in-Value.used) a.s.now)) × (a.p + c.in-Value.used ≤ length a.s.now))
 got c =
-    let b = c.before.before.before.before.before.before in
+    let b = c.before.before.before.before.before in
     let a = b.args in
-    number_at a.s.now a.p _ _ b.requires (rw (slice-to-end a.s.now a.p) at (sym c.before.before.leb128.ensures ∙ c.size.given.1))
+    number_at a.s.now a.p _ _ b.requires (rw (slice-to-end a.s.now a.p) at (sym c.leb128.ensures ∙ c.in-Value.is))
 
-returns : tie.Need-returns
+returns : tie.Need-returns-then-h-ne1
 returns c =
     let b = c.before.before in
     let a = b.args in
-    body-rest a.s.now a.h _ a.p b.requires c.if1.true
+    body-rest a.s.now a.h _ a.p b.requires c.if-h-ne1.true
 
-returns-2 : tie.Need-returns-2
+returns-2 : tie.Need-returns-in_default
 returns-2 c =
+    let b = c.before.before.before.before.before in
+    let a = b.args in
+    body-none a.s.now a.h _ a.p b.requires c.if-h-ne1.false
+    (is-bad (drop a.p a.s.now) (rw (slice-to-end a.s.now a.p) at (sym c.leb128.ensures ∙ c.in_default.is)))
+
+add_start : tie.Need-overflow_add-start
+add_start c = omega (arith, (got c).1)
+
+sub-if2 : tie.Need-overflow_sub-len
+sub-if2 c = omega (arith, (got c).1)
+
+returns-3 : tie.Need-returns-then-size-len
+returns-3 c =
+    let g = got c.before in
     let b = c.before.before.before.before.before.before in
     let a = b.args in
-    body-none a.s.now a.h _ a.p b.requires c.before.before.before.before.if1.false
-    (is-bad (drop a.p a.s.now) (rw (slice-to-end a.s.now a.p) at (sym c.before.before.leb128.ensures ∙ c.enum_told.given.1)))
+    body-over a.s.now a.h _ a.p b.requires c.if-h-ne1.false _ _ g.0 c.if-size-len.true
 
-add_start : tie.Need-overflow-add-start
-add_start c = omega (arith, (got c.before).1)
+add-end : tie.Need-overflow_add-end
+add-end c = omega (arith, (got c.before).1)
 
-sub-if2 : tie.Need-overflow-sub-if2
-sub-if2 c = omega (arith, (got c.before).1)
-
-returns-3 : tie.Need-returns-3
-returns-3 c =
-    let g = got c.before.before in
-    let b = c.before.before.before.before.before.before.before.before in
-    let a = b.args in
-    body-over a.s.now a.h _ a.p b.requires c.before.before.before.before.before.before.if1.false _ _ g.0 c.if2.true
-
-add-end : tie.Need-overflow-add-end
-add-end c = omega (arith, (got c.before.before).1)
-
-returns-4 : tie.Need-returns-4
+returns-4 : tie.Need-returns
 returns-4 c =
-    let g = got c.before.before in
-    let b = c.before.before.before.before.before.before.before.before in
+    let g = got c.before in
+    let b = c.before.before.before.before.before.before in
     let a = b.args in
-    body-got a.s.now a.h _ a.p b.requires c.before.before.before.before.before.before.if1.false _ _ g.0 g.1 c.if2.false
+    body-got a.s.now a.h _ a.p b.requires c.if-h-ne1.false _ _ g.0 g.1 c.if-size-len.false
 
-pub body-at-spec : {M : Type 1} → statement M
-body-at-spec =
+pub body_at_spec : {M : Type 1} → statement M
+body_at_spec =
     tie.close
     (tie.spec
     returns

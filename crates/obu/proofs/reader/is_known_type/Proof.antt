@@ -7,5 +7,5 @@ returns : tie.Need-returns
 unfolding passes
 returns c = refl
 
-pub is-known-type-spec : {M : Type 1} → statement M
-is-known-type-spec = tie.close (tie.spec returns)
+pub is_known_type_spec : {M : Type 1} → statement M
+is_known_type_spec = tie.close (tie.spec returns)

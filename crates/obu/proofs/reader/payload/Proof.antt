@@ -5,20 +5,20 @@ use borrow.Author.Rules.{rules}
 use Rattle.obu.proofs.reader.payload.Statement.{statement}
 use Rattle.obu.proofs.reader.payload.Tie as tie
 
-returns : tie.Need-returns
+returns : tie.Need-returns-then-end-s
 unfolding part span
-returns c = simp (le-leb _ _ c.before.before.if1.true, le-leb _ _ c.before.if2.true)
+returns c = simp (le-leb _ _ c.if-start-end.true, le-leb _ _ c.if-end-s.true)
 
-returns-2 : tie.Need-returns-2
+returns-2 : tie.Need-returns-then-start-end
 unfolding part span
-returns-2 c = simp (le-leb _ _ c.before.before.if1.true, lt-leb _ _ c.before.if2.false)
+returns-2 c = simp (le-leb _ _ c.if-start-end.true, lt-leb _ _ c.if-end-s.false)
 
-returns-3 : tie.Need-returns-3
+returns-3 : tie.Need-returns
 unfolding part span
-returns-3 c = simp (lt-leb _ _ c.before.if1.false)
+returns-3 c = simp (lt-leb _ _ c.if-start-end.false)
 
-pub payload-spec : {M : Type 1} → statement M
-payload-spec =
+pub payload_spec : {M : Type 1} → statement M
+payload_spec =
     tie.close
     (tie.spec
     (λ c. search rules)

@@ -5,14 +5,14 @@ use Rattle.obu.proofs.UnitLaws.{payload-first}
 use Rattle.obu.proofs.unit.first_payload.Statement.{statement}
 use Rattle.obu.proofs.unit.first_payload.Tie as tie
 
-find-obu-requires : tie.Need-find-obu-requires
+find-obu-requires : tie.Need-find_obu-requires
 find-obu-requires c κs = search rules
 
-payload-of-requires : tie.Need-payload-of-requires
+payload-of-requires : tie.Need-payload_of-requires
 payload-of-requires c κs = search rules
 
 returns : tie.Need-returns
-returns c = c.payload-of.ensures ∙ ap payload_found c.before.find-obu.ensures ∙ payload-first (is_kind _) _
+returns c = c.payload_of.ensures ∙ ap payload_found c.find_obu.ensures ∙ payload-first (is_kind _) _
 
-pub first-payload-spec : {M : Type 1} → statement M
-first-payload-spec = tie.close (tie.spec find-obu-requires payload-of-requires returns)
+pub first_payload_spec : {M : Type 1} → statement M
+first_payload_spec = tie.close (tie.spec find-obu-requires payload-of-requires returns)

@@ -11,34 +11,34 @@ use Rattle.obu.proofs.unit.has_stray_delimiter.Statement.{statement}
 use Rattle.obu.proofs.unit.has_stray_delimiter.Tie as tie
 
 -- the OBU that is first
-got : (c : tie.After-o)
-    → (let o = c.o.given.0.0 in
-    IsPlaced c.before.before.before.before.before.before.before.before.args.s.now 0 o.obu_type (extension_says o.extension) o.start o.end)
-got c = is-placed _ _ (sym c.before.before.obu-at.ensures ∙ ap obu_says c.o.given.1)
+got : (c : tie.In-Found)
+    → (let o = c.in-Found.o in
+    IsPlaced c.args.s.now 0 o.obu_type (extension_says o.extension) o.start o.end)
+got c = is-placed _ _ (sym c.obu_at.ensures ∙ ap obu_says c.in-Found.is)
 
-counted : (c : tie.After-n) → answer (count (is_kind TemporalDelimiter)) (obus c.before.before.before.before.args.s.now) ≡ accepted c.n.given.0.0
-counted c = sym c.before.before.count-obus.ensures ∙ ap counted_says c.n.given.1
+counted : (c : tie.In-Count) → answer (count (is_kind TemporalDelimiter)) (obus c.args.s.now) ≡ accepted c.in-Count.n
+counted c = sym c.count_obus.ensures ∙ ap counted_says c.in-Count.is
 
-returns : tie.Need-returns
-returns c = sym (stray-refused (obus c.before.before.before.before.args.s.now) _ (sym c.before.before.count-obus.ensures ∙ ap counted_says c.enum_told.given.1))
+returns : tie.Need-returns-in_default
+returns c = sym (stray-refused (obus c.args.s.now) _ (sym c.count_obus.ensures ∙ ap counted_says c.in_default.is))
 
-returns-2 : tie.Need-returns-2
-returns-2 c = sym (stray-none _ c.before.obu-at.result c.match2.keys2 c.before.obu-at.ensures)
+returns-2 : tie.Need-returns-in_default-obu_at
+returns-2 c = sym (stray-none _ c.obu_at.result c.in_default-obu_at.in_default-obu_at-own.keys2 c.obu_at.ensures)
 
-returns-3 : tie.Need-returns-3
+returns-3 : tie.Need-returns-then-is_type
 returns-3 c =
-    let g = got c.before.before.before in
-    let n = c.before.before.before.before.before.before.before in
-    stray-behind _ g.obu _ _ _ g.placed (counted n) (ap (is_type TemporalDelimiter) g.type ∙ sym c.before.is-type.ensures ∙ c.if1.true)
+    let g = got c.before.before in
+    let n = c.before.before.before.before in
+    stray-behind _ g.obu _ _ _ g.placed (counted n) (ap (is_type TemporalDelimiter) g.type ∙ sym c.is_type.ensures ∙ c.if-is_type.true)
 
-returns-4 : tie.Need-returns-4
+returns-4 : tie.Need-returns
 returns-4 c =
-    let g = got c.before.before.before in
-    let n = c.before.before.before.before.before.before.before in
-    stray-any _ g.obu _ _ _ g.placed (counted n) (ap (is_type TemporalDelimiter) g.type ∙ sym c.before.is-type.ensures ∙ c.if1.false)
+    let g = got c.before.before in
+    let n = c.before.before.before.before in
+    stray-any _ g.obu _ _ _ g.placed (counted n) (ap (is_type TemporalDelimiter) g.type ∙ sym c.is_type.ensures ∙ c.if-is_type.false)
 
-pub has-stray-delimiter-spec : {M : Type 1} → statement M
-has-stray-delimiter-spec =
+pub has_stray_delimiter_spec : {M : Type 1} → statement M
+has_stray_delimiter_spec =
     tie.close
     (tie.spec
     (λ c κs. search rules)

@@ -3,35 +3,35 @@ use Rattle.obu.specs.Unit.{is_type}
 use Rattle.obu.proofs.unit.is_type.Statement.{statement}
 use Rattle.obu.proofs.unit.is_type.Tie as tie
 
-enum_told : tie.Need-enum-told
+enum_told : tie.Need-enum_told-1
 enum_told c = search rules
 
-enum-told-2 : tie.Need-enum-told-2
+enum-told-2 : tie.Need-enum_told-in-SequenceHeader
 enum-told-2 c = search rules
 
-enum-told-3 : tie.Need-enum-told-3
+enum-told-3 : tie.Need-enum_told-in-TemporalDelimiter
 enum-told-3 c = search rules
 
-enum-told-4 : tie.Need-enum-told-4
+enum-told-4 : tie.Need-enum_told-in-Frame
 enum-told-4 c = search rules
 
-returns : tie.Need-returns
+returns : tie.Need-returns-in-Any
 unfolding is_type
-returns c = rw c.enum_told.given.1
+returns c = rw c.in-Any.is
 
-returns-2 : tie.Need-returns-2
+returns-2 : tie.Need-returns-in-SequenceHeader
 unfolding is_type
-returns-2 c = rw c.enum-told2.given.1
+returns-2 c = rw c.in-SequenceHeader.is
 
-returns-3 : tie.Need-returns-3
+returns-3 : tie.Need-returns-in-TemporalDelimiter
 unfolding is_type
-returns-3 c = rw c.enum-told3.given.1
+returns-3 c = rw c.in-TemporalDelimiter.is
 
-returns-4 : tie.Need-returns-4
+returns-4 : tie.Need-returns-in-Frame
 unfolding is_type
-returns-4 c = rw c.enum-told4.given.1
+returns-4 c = rw c.in-Frame.is
 
-pub is-type-spec : {M : Type 1} → statement M
-is-type-spec =
+pub is_type_spec : {M : Type 1} → statement M
+is_type_spec =
     tie.close
     (tie.spec enum_told enum-told-2 enum-told-3 enum-told-4 returns returns-2 returns-3 returns-4)

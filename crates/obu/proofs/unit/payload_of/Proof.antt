@@ -4,17 +4,17 @@ use Rattle.obu.proofs.PlaceLaws.{part_none}
 use Rattle.obu.proofs.unit.payload_of.Statement.{statement}
 use Rattle.obu.proofs.unit.payload_of.Tie as tie
 
-returns : tie.Need-returns
-returns c = rw c.before.before.found.given.1 c.payload.ensures
+returns : tie.Need-returns-in-Found
+returns c = rw c.in-Found.is c.payload.ensures
 
-returns-2 : tie.Need-returns-2
-returns-2 c = rw c.before.enum_told.given.1 (c.payload2.ensures ∙ part_none _)
+returns-2 : tie.Need-returns-in-End
+returns-2 c = rw c.in-End.is (c.payload-in-End.ensures ∙ part_none _)
 
-returns-3 : tie.Need-returns-3
-returns-3 c = rw c.before.enum-told2.given.1 (c.payload3.ensures ∙ part_none _)
+returns-3 : tie.Need-returns-in-Refused
+returns-3 c = rw c.in-Refused.is (c.payload-in-Refused.ensures ∙ part_none _)
 
-pub payload-of-spec : {M : Type 1} → statement M
-payload-of-spec =
+pub payload_of_spec : {M : Type 1} → statement M
+payload_of_spec =
     tie.close
     (tie.spec
     (λ c. search rules)

@@ -13,10 +13,10 @@ returns c =
     let b = c.before.before.before.before.before.before in
     let a = b.args in
     let n = length a.src.now in
-    (refl, copied-there _ _ _ (copied _ _ (length-take-le (a.at + n - a.at) (drop a.at a.out.now) (omega (arith, length-drop a.at a.out.now, b.requires)) ∙ omega arith) c.before.before.copy.ensures.1))
+    (refl, copied-there _ _ _ (copied _ _ (length-take-le (a.at + n - a.at) (drop a.at a.out.now) (omega (arith, length-drop a.at a.out.now, b.requires)) ∙ omega arith) c.copy.ensures.1))
 
-pub put-bytes-spec : {M : Type 1} → statement M
-put-bytes-spec =
+pub put_bytes_spec : {M : Type 1} → statement M
+put_bytes_spec =
     tie.close
     (tie.spec
     (λ c. search rules)

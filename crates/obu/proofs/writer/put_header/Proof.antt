@@ -10,29 +10,29 @@ use Rattle.obu.proofs.writer.put_header.Statement.{statement}
 use Rattle.obu.proofs.writer.put_header.Tie as tie
 
 -- there is room for the extension byte
-room : (c : tie.After-known-told) → c.before.before.before.args.at + 1 < length c.before.before.before.args.out.now
+room : (c : tie.In-Byte) → c.args.at + 1 < length c.args.out.now
 room c =
-    let b = c.before.before.before in
-    let h : length (ext_bytes (extension_says b.args.extension)) ≡ 1 = ap (λ x. length (ext_bytes (extension_says x))) c.before.extension.given.1 in
+    let b = c.before in
+    let h : length (ext_bytes (extension_says b.args.extension)) ≡ 1 = ap (λ x. length (ext_bytes (extension_says x))) c.in-Byte.is in
     omega (arith, b.requires.2)
 
-slice-write-out-3 : tie.Need-slice-write-out-3
+slice-write-out-3 : tie.Need-bounds-out-next
 slice-write-out-3 c = rw length-set (room c)
 
-returns : tie.Need-returns
+returns : tie.Need-returns-in-Absent
 returns c =
-    let a = c.before.before.args in
-    let e = c.enum_told.given.1 in
-    rw e (omega arith, header-plain a.out.now a.at a.«obu-type» a.«size-flag» (omega (arith, c.before.before.requires.2)))
+    let a = c.args in
+    let e = c.in-Absent.is in
+    rw e (omega arith, header-plain a.out.now a.at a.«obu-type» a.«size-flag» (omega (arith, c.requires.2)))
 
-returns-2 : tie.Need-returns-2
+returns-2 : tie.Need-returns-in-Byte
 returns-2 c =
-    let a = c.before.before.before.args in
-    let e = c.before.extension.given.1 in
+    let a = c.args in
+    let e = c.in-Byte.is in
     rw e (omega arith, header-ext a.out.now a.at a.«obu-type» a.«size-flag» _ (room c))
 
-pub put-header-spec : {M : Type 1} → statement M
-put-header-spec =
+pub put_header_spec : {M : Type 1} → statement M
+put_header_spec =
     tie.close
     (tie.spec
     (λ c. search rules)

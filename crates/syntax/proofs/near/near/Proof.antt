@@ -8,8 +8,8 @@ pub near_spec : {M : Type 1} → statement M
 near_spec =
     tie.close
     (tie.spec
-    (λ c. (rw (lt-ltb _ _ c.if1.true), omega arith))
+    (λ c. (rw (lt-ltb _ _ c.if-v-m.true), omega arith))
     (λ c. search rules)
     (λ c. search rules)
     (λ c. search rules)
-    (λ c. (rw (le-ltb _ _ c.if1.false), omega arith)))
+    (λ c. (rw (le-ltb _ _ c.if-v-m.false), omega arith)))

@@ -20,7 +20,7 @@ ns_spec =
     tie.close
     (tie.spec
     (λ c κs. search rules)
-    (λ c. let p = c.before.before.requires in omega (arith, few _ p.0 p.1 c.log2.ensures))
+    (λ c. let p = c.requires in omega (arith, few _ p.0 p.1 c.log2-z.ensures))
     (λ c.
     let p = c.before.before.requires in
     let e = c.log2.ensures in

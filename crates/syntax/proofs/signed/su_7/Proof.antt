@@ -22,6 +22,6 @@ su_7_spec =
     tie.close
     (tie.spec
     (λ c. search rules)
-    (λ c. to_z_pos w64 {n = c.before.args.v} (omega arith) ∙ rw (lt-ltb _ 64 c.if1.true))
-    (λ c. fits _ c.before.requires)
-    (λ c. to_z-of_z (fits _ c.before.requires) ∙ off _ c.before.requires ∙ rw (le-ltb _ 64 c.if1.false)))
+    (λ c. to_z_pos w64 {n = c.args.v} (omega arith) ∙ rw (lt-ltb _ 64 c.if-v-lt64.true))
+    (λ c. fits _ c.requires)
+    (λ c. to_z-of_z (fits _ c.requires) ∙ off _ c.requires ∙ rw (le-ltb _ 64 c.if-v-lt64.false)))

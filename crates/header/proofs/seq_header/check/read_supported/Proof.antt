@@ -10,34 +10,34 @@ use Rattle.header.proofs.seq_header.check.read_supported.Statement.{statement}
 use Rattle.header.proofs.seq_header.check.read_supported.Tie as tie
 
 -- the payload that was read, and what its support then says of it
-abbrev payload : tie.After-check-supported → List ℕ
-payload c = c.before.before.before.before.before.before.args.payload.now
+abbrev payload : tie.After-check_supported → List ℕ
+payload c = c.args.payload.now
 
-checked : (c : tie.After-check-supported) → supported_sequence (payload c) ≡ and_next (support_says c.check-supported.result) (λ _. parse_sequence (payload c))
+checked : (c : tie.After-check_supported) → supported_sequence (payload c) ≡ and_next (support_says c.check_supported.result) (λ _. parse_sequence (payload c))
 checked c =
-    let a = c.before.before in
-    let p = a.before.before.read-sequence in
-    supported-header _ p.result p.ensures _ a.answer.given.1 ∙ ap (λ y. and_next y (λ _. parse_sequence (payload c))) (sym c.check-supported.ensures)
+    let a = c.before in
+    let p = a.read_sequence-read in
+    supported-header _ p.result p.ensures _ a.in-Header.is ∙ ap (λ y. and_next y (λ _. parse_sequence (payload c))) (sym c.check_supported.ensures)
 
-returns : tie.Need-returns
-returns c = let p = c.before.before.read-sequence in supported-refused _ p.result p.ensures _ c.enum_told.given.1
+returns : tie.Need-returns-in_default
+returns c = let p = c.read_sequence-read in supported-refused _ p.result p.ensures _ c.in_default.is
 
-returns-2 : tie.Need-returns-2
+returns-2 : tie.Need-returns-in-Refused
 unfolding and_next
 returns-2 c =
-    let k = c.before.before in
-    let e = checked k.before.before ∙ ap (λ y. and_next (support_says y) (λ _. parse_sequence (payload k.before.before))) k.k.given.1 in
-    c.no-sequence.ensures ∙ ap sequence_read (sym e)
+    let k = c.before in
+    let e = checked k.before ∙ ap (λ y. and_next (support_says y) (λ _. parse_sequence (payload k.before))) k.in-Refused.is in
+    c.no_sequence.ensures ∙ ap sequence_read (sym e)
 
-returns-3 : tie.Need-returns-3
+returns-3 : tie.Need-returns-in-Supported
 unfolding and_next
 returns-3 c =
-    let k = c.before.before in
-    let e = checked k ∙ ap (λ y. and_next (support_says y) (λ _. parse_sequence (payload k))) c.enum-told2.given.1 in
-    k.before.before.before.before.read-sequence.ensures ∙ ap sequence_read (sym e)
+    let k = c.before in
+    let e = checked k ∙ ap (λ y. and_next (support_says y) (λ _. parse_sequence (payload k))) c.in-Supported.is in
+    k.read_sequence-read.ensures ∙ ap sequence_read (sym e)
 
-pub read-supported-spec : {M : Type 1} → statement M
-read-supported-spec =
+pub read_supported_spec : {M : Type 1} → statement M
+read_supported_spec =
     tie.close
     (tie.spec
     (λ c κs. search rules)

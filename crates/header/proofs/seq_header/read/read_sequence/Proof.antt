@@ -15,44 +15,44 @@ use Rattle.header.proofs.seq_header.read.read_sequence.Statement.{statement}
 use Rattle.header.proofs.seq_header.read.read_sequence.Tie as tie
 
 -- the opening that was read
-opened : (c : tie.After-o) → opening ours c.before.before.before.before.args.payload.now 0 ≡ reads c.o.given.0.0 c.o.given.0.1.0.pos
-opened c = sym c.before.before.read-opening.ensures ∙ ap opening_says c.o.given.1
+opened : (c : tie.In-Done) → opening ours c.args.payload.now 0 ≡ reads c.in-Done.opening c.in-Done.b.pos
+opened c = sym c.read_opening-o.ensures ∙ ap opening_says c.in-Done.is
 
-returns : tie.Need-returns
+returns : tie.Need-returns-in_default
 returns c =
-    let g = c.before.before.enum_told.given.1 in
-    let e = sym c.before.before.before.before.read-opening.ensures ∙ ap opening_says g in
-    c.no-sequence.ensures
-    ∙ ap (λ (k : ℕ). sequence_read (refused k)) (c.before.opening-refusal.ensures ∙ ap (λ x. refusal_of (opening_says x)) g)
+    let g = c.in_default.is in
+    let e = sym c.read_opening-o.ensures ∙ ap opening_says g in
+    c.no_sequence.ensures
+    ∙ ap (λ (k : ℕ). sequence_read (refused k)) (c.opening_refusal.ensures ∙ ap (λ x. refusal_of (opening_says x)) g)
     ∙ sym (no-opening _ _ e)
 
-read-points-requires : tie.Need-read-points-requires
+read-points-requires : tie.Need-read_points-points-requires
 read-points-requires c κs =
-    let w = rw (opened c.before) at (opening-within ours c.before.before.before.before.before.args.payload.now 0) in
+    let w = rw (opened c) at (opening-within ours c.args.payload.now 0) in
     (omega (arith, w.model.delay), omega (arith, w.count))
 
-returns-2 : tie.Need-returns-2
+returns-2 : tie.Need-returns-in_default-answer
 returns-2 c =
-    let g = c.before.before.enum-told2.given.1 in
-    let f = ap (λ (r : Points). r.answer) (sym c.before.before.before.before.read-points.ensures) ∙ g in
-    c.no-sequence2.ensures
-    ∙ ap (λ (k : ℕ). sequence_read (refused k)) (c.before.points-refusal.ensures ∙ ap points_refusal g)
-    ∙ sym (no-points _ _ _ (opened c.before.before.before.before.before.before) _ f)
+    let g = c.in_default-answer.is in
+    let f = ap (λ (r : Points). r.answer) (sym c.read_points-points.ensures) ∙ g in
+    c.no_sequence-in_default-answer.ensures
+    ∙ ap (λ (k : ℕ). sequence_read (refused k)) (c.points_refusal.ensures ∙ ap points_refusal g)
+    ∙ sym (no-points _ _ _ (opened c.before.before.before.before) _ f)
 
-returns-3 : tie.Need-returns-3
+returns-3 : tie.Need-returns-in_default-read_coding
 returns-3 c =
-    let f = ap (λ (r : Points). r.answer) (sym c.before.before.before.before.before.before.before.before.read-points.ensures) ∙ c.before.before.before.before.before.before.answer.given.1 in
-    let g = sym c.before.before.before.read-coding.ensures ∙ ap coding_says c.before.enum-told3.given.1 in
-    c.no-sequence3.ensures ∙ sym (no-coding _ _ _ (opened c.before.before.before.before.before.before.before.before.before.before) _ f g)
+    let f = ap (λ (r : Points). r.answer) (sym c.read_points-points.ensures) ∙ c.in-Done-answer.is in
+    let g = sym c.read_coding.ensures ∙ ap coding_says c.in_default-read_coding.is in
+    c.no_sequence-in_default-read_coding.ensures ∙ sym (no-coding _ _ _ (opened c.before.before.before.before.before.before) _ f g)
 
-returns-4 : tie.Need-returns-4
+returns-4 : tie.Need-returns
 returns-4 c =
-    let f = ap (λ (r : Points). r.answer) (sym c.before.before.before.before.before.before.before.before.before.read-points.ensures) ∙ c.before.before.before.before.before.before.before.answer.given.1 in
-    let g = sym c.before.before.before.before.read-coding.ensures ∙ ap coding_says c.before.before.coding.given.1 in
-    sym (whole _ _ _ (opened c.before.before.before.before.before.before.before.before.before.before.before) _ f _ _ g (ap (λ (r : Points). r.list) c.before.before.before.before.before.before.before.before.before.read-points.ensures))
+    let f = ap (λ (r : Points). r.answer) (sym c.read_points-points.ensures) ∙ c.in-Done-answer.is in
+    let g = sym c.read_coding.ensures ∙ ap coding_says c.in-Done-read_coding.is in
+    sym (whole _ _ _ (opened c.before.before.before.before.before.before) _ f _ _ g (ap (λ (r : Points). r.list) c.read_points-points.ensures))
 
-pub read-sequence-spec : {M : Type 1} → statement M
-read-sequence-spec =
+pub read_sequence_spec : {M : Type 1} → statement M
+read_sequence_spec =
     tie.close
     (tie.spec
     (λ c κs. search rules)

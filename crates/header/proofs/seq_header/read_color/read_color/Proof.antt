@@ -8,70 +8,70 @@ use Rattle.header.proofs.ReadLaws.{Chain, on}
 use Rattle.header.proofs.seq_header.read_color.read_color.Statement.{statement}
 use Rattle.header.proofs.seq_header.read_color.read_color.Tie as tie
 
-abbrev s-high : tie.After-high → Chain (Reading ColorDescription)
+abbrev s-high : tie.In-Value → Chain (Reading ColorDescription)
 unfolding color_description
 s-high c =
-    let a = c.before.before.before.before.args in
-    (color_description a.s.now a.b.pos a.profile, _, on flag_says _ refl c.before.before.read-flag.ensures c.high.given.1)
+    let a = c.args in
+    (color_description a.s.now a.b.pos a.profile, _, on flag_says _ refl c.read_flag.ensures c.in-Value.is)
 
-abbrev s-twelve : tie.After-twelve → Chain (Reading ColorDescription)
+abbrev s-twelve : tie.In-Value-flag_or → Chain (Reading ColorDescription)
 unfolding color_description
-s-twelve c = (_, _, on flag_says _ (s-high c.before.before.before.before).2 c.before.before.flag-or.ensures c.twelve.given.1)
+s-twelve c = (_, _, on flag_says _ (s-high c.before.before).2 c.flag_or.ensures c.in-Value-flag_or.is)
 
-abbrev s-mono : tie.After-mono → Chain (Reading ColorDescription)
+abbrev s-mono : tie.In-Value-flag_or-2 → Chain (Reading ColorDescription)
 unfolding color_description
-s-mono c = (_, _, on flag_says _ (s-twelve c.before.before.before.before).2 c.before.before.flag-or2.ensures c.mono.given.1)
+s-mono c = (_, _, on flag_says _ (s-twelve c.before.before).2 c.flag_or-2.ensures c.in-Value-flag_or-2.is)
 
-abbrev s-present : tie.After-present → Chain (Reading ColorDescription)
+abbrev s-present : tie.In-Value-read_flag → Chain (Reading ColorDescription)
 unfolding color_description
-s-present c = (_, _, on flag_says _ (s-mono c.before.before.before.before).2 c.before.before.read-flag2.ensures c.present.given.1)
+s-present c = (_, _, on flag_says _ (s-mono c.before.before).2 c.read_flag-2.ensures c.in-Value-read_flag.is)
 
-abbrev s-primaries : tie.After-primaries → Chain (Reading ColorDescription)
+abbrev s-primaries : tie.In-Value-bits_or → Chain (Reading ColorDescription)
 unfolding color_description
-s-primaries c = (_, _, on bits_says _ (s-present c.before.before.before.before).2 c.before.before.bits-or.ensures c.primaries.given.1)
+s-primaries c = (_, _, on bits_says _ (s-present c.before.before).2 c.bits_or.ensures c.in-Value-bits_or.is)
 
-abbrev s-transfer : tie.After-transfer → Chain (Reading ColorDescription)
+abbrev s-transfer : tie.In-Value-bits_or-2 → Chain (Reading ColorDescription)
 unfolding color_description
-s-transfer c = (_, _, on bits_says _ (s-primaries c.before.before.before.before).2 c.before.before.bits-or2.ensures c.transfer.given.1)
+s-transfer c = (_, _, on bits_says _ (s-primaries c.before.before).2 c.bits_or-2.ensures c.in-Value-bits_or-2.is)
 
-abbrev s-matrix : tie.After-matrix → Chain (Reading ColorDescription)
+abbrev s-matrix : tie.In-Value-bits_or-3 → Chain (Reading ColorDescription)
 unfolding color_description
-s-matrix c = (_, _, on bits_says _ (s-transfer c.before.before.before.before).2 c.before.before.bits-or3.ensures c.matrix.given.1)
+s-matrix c = (_, _, on bits_says _ (s-transfer c.before.before).2 c.bits_or-3.ensures c.in-Value-bits_or-3.is)
 
-returns : tie.Need-returns
+returns : tie.Need-returns-in_default
 unfolding color_description
-returns c = sym (on flag_says _ refl c.before.before.read-flag.ensures c.enum_told.given.1)
+returns c = sym (on flag_says _ refl c.read_flag.ensures c.in_default.is)
 
-returns-2 : tie.Need-returns-2
+returns-2 : tie.Need-returns-in_default-flag_or
 unfolding color_description
-returns-2 c = sym (on flag_says _ (s-high c.before.before.before.before).2 c.before.before.flag-or.ensures c.enum-told2.given.1)
+returns-2 c = sym (on flag_says _ (s-high c.before.before).2 c.flag_or.ensures c.in_default-flag_or.is)
 
-returns-3 : tie.Need-returns-3
+returns-3 : tie.Need-returns-in_default-flag_or-2
 unfolding color_description
-returns-3 c = sym (on flag_says _ (s-twelve c.before.before.before.before).2 c.before.before.flag-or2.ensures c.enum-told3.given.1)
+returns-3 c = sym (on flag_says _ (s-twelve c.before.before).2 c.flag_or-2.ensures c.in_default-flag_or-2.is)
 
-returns-4 : tie.Need-returns-4
+returns-4 : tie.Need-returns-in_default-read_flag
 unfolding color_description
-returns-4 c = sym (on flag_says _ (s-mono c.before.before.before.before).2 c.before.before.read-flag2.ensures c.enum-told4.given.1)
+returns-4 c = sym (on flag_says _ (s-mono c.before.before).2 c.read_flag-2.ensures c.in_default-read_flag.is)
 
-returns-5 : tie.Need-returns-5
+returns-5 : tie.Need-returns-in_default-bits_or
 unfolding color_description
-returns-5 c = sym (on bits_says _ (s-present c.before.before.before.before).2 c.before.before.bits-or.ensures c.enum-told5.given.1)
+returns-5 c = sym (on bits_says _ (s-present c.before.before).2 c.bits_or.ensures c.in_default-bits_or.is)
 
-returns-6 : tie.Need-returns-6
+returns-6 : tie.Need-returns-in_default-bits_or-2
 unfolding color_description
-returns-6 c = sym (on bits_says _ (s-primaries c.before.before.before.before).2 c.before.before.bits-or2.ensures c.enum-told6.given.1)
+returns-6 c = sym (on bits_says _ (s-primaries c.before.before).2 c.bits_or-2.ensures c.in_default-bits_or-2.is)
 
-returns-7 : tie.Need-returns-7
+returns-7 : tie.Need-returns-in_default-bits_or-3
 unfolding color_description
-returns-7 c = sym (on bits_says _ (s-transfer c.before.before.before.before).2 c.before.before.bits-or3.ensures c.enum-told7.given.1)
+returns-7 c = sym (on bits_says _ (s-transfer c.before.before).2 c.bits_or-3.ensures c.in_default-bits_or-3.is)
 
-returns-8 : tie.Need-returns-8
+returns-8 : tie.Need-returns
 unfolding color_description
-returns-8 c = sym (s-matrix c.before).2
+returns-8 c = sym (s-matrix c).2
 
-pub read-color-spec : {M : Type 1} → statement M
-read-color-spec =
+pub read_color_spec : {M : Type 1} → statement M
+read_color_spec =
     tie.close
     (tie.spec
     (λ c κs. search rules)

@@ -8,54 +8,54 @@ use Rattle.header.proofs.ReadLaws.{Chain, on}
 use Rattle.header.proofs.seq_header.read_opening.read_model.Statement.{statement}
 use Rattle.header.proofs.seq_header.read_opening.read_model.Tie as tie
 
-abbrev s-present : tie.After-present → Chain (Reading DecoderModelInfo)
+abbrev s-present : tie.In-Value → Chain (Reading DecoderModelInfo)
 unfolding decoder_model_info
 s-present c =
-    let a = c.before.before.before.before.args in
-    (decoder_model_info a.s.now a.b.pos a.timed, _, on flag_says _ refl c.before.before.flag-or.ensures c.present.given.1)
+    let a = c.args in
+    (decoder_model_info a.s.now a.b.pos a.timed, _, on flag_says _ refl c.flag_or.ensures c.in-Value.is)
 
-abbrev s-delay : tie.After-delay → Chain (Reading DecoderModelInfo)
+abbrev s-delay : tie.In-Value-bits_or → Chain (Reading DecoderModelInfo)
 unfolding decoder_model_info
-s-delay c = (_, _, on bits_says _ (s-present c.before.before.before.before).2 c.before.before.bits-or.ensures c.delay.given.1)
+s-delay c = (_, _, on bits_says _ (s-present c.before.before).2 c.bits_or.ensures c.in-Value-bits_or.is)
 
-abbrev s-tick : tie.After-tick → Chain (Reading DecoderModelInfo)
+abbrev s-tick : tie.In-Value-bits_or-2 → Chain (Reading DecoderModelInfo)
 unfolding decoder_model_info
-s-tick c = (_, _, on bits_says _ (s-delay c.before.before.before.before).2 c.before.before.bits-or2.ensures c.tick.given.1)
+s-tick c = (_, _, on bits_says _ (s-delay c.before.before).2 c.bits_or-2.ensures c.in-Value-bits_or-2.is)
 
-abbrev s-removal : tie.After-removal → Chain (Reading DecoderModelInfo)
+abbrev s-removal : tie.In-Value-bits_or-3 → Chain (Reading DecoderModelInfo)
 unfolding decoder_model_info
-s-removal c = (_, _, on bits_says _ (s-tick c.before.before.before.before).2 c.before.before.bits-or3.ensures c.removal.given.1)
+s-removal c = (_, _, on bits_says _ (s-tick c.before.before).2 c.bits_or-3.ensures c.in-Value-bits_or-3.is)
 
-abbrev s-presentation : tie.After-presentation → Chain (Reading DecoderModelInfo)
+abbrev s-presentation : tie.In-Value-bits_or-4 → Chain (Reading DecoderModelInfo)
 unfolding decoder_model_info
-s-presentation c = (_, _, on bits_says _ (s-removal c.before.before.before.before).2 c.before.before.bits-or4.ensures c.presentation.given.1)
+s-presentation c = (_, _, on bits_says _ (s-removal c.before.before).2 c.bits_or-4.ensures c.in-Value-bits_or-4.is)
 
-returns : tie.Need-returns
+returns : tie.Need-returns-in_default
 unfolding decoder_model_info
-returns c = sym (on flag_says _ refl c.before.before.flag-or.ensures c.enum_told.given.1)
+returns c = sym (on flag_says _ refl c.flag_or.ensures c.in_default.is)
 
-returns-2 : tie.Need-returns-2
+returns-2 : tie.Need-returns-in_default-bits_or
 unfolding decoder_model_info
-returns-2 c = sym (on bits_says _ (s-present c.before.before.before.before).2 c.before.before.bits-or.ensures c.enum-told2.given.1)
+returns-2 c = sym (on bits_says _ (s-present c.before.before).2 c.bits_or.ensures c.in_default-bits_or.is)
 
-returns-3 : tie.Need-returns-3
+returns-3 : tie.Need-returns-in_default-bits_or-2
 unfolding decoder_model_info
-returns-3 c = sym (on bits_says _ (s-delay c.before.before.before.before).2 c.before.before.bits-or2.ensures c.enum-told3.given.1)
+returns-3 c = sym (on bits_says _ (s-delay c.before.before).2 c.bits_or-2.ensures c.in_default-bits_or-2.is)
 
-returns-4 : tie.Need-returns-4
+returns-4 : tie.Need-returns-in_default-bits_or-3
 unfolding decoder_model_info
-returns-4 c = sym (on bits_says _ (s-tick c.before.before.before.before).2 c.before.before.bits-or3.ensures c.enum-told4.given.1)
+returns-4 c = sym (on bits_says _ (s-tick c.before.before).2 c.bits_or-3.ensures c.in_default-bits_or-3.is)
 
-returns-5 : tie.Need-returns-5
+returns-5 : tie.Need-returns-in_default-bits_or-4
 unfolding decoder_model_info
-returns-5 c = sym (on bits_says _ (s-removal c.before.before.before.before).2 c.before.before.bits-or4.ensures c.enum-told5.given.1)
+returns-5 c = sym (on bits_says _ (s-removal c.before.before).2 c.bits_or-4.ensures c.in_default-bits_or-4.is)
 
-returns-6 : tie.Need-returns-6
+returns-6 : tie.Need-returns
 unfolding decoder_model_info
-returns-6 c = sym (s-presentation c.before).2
+returns-6 c = sym (s-presentation c).2
 
-pub read-model-spec : {M : Type 1} → statement M
-read-model-spec =
+pub read_model_spec : {M : Type 1} → statement M
+read_model_spec =
     tie.close
     (tie.spec
     (λ c κs. search rules)

@@ -9,46 +9,46 @@ use Rattle.header.proofs.ReadLaws.{Chain, on}
 use Rattle.header.proofs.seq_header.read_points.read_point.Statement.{statement}
 use Rattle.header.proofs.seq_header.read_points.read_point.Tie as tie
 
-abbrev s-idc : tie.After-idc → Chain (Reading OperatingPoint)
+abbrev s-idc : tie.In-Value → Chain (Reading OperatingPoint)
 unfolding operating_point point_from
 s-idc c =
-    let a = c.before.before.before.before.before.args in
-    (operating_point a.s.now a.b.pos a.o, _, on bits_says _ refl c.before.before.bits-or.ensures c.idc.given.1)
+    let a = c.args in
+    (operating_point a.s.now a.b.pos a.o, _, on bits_says _ refl c.bits_or.ensures c.in-Value.is)
 
-abbrev s-level : tie.After-level → Chain (Reading OperatingPoint)
+abbrev s-level : tie.In-Value-f → Chain (Reading OperatingPoint)
 unfolding operating_point point_from
-s-level c = (_, _, on bits_says _ (s-idc c.before.before.before.before).2 c.before.before.f.ensures c.level.given.1)
+s-level c = (_, _, on bits_says _ (s-idc c.before.before).2 c.f.ensures c.in-Value-f.is)
 
-abbrev s-tier : tie.After-tier → Chain (Reading OperatingPoint)
+abbrev s-tier : tie.In-Value-flag_or → Chain (Reading OperatingPoint)
 unfolding operating_point point_from
-s-tier c = (_, _, on flag_says _ (s-level c.before.before.before.before).2 c.before.before.flag-or.ensures c.tier.given.1)
+s-tier c = (_, _, on flag_says _ (s-level c.before.before).2 c.flag_or.ensures c.in-Value-flag_or.is)
 
-abbrev s-model : tie.After-model → Chain (Reading OperatingPoint)
+abbrev s-model : tie.In-Value-flag_or-2 → Chain (Reading OperatingPoint)
 unfolding operating_point point_from
-s-model c = (_, _, on flag_says _ (s-tier c.before.before.before.before).2 c.before.before.flag-or2.ensures c.model.given.1)
+s-model c = (_, _, on flag_says _ (s-tier c.before.before).2 c.flag_or-2.ensures c.in-Value-flag_or-2.is)
 
-returns : tie.Need-returns
+returns : tie.Need-returns-in_default
 unfolding operating_point point_from
-returns c = sym (on bits_says _ refl c.before.before.bits-or.ensures c.enum_told.given.1)
+returns c = sym (on bits_says _ refl c.bits_or.ensures c.in_default.is)
 
-returns-2 : tie.Need-returns-2
+returns-2 : tie.Need-returns-in_default-f
 unfolding operating_point point_from
-returns-2 c = sym (on bits_says _ (s-idc c.before.before.before.before).2 c.before.before.f.ensures c.enum-told2.given.1)
+returns-2 c = sym (on bits_says _ (s-idc c.before.before).2 c.f.ensures c.in_default-f.is)
 
-returns-3 : tie.Need-returns-3
+returns-3 : tie.Need-returns-in_default-flag_or
 unfolding operating_point point_from
-returns-3 c = sym (on flag_says _ (s-level c.before.before.before.before).2 c.before.before.flag-or.ensures c.enum-told3.given.1)
+returns-3 c = sym (on flag_says _ (s-level c.before.before).2 c.flag_or.ensures c.in_default-flag_or.is)
 
-returns-4 : tie.Need-returns-4
+returns-4 : tie.Need-returns-in_default-flag_or-2
 unfolding operating_point point_from
-returns-4 c = sym (on flag_says _ (s-tier c.before.before.before.before).2 c.before.before.flag-or2.ensures c.enum-told4.given.1)
+returns-4 c = sym (on flag_says _ (s-tier c.before.before).2 c.flag_or-2.ensures c.in_default-flag_or-2.is)
 
-returns-5 : tie.Need-returns-5
+returns-5 : tie.Need-returns
 unfolding operating_point point_from
-returns-5 c = c.read-point-from.ensures ∙ sym (s-model c.before.before).2
+returns-5 c = c.read_point_from.ensures ∙ sym (s-model c.before).2
 
-pub read-point-spec : {M : Type 1} → statement M
-read-point-spec =
+pub read_point_spec : {M : Type 1} → statement M
+read_point_spec =
     tie.close
     (tie.spec
     (λ c κs. search rules)

@@ -8,54 +8,54 @@ use Rattle.header.proofs.ReadLaws.{Chain, on}
 use Rattle.header.proofs.seq_header.read_points.read_point_from.Statement.{statement}
 use Rattle.header.proofs.seq_header.read_points.read_point_from.Tie as tie
 
-abbrev s-decoder : tie.After-decoder → Chain (Reading OperatingPoint)
+abbrev s-decoder : tie.In-Value → Chain (Reading OperatingPoint)
 unfolding point_from
 s-decoder c =
-    let a = c.before.before.before.before.args in
-    (point_from a.s.now a.b.pos a.o a.x, _, on bits_says _ refl c.before.before.bits-or.ensures c.decoder.given.1)
+    let a = c.args in
+    (point_from a.s.now a.b.pos a.o a.x, _, on bits_says _ refl c.bits_or.ensures c.in-Value.is)
 
-abbrev s-encoder : tie.After-encoder → Chain (Reading OperatingPoint)
+abbrev s-encoder : tie.In-Value-bits_or → Chain (Reading OperatingPoint)
 unfolding point_from
-s-encoder c = (_, _, on bits_says _ (s-decoder c.before.before.before.before).2 c.before.before.bits-or2.ensures c.encoder.given.1)
+s-encoder c = (_, _, on bits_says _ (s-decoder c.before.before).2 c.bits_or-2.ensures c.in-Value-bits_or.is)
 
-abbrev s-low : tie.After-low → Chain (Reading OperatingPoint)
+abbrev s-low : tie.In-Value-flag_or → Chain (Reading OperatingPoint)
 unfolding point_from
-s-low c = (_, _, on flag_says _ (s-encoder c.before.before.before.before).2 c.before.before.flag-or.ensures c.low.given.1)
+s-low c = (_, _, on flag_says _ (s-encoder c.before.before).2 c.flag_or.ensures c.in-Value-flag_or.is)
 
-abbrev s-present : tie.After-present → Chain (Reading OperatingPoint)
+abbrev s-present : tie.In-Value-flag_or-2 → Chain (Reading OperatingPoint)
 unfolding point_from
-s-present c = (_, _, on flag_says _ (s-low c.before.before.before.before).2 c.before.before.flag-or2.ensures c.present.given.1)
+s-present c = (_, _, on flag_says _ (s-low c.before.before).2 c.flag_or-2.ensures c.in-Value-flag_or-2.is)
 
-abbrev s-delay : tie.After-delay → Chain (Reading OperatingPoint)
+abbrev s-delay : tie.In-Value-bits_or-2 → Chain (Reading OperatingPoint)
 unfolding point_from
-s-delay c = (_, _, on bits_says _ (s-present c.before.before.before.before).2 c.before.before.bits-or3.ensures c.delay.given.1)
+s-delay c = (_, _, on bits_says _ (s-present c.before.before).2 c.bits_or-3.ensures c.in-Value-bits_or-2.is)
 
-returns : tie.Need-returns
+returns : tie.Need-returns-in_default
 unfolding point_from
-returns c = sym (on bits_says _ refl c.before.before.bits-or.ensures c.enum_told.given.1)
+returns c = sym (on bits_says _ refl c.bits_or.ensures c.in_default.is)
 
-returns-2 : tie.Need-returns-2
+returns-2 : tie.Need-returns-in_default-bits_or
 unfolding point_from
-returns-2 c = sym (on bits_says _ (s-decoder c.before.before.before.before).2 c.before.before.bits-or2.ensures c.enum-told2.given.1)
+returns-2 c = sym (on bits_says _ (s-decoder c.before.before).2 c.bits_or-2.ensures c.in_default-bits_or.is)
 
-returns-3 : tie.Need-returns-3
+returns-3 : tie.Need-returns-in_default-flag_or
 unfolding point_from
-returns-3 c = sym (on flag_says _ (s-encoder c.before.before.before.before).2 c.before.before.flag-or.ensures c.enum-told3.given.1)
+returns-3 c = sym (on flag_says _ (s-encoder c.before.before).2 c.flag_or.ensures c.in_default-flag_or.is)
 
-returns-4 : tie.Need-returns-4
+returns-4 : tie.Need-returns-in_default-flag_or-2
 unfolding point_from
-returns-4 c = sym (on flag_says _ (s-low c.before.before.before.before).2 c.before.before.flag-or2.ensures c.enum-told4.given.1)
+returns-4 c = sym (on flag_says _ (s-low c.before.before).2 c.flag_or-2.ensures c.in_default-flag_or-2.is)
 
-returns-5 : tie.Need-returns-5
+returns-5 : tie.Need-returns-in_default-bits_or-2
 unfolding point_from
-returns-5 c = sym (on bits_says _ (s-present c.before.before.before.before).2 c.before.before.bits-or3.ensures c.enum-told5.given.1)
+returns-5 c = sym (on bits_says _ (s-present c.before.before).2 c.bits_or-3.ensures c.in_default-bits_or-2.is)
 
-returns-6 : tie.Need-returns-6
+returns-6 : tie.Need-returns
 unfolding point_from
-returns-6 c = sym (s-delay c.before).2
+returns-6 c = sym (s-delay c).2
 
-pub read-point-from-spec : {M : Type 1} → statement M
-read-point-from-spec =
+pub read_point_from_spec : {M : Type 1} → statement M
+read_point_from_spec =
     tie.close
     (tie.spec
     (λ c. search rules)

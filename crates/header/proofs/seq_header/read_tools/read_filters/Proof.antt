@@ -8,38 +8,38 @@ use Rattle.header.proofs.ReadLaws.{Chain, on}
 use Rattle.header.proofs.seq_header.read_tools.read_filters.Statement.{statement}
 use Rattle.header.proofs.seq_header.read_tools.read_filters.Tie as tie
 
-abbrev s-superres : tie.After-superres → Chain (Reading Filters)
+abbrev s-superres : tie.In-Value → Chain (Reading Filters)
 unfolding filters
 s-superres c =
-    let a = c.before.before.before.before.args in
-    (filters a.s.now a.b.pos, _, on flag_says _ refl c.before.before.read-flag.ensures c.superres.given.1)
+    let a = c.args in
+    (filters a.s.now a.b.pos, _, on flag_says _ refl c.read_flag.ensures c.in-Value.is)
 
-abbrev s-cdef : tie.After-cdef → Chain (Reading Filters)
+abbrev s-cdef : tie.In-Value-read_flag → Chain (Reading Filters)
 unfolding filters
-s-cdef c = (_, _, on flag_says _ (s-superres c.before.before.before.before).2 c.before.before.read-flag2.ensures c.cdef.given.1)
+s-cdef c = (_, _, on flag_says _ (s-superres c.before.before).2 c.read_flag-2.ensures c.in-Value-read_flag.is)
 
-abbrev s-restoration : tie.After-restoration → Chain (Reading Filters)
+abbrev s-restoration : tie.In-Value-read_flag-2 → Chain (Reading Filters)
 unfolding filters
-s-restoration c = (_, _, on flag_says _ (s-cdef c.before.before.before.before).2 c.before.before.read-flag3.ensures c.restoration.given.1)
+s-restoration c = (_, _, on flag_says _ (s-cdef c.before.before).2 c.read_flag-3.ensures c.in-Value-read_flag-2.is)
 
-returns : tie.Need-returns
+returns : tie.Need-returns-in_default
 unfolding filters
-returns c = sym (on flag_says _ refl c.before.before.read-flag.ensures c.enum_told.given.1)
+returns c = sym (on flag_says _ refl c.read_flag.ensures c.in_default.is)
 
-returns-2 : tie.Need-returns-2
+returns-2 : tie.Need-returns-in_default-read_flag
 unfolding filters
-returns-2 c = sym (on flag_says _ (s-superres c.before.before.before.before).2 c.before.before.read-flag2.ensures c.enum-told2.given.1)
+returns-2 c = sym (on flag_says _ (s-superres c.before.before).2 c.read_flag-2.ensures c.in_default-read_flag.is)
 
-returns-3 : tie.Need-returns-3
+returns-3 : tie.Need-returns-in_default-read_flag-2
 unfolding filters
-returns-3 c = sym (on flag_says _ (s-cdef c.before.before.before.before).2 c.before.before.read-flag3.ensures c.enum-told3.given.1)
+returns-3 c = sym (on flag_says _ (s-cdef c.before.before).2 c.read_flag-3.ensures c.in_default-read_flag-2.is)
 
-returns-4 : tie.Need-returns-4
+returns-4 : tie.Need-returns
 unfolding filters
-returns-4 c = sym (s-restoration c.before).2
+returns-4 c = sym (s-restoration c).2
 
-pub read-filters-spec : {M : Type 1} → statement M
-read-filters-spec =
+pub read_filters_spec : {M : Type 1} → statement M
+read_filters_spec =
     tie.close
     (tie.spec
     (λ c κs. search rules)

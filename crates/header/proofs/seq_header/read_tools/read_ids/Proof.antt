@@ -8,38 +8,38 @@ use Rattle.header.proofs.ReadLaws.{Chain, on}
 use Rattle.header.proofs.seq_header.read_tools.read_ids.Statement.{statement}
 use Rattle.header.proofs.seq_header.read_tools.read_ids.Tie as tie
 
-abbrev s-present : tie.After-present → Chain (Reading FrameIds)
+abbrev s-present : tie.In-Value → Chain (Reading FrameIds)
 unfolding frame_ids
 s-present c =
-    let a = c.before.before.before.before.args in
-    (frame_ids a.s.now a.b.pos a.full, _, on flag_says _ refl c.before.before.flag-or.ensures c.present.given.1)
+    let a = c.args in
+    (frame_ids a.s.now a.b.pos a.full, _, on flag_says _ refl c.flag_or.ensures c.in-Value.is)
 
-abbrev s-delta : tie.After-delta → Chain (Reading FrameIds)
+abbrev s-delta : tie.In-Value-bits_or → Chain (Reading FrameIds)
 unfolding frame_ids
-s-delta c = (_, _, on bits_says _ (s-present c.before.before.before.before).2 c.before.before.bits-or.ensures c.delta.given.1)
+s-delta c = (_, _, on bits_says _ (s-present c.before.before).2 c.bits_or.ensures c.in-Value-bits_or.is)
 
-abbrev s-additional : tie.After-additional → Chain (Reading FrameIds)
+abbrev s-additional : tie.In-Value-bits_or-2 → Chain (Reading FrameIds)
 unfolding frame_ids
-s-additional c = (_, _, on bits_says _ (s-delta c.before.before.before.before).2 c.before.before.bits-or2.ensures c.additional.given.1)
+s-additional c = (_, _, on bits_says _ (s-delta c.before.before).2 c.bits_or-2.ensures c.in-Value-bits_or-2.is)
 
-returns : tie.Need-returns
+returns : tie.Need-returns-in_default
 unfolding frame_ids
-returns c = sym (on flag_says _ refl c.before.before.flag-or.ensures c.enum_told.given.1)
+returns c = sym (on flag_says _ refl c.flag_or.ensures c.in_default.is)
 
-returns-2 : tie.Need-returns-2
+returns-2 : tie.Need-returns-in_default-bits_or
 unfolding frame_ids
-returns-2 c = sym (on bits_says _ (s-present c.before.before.before.before).2 c.before.before.bits-or.ensures c.enum-told2.given.1)
+returns-2 c = sym (on bits_says _ (s-present c.before.before).2 c.bits_or.ensures c.in_default-bits_or.is)
 
-returns-3 : tie.Need-returns-3
+returns-3 : tie.Need-returns-in_default-bits_or-2
 unfolding frame_ids
-returns-3 c = sym (on bits_says _ (s-delta c.before.before.before.before).2 c.before.before.bits-or2.ensures c.enum-told3.given.1)
+returns-3 c = sym (on bits_says _ (s-delta c.before.before).2 c.bits_or-2.ensures c.in_default-bits_or-2.is)
 
-returns-4 : tie.Need-returns-4
+returns-4 : tie.Need-returns
 unfolding frame_ids
-returns-4 c = sym (s-additional c.before).2
+returns-4 c = sym (s-additional c).2
 
-pub read-ids-spec : {M : Type 1} → statement M
-read-ids-spec =
+pub read_ids_spec : {M : Type 1} → statement M
+read_ids_spec =
     tie.close
     (tie.spec
     (λ c κs. search rules)

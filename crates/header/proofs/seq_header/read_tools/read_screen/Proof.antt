@@ -8,54 +8,54 @@ use Rattle.header.proofs.ReadLaws.{Chain, on}
 use Rattle.header.proofs.seq_header.read_tools.read_screen.Statement.{statement}
 use Rattle.header.proofs.seq_header.read_tools.read_screen.Tie as tie
 
-abbrev s-choose : tie.After-choose → Chain (Reading ScreenTools)
+abbrev s-choose : tie.In-Value → Chain (Reading ScreenTools)
 unfolding screen_tools
 s-choose c =
-    let a = c.before.before.before.before.args in
-    (screen_tools a.s.now a.b.pos a.full a.hint, _, on flag_says _ refl c.before.before.flag-or.ensures c.choose.given.1)
+    let a = c.args in
+    (screen_tools a.s.now a.b.pos a.full a.hint, _, on flag_says _ refl c.flag_or.ensures c.in-Value.is)
 
-abbrev s-tools : tie.After-tools → Chain (Reading ScreenTools)
+abbrev s-tools : tie.In-Value-bits_or → Chain (Reading ScreenTools)
 unfolding screen_tools
-s-tools c = (_, _, on bits_says _ (s-choose c.before.before.before.before).2 c.before.before.bits-or.ensures c.tools.given.1)
+s-tools c = (_, _, on bits_says _ (s-choose c.before.before).2 c.bits_or.ensures c.in-Value-bits_or.is)
 
-abbrev s-choose-mv : tie.After-choose-mv → Chain (Reading ScreenTools)
+abbrev s-choose-mv : tie.In-Value-flag_or → Chain (Reading ScreenTools)
 unfolding screen_tools
-s-choose-mv c = (_, _, on flag_says _ (s-tools c.before.before.before.before).2 c.before.before.flag-or2.ensures c.choose-mv.given.1)
+s-choose-mv c = (_, _, on flag_says _ (s-tools c.before.before).2 c.flag_or-2.ensures c.in-Value-flag_or.is)
 
-abbrev s-mv : tie.After-mv → Chain (Reading ScreenTools)
+abbrev s-mv : tie.In-Value-bits_or-2 → Chain (Reading ScreenTools)
 unfolding screen_tools
-s-mv c = (_, _, on bits_says _ (s-choose-mv c.before.before.before.before).2 c.before.before.bits-or2.ensures c.mv.given.1)
+s-mv c = (_, _, on bits_says _ (s-choose-mv c.before.before).2 c.bits_or-2.ensures c.in-Value-bits_or-2.is)
 
-abbrev s-bits : tie.After-bits → Chain (Reading ScreenTools)
+abbrev s-bits : tie.In-Value-bits_or-3 → Chain (Reading ScreenTools)
 unfolding screen_tools
-s-bits c = (_, _, on bits_says _ (s-mv c.before.before.before.before).2 c.before.before.bits-or3.ensures c.bits.given.1)
+s-bits c = (_, _, on bits_says _ (s-mv c.before.before).2 c.bits_or-3.ensures c.in-Value-bits_or-3.is)
 
-returns : tie.Need-returns
+returns : tie.Need-returns-in_default
 unfolding screen_tools
-returns c = sym (on flag_says _ refl c.before.before.flag-or.ensures c.enum_told.given.1)
+returns c = sym (on flag_says _ refl c.flag_or.ensures c.in_default.is)
 
-returns-2 : tie.Need-returns-2
+returns-2 : tie.Need-returns-in_default-bits_or
 unfolding screen_tools
-returns-2 c = sym (on bits_says _ (s-choose c.before.before.before.before).2 c.before.before.bits-or.ensures c.enum-told2.given.1)
+returns-2 c = sym (on bits_says _ (s-choose c.before.before).2 c.bits_or.ensures c.in_default-bits_or.is)
 
-returns-3 : tie.Need-returns-3
+returns-3 : tie.Need-returns-in_default-flag_or
 unfolding screen_tools
-returns-3 c = sym (on flag_says _ (s-tools c.before.before.before.before).2 c.before.before.flag-or2.ensures c.enum-told3.given.1)
+returns-3 c = sym (on flag_says _ (s-tools c.before.before).2 c.flag_or-2.ensures c.in_default-flag_or.is)
 
-returns-4 : tie.Need-returns-4
+returns-4 : tie.Need-returns-in_default-bits_or-2
 unfolding screen_tools
-returns-4 c = sym (on bits_says _ (s-choose-mv c.before.before.before.before).2 c.before.before.bits-or2.ensures c.enum-told4.given.1)
+returns-4 c = sym (on bits_says _ (s-choose-mv c.before.before).2 c.bits_or-2.ensures c.in_default-bits_or-2.is)
 
-returns-5 : tie.Need-returns-5
+returns-5 : tie.Need-returns-in_default-bits_or-3
 unfolding screen_tools
-returns-5 c = sym (on bits_says _ (s-mv c.before.before.before.before).2 c.before.before.bits-or3.ensures c.enum-told5.given.1)
+returns-5 c = sym (on bits_says _ (s-mv c.before.before).2 c.bits_or-3.ensures c.in_default-bits_or-3.is)
 
-returns-6 : tie.Need-returns-6
+returns-6 : tie.Need-returns
 unfolding screen_tools
-returns-6 c = sym (s-bits c.before).2
+returns-6 c = sym (s-bits c).2
 
-pub read-screen-spec : {M : Type 1} → statement M
-read-screen-spec =
+pub read_screen_spec : {M : Type 1} → statement M
+read_screen_spec =
     tie.close
     (tie.spec
     (λ c κs. search rules)

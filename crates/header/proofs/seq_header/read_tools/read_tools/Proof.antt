@@ -9,54 +9,54 @@ use Rattle.header.proofs.ReadLaws.{Chain, on}
 use Rattle.header.proofs.seq_header.read_tools.read_tools.Statement.{statement}
 use Rattle.header.proofs.seq_header.read_tools.read_tools.Tie as tie
 
-abbrev s-superblock : tie.After-superblock → Chain (Reading Tools)
+abbrev s-superblock : tie.In-Value → Chain (Reading Tools)
 unfolding coding_tools tools_from
 s-superblock c =
-    let a = c.before.before.before.before.args in
-    (coding_tools a.s.now a.b.pos a.full, _, on flag_says _ refl c.before.before.read-flag.ensures c.superblock.given.1)
+    let a = c.args in
+    (coding_tools a.s.now a.b.pos a.full, _, on flag_says _ refl c.read_flag.ensures c.in-Value.is)
 
-abbrev s-filter : tie.After-filter → Chain (Reading Tools)
+abbrev s-filter : tie.In-Value-read_flag → Chain (Reading Tools)
 unfolding coding_tools tools_from
-s-filter c = (_, _, on flag_says _ (s-superblock c.before.before.before.before).2 c.before.before.read-flag2.ensures c.filter.given.1)
+s-filter c = (_, _, on flag_says _ (s-superblock c.before.before).2 c.read_flag-2.ensures c.in-Value-read_flag.is)
 
-abbrev s-edge : tie.After-edge → Chain (Reading Tools)
+abbrev s-edge : tie.In-Value-read_flag-2 → Chain (Reading Tools)
 unfolding coding_tools tools_from
-s-edge c = (_, _, on flag_says _ (s-filter c.before.before.before.before).2 c.before.before.read-flag3.ensures c.edge.given.1)
+s-edge c = (_, _, on flag_says _ (s-filter c.before.before).2 c.read_flag-3.ensures c.in-Value-read_flag-2.is)
 
-abbrev s-interintra : tie.After-interintra → Chain (Reading Tools)
+abbrev s-interintra : tie.In-Value-flag_or → Chain (Reading Tools)
 unfolding coding_tools tools_from
-s-interintra c = (_, _, on flag_says _ (s-edge c.before.before.before.before).2 c.before.before.flag-or.ensures c.interintra.given.1)
+s-interintra c = (_, _, on flag_says _ (s-edge c.before.before).2 c.flag_or.ensures c.in-Value-flag_or.is)
 
-abbrev s-masked : tie.After-masked → Chain (Reading Tools)
+abbrev s-masked : tie.In-Value-flag_or-2 → Chain (Reading Tools)
 unfolding coding_tools tools_from
-s-masked c = (_, _, on flag_says _ (s-interintra c.before.before.before.before).2 c.before.before.flag-or2.ensures c.masked.given.1)
+s-masked c = (_, _, on flag_says _ (s-interintra c.before.before).2 c.flag_or-2.ensures c.in-Value-flag_or-2.is)
 
-returns : tie.Need-returns
+returns : tie.Need-returns-in_default
 unfolding coding_tools tools_from
-returns c = sym (on flag_says _ refl c.before.before.read-flag.ensures c.enum_told.given.1)
+returns c = sym (on flag_says _ refl c.read_flag.ensures c.in_default.is)
 
-returns-2 : tie.Need-returns-2
+returns-2 : tie.Need-returns-in_default-read_flag
 unfolding coding_tools tools_from
-returns-2 c = sym (on flag_says _ (s-superblock c.before.before.before.before).2 c.before.before.read-flag2.ensures c.enum-told2.given.1)
+returns-2 c = sym (on flag_says _ (s-superblock c.before.before).2 c.read_flag-2.ensures c.in_default-read_flag.is)
 
-returns-3 : tie.Need-returns-3
+returns-3 : tie.Need-returns-in_default-read_flag-2
 unfolding coding_tools tools_from
-returns-3 c = sym (on flag_says _ (s-filter c.before.before.before.before).2 c.before.before.read-flag3.ensures c.enum-told3.given.1)
+returns-3 c = sym (on flag_says _ (s-filter c.before.before).2 c.read_flag-3.ensures c.in_default-read_flag-2.is)
 
-returns-4 : tie.Need-returns-4
+returns-4 : tie.Need-returns-in_default-flag_or
 unfolding coding_tools tools_from
-returns-4 c = sym (on flag_says _ (s-edge c.before.before.before.before).2 c.before.before.flag-or.ensures c.enum-told4.given.1)
+returns-4 c = sym (on flag_says _ (s-edge c.before.before).2 c.flag_or.ensures c.in_default-flag_or.is)
 
-returns-5 : tie.Need-returns-5
+returns-5 : tie.Need-returns-in_default-flag_or-2
 unfolding coding_tools tools_from
-returns-5 c = sym (on flag_says _ (s-interintra c.before.before.before.before).2 c.before.before.flag-or2.ensures c.enum-told5.given.1)
+returns-5 c = sym (on flag_says _ (s-interintra c.before.before).2 c.flag_or-2.ensures c.in_default-flag_or-2.is)
 
-returns-6 : tie.Need-returns-6
+returns-6 : tie.Need-returns
 unfolding coding_tools tools_from
-returns-6 c = c.read-tools-from.ensures ∙ sym (s-masked c.before.before).2
+returns-6 c = c.read_tools_from.ensures ∙ sym (s-masked c.before).2
 
-pub read-tools-spec : {M : Type 1} → statement M
-read-tools-spec =
+pub read_tools_spec : {M : Type 1} → statement M
+read_tools_spec =
     tie.close
     (tie.spec
     (λ c κs. search rules)

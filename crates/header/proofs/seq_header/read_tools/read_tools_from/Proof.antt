@@ -8,54 +8,54 @@ use Rattle.header.proofs.ReadLaws.{Chain, on}
 use Rattle.header.proofs.seq_header.read_tools.read_tools_from.Statement.{statement}
 use Rattle.header.proofs.seq_header.read_tools.read_tools_from.Tie as tie
 
-abbrev s-warped : tie.After-warped → Chain (Reading Tools)
+abbrev s-warped : tie.In-Value → Chain (Reading Tools)
 unfolding tools_from
 s-warped c =
-    let a = c.before.before.before.before.args in
-    (tools_from a.s.now a.b.pos a.full a.x, _, on flag_says _ refl c.before.before.flag-or.ensures c.warped.given.1)
+    let a = c.args in
+    (tools_from a.s.now a.b.pos a.full a.x, _, on flag_says _ refl c.flag_or.ensures c.in-Value.is)
 
-abbrev s-dual : tie.After-dual → Chain (Reading Tools)
+abbrev s-dual : tie.In-Value-flag_or → Chain (Reading Tools)
 unfolding tools_from
-s-dual c = (_, _, on flag_says _ (s-warped c.before.before.before.before).2 c.before.before.flag-or2.ensures c.dual.given.1)
+s-dual c = (_, _, on flag_says _ (s-warped c.before.before).2 c.flag_or-2.ensures c.in-Value-flag_or.is)
 
-abbrev s-hint : tie.After-hint → Chain (Reading Tools)
+abbrev s-hint : tie.In-Value-flag_or-2 → Chain (Reading Tools)
 unfolding tools_from
-s-hint c = (_, _, on flag_says _ (s-dual c.before.before.before.before).2 c.before.before.flag-or3.ensures c.hint.given.1)
+s-hint c = (_, _, on flag_says _ (s-dual c.before.before).2 c.flag_or-3.ensures c.in-Value-flag_or-2.is)
 
-abbrev s-jnt : tie.After-jnt → Chain (Reading Tools)
+abbrev s-jnt : tie.In-Value-flag_or-3 → Chain (Reading Tools)
 unfolding tools_from
-s-jnt c = (_, _, on flag_says _ (s-hint c.before.before.before.before).2 c.before.before.flag-or4.ensures c.jnt.given.1)
+s-jnt c = (_, _, on flag_says _ (s-hint c.before.before).2 c.flag_or-4.ensures c.in-Value-flag_or-3.is)
 
-abbrev s-mvs : tie.After-mvs → Chain (Reading Tools)
+abbrev s-mvs : tie.In-Value-flag_or-4 → Chain (Reading Tools)
 unfolding tools_from
-s-mvs c = (_, _, on flag_says _ (s-jnt c.before.before.before.before).2 c.before.before.flag-or5.ensures c.mvs.given.1)
+s-mvs c = (_, _, on flag_says _ (s-jnt c.before.before).2 c.flag_or-5.ensures c.in-Value-flag_or-4.is)
 
-returns : tie.Need-returns
+returns : tie.Need-returns-in_default
 unfolding tools_from
-returns c = sym (on flag_says _ refl c.before.before.flag-or.ensures c.enum_told.given.1)
+returns c = sym (on flag_says _ refl c.flag_or.ensures c.in_default.is)
 
-returns-2 : tie.Need-returns-2
+returns-2 : tie.Need-returns-in_default-flag_or
 unfolding tools_from
-returns-2 c = sym (on flag_says _ (s-warped c.before.before.before.before).2 c.before.before.flag-or2.ensures c.enum-told2.given.1)
+returns-2 c = sym (on flag_says _ (s-warped c.before.before).2 c.flag_or-2.ensures c.in_default-flag_or.is)
 
-returns-3 : tie.Need-returns-3
+returns-3 : tie.Need-returns-in_default-flag_or-2
 unfolding tools_from
-returns-3 c = sym (on flag_says _ (s-dual c.before.before.before.before).2 c.before.before.flag-or3.ensures c.enum-told3.given.1)
+returns-3 c = sym (on flag_says _ (s-dual c.before.before).2 c.flag_or-3.ensures c.in_default-flag_or-2.is)
 
-returns-4 : tie.Need-returns-4
+returns-4 : tie.Need-returns-in_default-flag_or-3
 unfolding tools_from
-returns-4 c = sym (on flag_says _ (s-hint c.before.before.before.before).2 c.before.before.flag-or4.ensures c.enum-told4.given.1)
+returns-4 c = sym (on flag_says _ (s-hint c.before.before).2 c.flag_or-4.ensures c.in_default-flag_or-3.is)
 
-returns-5 : tie.Need-returns-5
+returns-5 : tie.Need-returns-in_default-flag_or-4
 unfolding tools_from
-returns-5 c = sym (on flag_says _ (s-jnt c.before.before.before.before).2 c.before.before.flag-or5.ensures c.enum-told5.given.1)
+returns-5 c = sym (on flag_says _ (s-jnt c.before.before).2 c.flag_or-5.ensures c.in_default-flag_or-4.is)
 
-returns-6 : tie.Need-returns-6
+returns-6 : tie.Need-returns
 unfolding tools_from
-returns-6 c = sym (s-mvs c.before).2
+returns-6 c = sym (s-mvs c).2
 
-pub read-tools-from-spec : {M : Type 1} → statement M
-read-tools-from-spec =
+pub read_tools_from_spec : {M : Type 1} → statement M
+read_tools_from_spec =
     tie.close
     (tie.spec
     (λ c κs. search rules)

@@ -7,5 +7,5 @@ returns : tie.Need-returns
 unfolding retimed
 returns c = refl
 
-pub retime-spec : {M : Type 1} → statement M
-retime-spec = tie.close (tie.spec returns)
+pub retime_spec : {M : Type 1} → statement M
+retime_spec = tie.close (tie.spec returns)

@@ -5,4 +5,4 @@ use Rattle.syntax.proofs.cursor.Cursor.refuse_if.Tie as tie
 
 pub refuse_if_spec : {M : Type 1} → statement M
 unfolding refuse_at
-refuse_if_spec = tie.close (tie.spec (λ c. rw (lt-ltb _ _ c.before.before.requires, c.if1.true)) (λ c. rw (lt-ltb _ _ c.before.before.requires, c.if1.false)))
+refuse_if_spec = tie.close (tie.spec (λ c. rw (lt-ltb _ _ c.requires, c.if-t-self.true)) (λ c. rw (lt-ltb _ _ c.requires, c.if-t-self.false)))

@@ -5,4 +5,4 @@ use Rattle.syntax.proofs.cursor.Cursor.short_if.Statement.{statement}
 use Rattle.syntax.proofs.cursor.Cursor.short_if.Tie as tie
 
 pub short_if_spec : {M : Type 1} → statement M
-short_if_spec = tie.close (tie.spec (λ c κs. search rules) (λ c. (c.f-if.ensures.0, omega (arith, pow_mono c.before.before.requires))))
+short_if_spec = tie.close (tie.spec (λ c κs. search rules) (λ c. (c.f_if.ensures.0, omega (arith, pow_mono c.requires))))

@@ -23,4 +23,4 @@ width_if_spec =
     (λ c κs. search rules)
     (λ c. search rules)
     (λ c κs. search rules)
-    (λ c. c.f-if2.ensures.0 ∙ wide-same _ _ _ 65 (_ + 1) (omega arith) (omega arith)))
+    (λ c. c.f_if-2.ensures.0 ∙ wide-same _ _ _ 65 (_ + 1) (omega arith) (omega arith)))
