@@ -56,9 +56,9 @@ loop-again c =
       search-next i.1 g.placed,
       ap₂ ◌||◌ i.2 is ∙ sym (ap is_some next ∙ seen_next a.last (p x) x (sought a.last p i.0)),
       ⊎_elim
-          (λ w. rw w.1 (ap (λ (y : Obu). accepted (some (record { obu = y; start = o.start; end = o.end }))) (placed-obu g) ∙ sym (ap accepted (next ∙ rw (← i.2, ← is, w.0.taken)))))
-          (λ w. rw w.1 (i.3 ∙ sym (ap accepted (next ∙ rw (← i.2, ← is, w.0.left)))))
-          c.if-last-seen.branch,
+          (λ w. rw w.kept-is (ap (λ (y : Obu). accepted (some (record { obu = y; start = o.start; end = o.end }))) (placed-obu g) ∙ sym (ap accepted (next ∙ rw (← i.2, ← is, w.if-last-seen.true)))))
+          (λ w. rw w.kept-is (i.3 ∙ sym (ap accepted (next ∙ rw (← i.2, ← is, w.if-last-seen.false)))))
+          c.if-last-seen.branch-raw,
     )
 
 returns-2 : tie.Need-returns invariant-loop decreases-loop

@@ -23,13 +23,13 @@ returns : tie.Need-returns-in-Absent
 returns c =
     let a = c.args in
     let e = c.in-Absent.is in
-    rw e (omega arith, header-plain a.out.now a.at a.«obu-type» a.«size-flag» (omega (arith, c.requires.2)))
+    rw e (omega arith, header-plain a.out.now a.at a.obu_type a.size_flag (omega (arith, c.requires.2)))
 
 returns-2 : tie.Need-returns-in-Byte
 returns-2 c =
     let a = c.args in
     let e = c.in-Byte.is in
-    rw e (omega arith, header-ext a.out.now a.at a.«obu-type» a.«size-flag» _ (room c))
+    rw e (omega arith, header-ext a.out.now a.at a.obu_type a.size_flag _ (room c))
 
 pub put_header_spec : {M : Type 1} → statement M
 put_header_spec =

@@ -15,8 +15,8 @@ put-header-requires c κs = let s = c.before.before.before in (passes-small _ s.
 room : (c : tie.After-put_header-p)
     → (let s = c.before.before.before.before in
     let n = length s.args.payload.now in
-    c.put_header-p.result + length (leb_bytes n) + n ≤ length c.put_header-p.new.0)
-room c = let s = c.before.before.before.before in omega (arith, s.requires.1, c.put_header-p.ensures.0, c.put_header-p.auto)
+    c.put_header-p.result + length (leb_bytes n) + n ≤ length c.put_header-p.new.out)
+room c = let s = c.before.before.before.before in omega (arith, s.requires.1, c.put_header-p.ensures.0, c.put_header-p.auto.out)
 
 put-leb128-requires : tie.Need-put_leb128-q-requires
 put-leb128-requires c κs = size_room _ _ _ _ _ (omega arith) (room c.before.before.before)

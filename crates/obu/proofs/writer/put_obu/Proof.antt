@@ -9,7 +9,7 @@ use Rattle.obu.proofs.writer.put_obu.Statement.{statement}
 use Rattle.obu.proofs.writer.put_obu.Tie as tie
 
 -- where the type has passed
-passed : (c : tie.Else-not-is_known_type) → passes c.args.«obu-type» ≡ true
+passed : (c : tie.Else-not-is_known_type) → passes c.args.obu_type ≡ true
 passed c = sym c.is_known_type.ensures ∙ c.if-not-is_known_type.false
 
 returns : tie.Need-returns-then-not-is_known_type

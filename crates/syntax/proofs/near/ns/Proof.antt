@@ -22,12 +22,12 @@ ns_spec =
     (λ c κs. search rules)
     (λ c. let p = c.requires in omega (arith, few _ p.0 p.1 c.log2-z.ensures))
     (λ c.
-    let p = c.before.before.requires in
-    let e = c.log2.ensures in
+    let p = c.requires in
+    let e = c.log2-z.ensures in
     omega (arith, (place _ p.0 p.1 e).below, doubled _ p.0 p.1 e))
     (λ c κs. search rules)
     (λ c κs. search rules)
     (λ c κs.
-    let p = c.before.before.before.before.before.before.requires in
-    (omega (arith, (place _ p.0 p.1 c.before.before.before.before.log2.ensures).above), omega arith))
+    let p = c.requires in
+    (omega (arith, (place _ p.0 p.1 c.log2-z.ensures).above), omega arith))
     returns)
