@@ -3,14 +3,14 @@ use Rattle.blocks.proofs.CountLaws.{one_more, none_more}
 use Rattle.blocks.proofs.blocks.count_cue.Statement.{statement}
 use Rattle.blocks.proofs.blocks.count_cue.Tie as tie
 
-add-result : tie.Need-overflow-add-result
+add-result : tie.Need-overflow_add-result
 add-result c = search rules
 
-returns : tie.Need-returns
-returns c = one_more c.before.args.key c.before.args.n c.if1.true
+returns : tie.Need-returns-then-key
+returns c = one_more c.args.key c.args.n c.if-key.true
 
-returns-2 : tie.Need-returns-2
-returns-2 c = none_more c.before.args.key c.before.args.n c.if1.false
+returns-2 : tie.Need-returns
+returns-2 c = none_more c.args.key c.args.n c.if-key.false
 
-pub count-cue-spec : {M : Type 1} → statement M
-count-cue-spec = tie.close (tie.spec add-result returns returns-2)
+pub count_cue_spec : {M : Type 1} → statement M
+count_cue_spec = tie.close (tie.spec add-result returns returns-2)

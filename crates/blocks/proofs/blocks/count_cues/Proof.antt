@@ -6,32 +6,32 @@ use Prim.Native.Nat.{◌-◌}
 use Rattle.blocks.proofs.blocks.count_cues.Statement.{statement}
 use Rattle.blocks.proofs.blocks.count_cues.Tie as tie
 
-abbrev invariant-loop : tie.invariant-loop
+abbrev invariant-loop : tie.invariant-loop-i
 invariant-loop gop segments count i₀ n₀ i n = CountingAll gop segments i n
 
-abbrev decreases-loop : tie.decreases-loop
+abbrev decreases-loop : tie.decreases-loop-i
 decreases-loop gop segments count i₀ n₀ i n = segment_count segments - i
 
-loop-holds : tie.Need-loop-init invariant-loop decreases-loop
+loop-holds : tie.Need-loop-i-init invariant-loop decreases-loop
 loop-holds c = all_start _ _
 
-count-segment-requires : tie.Need-count-segment-requires invariant-loop decreases-loop
-count-segment-requires c κs = c.before.before.before.before.before.requires.0
+count-segment-requires : tie.Need-count_segment-n-requires invariant-loop decreases-loop
+count-segment-requires c κs = c.requires.0
 
-add-n : tie.Need-overflow-add-n invariant-loop decreases-loop
+add-n : tie.Need-overflow_add-n invariant-loop decreases-loop
 add-n c =
-    let r = rw c.before.frames-of.ensures at c.count-segment.ensures in
-    let p = c.before.before.before.before.before.before.requires in
-    omega (arith, all_small c.before.before.before.loop.invariant (omega arith) _ p.0 r, p.1)
+    let r = rw c.frames_of-frames.ensures at c.count_segment-n.ensures in
+    let p = c.requires in
+    omega (arith, all_small c.loop-i.invariant (omega arith) _ p.0 r, p.1)
 
-loop-again : tie.Need-loop-preserved invariant-loop decreases-loop
-loop-again c = all-turn c.before.before.before.loop.invariant (omega arith) _ (rw c.before.frames-of.ensures at c.count-segment.ensures)
+loop-again : tie.Need-loop-i-preserved invariant-loop decreases-loop
+loop-again c = all-turn c.loop-i.invariant (omega arith) _ (rw c.frames_of-frames.ensures at c.count_segment-n.ensures)
 
 returns : tie.Need-returns invariant-loop decreases-loop
-returns c = all_end c.before.loop.invariant (omega arith)
+returns c = all_end c.loop-i.invariant (omega arith)
 
-pub count-cues-spec : {M : Type 1} → statement M
-count-cues-spec =
+pub count_cues_spec : {M : Type 1} → statement M
+count_cues_spec =
     tie.close
     (tie.spec
     invariant-loop

@@ -4,63 +4,63 @@ use Rattle.blocks.proofs.LayLaws.{next-some, next-left, Segmenting, segment-star
 use Rattle.blocks.proofs.blocks.put_segment.Statement.{statement}
 use Rattle.blocks.proofs.blocks.put_segment.Tie as tie
 
-abbrev invariant-loop : tie.invariant-loop
+abbrev invariant-loop : tie.invariant-loop-s
 invariant-loop list₀ cues₀ at c segment gop frames s₀ p₀ q₀ list cues s p q = Segmenting list₀ cues₀ at c segment gop frames list cues p q s
 
-abbrev decreases-loop : tie.decreases-loop
+abbrev decreases-loop : tie.decreases-loop-s
 decreases-loop list₀ cues₀ at c segment gop frames s₀ p₀ q₀ list cues s p q = s.left
 
-loop-holds : tie.Need-loop-init invariant-loop decreases-loop
-loop-holds c = let a = c.before.before.args in segment-start a.list.now a.cues.now a.at a.c a.segment a.gop a.frames c.before.before.requires.0
+loop-holds : tie.Need-loop-s-init invariant-loop decreases-loop
+loop-holds c = let a = c.args in segment-start a.list.now a.cues.now a.at a.c a.segment a.gop a.frames c.requires.0
 
-put-block-requires : tie.Need-put-block-requires invariant-loop decreases-loop
+put-block-requires : tie.Need-put_block-requires invariant-loop decreases-loop
 put-block-requires c κs =
     let n = c.before in
     let l = n.before.before.before in
-    let g = l.before.before.before.requires in
-    let h = n.before.if1.true in
-    (segment-list-room l.loop.invariant h n.next-block.ensures, (next-some _ l.loop.s n.next-block.ensures h g.1.0, g.1.1))
+    let g = l.requires in
+    let h = n.loop-s-test.true in
+    (segment-list-room l.loop-s.invariant h n.next_block-b.ensures, (next-some _ l.loop-s.s n.next_block-b.ensures h g.1.0, g.1.1))
 
-put-cue-requires : tie.Need-put-cue-requires invariant-loop decreases-loop
+put-cue-requires : tie.Need-put_cue-q-requires invariant-loop decreases-loop
 put-cue-requires c κs =
     let n = c.before.before.before.before.before in
     let l = n.before.before.before in
-    let g = l.before.before.before.requires in
-    let h = n.before.if1.true in
-    let e = n.next-block.ensures in
-    let k = next-some _ l.loop.s e h g.1.0 in
-    (segment-cue-room l.loop.invariant h e k, omega (arith, segment-small l.loop.invariant h e, k))
+    let g = l.requires in
+    let h = n.loop-s-test.true in
+    let e = n.next_block-b.ensures in
+    let k = next-some _ l.loop-s.s e h g.1.0 in
+    (segment-cue-room l.loop-s.invariant h e k, omega (arith, segment-small l.loop-s.invariant h e, k))
 
-add-p : tie.Need-overflow-add-p invariant-loop decreases-loop
-add-p c = let n = c.before.before.before.before.before.before.before.before.before in omega (arith, segment-small n.before.before.before.loop.invariant n.before.if1.true n.next-block.ensures)
+add-p : tie.Need-overflow_add-p invariant-loop decreases-loop
+add-p c = let n = c.before.before.before.before.before.before.before.before.before in omega (arith, segment-small n.loop-s.invariant n.loop-s-test.true n.next_block-b.ensures)
 
-loop-less : tie.Need-loop-smaller invariant-loop decreases-loop
+loop-less : tie.Need-loop-s-smaller invariant-loop decreases-loop
 loop-less c =
     let n = c.before.before.before.before.before.before.before.before.before.before in
     let l = n.before.before.before in
-    let e = n.next-block.ensures in
-    omega (arith, next-left _ l.loop.s e, next-some _ l.loop.s e n.before.if1.true l.before.before.before.requires.1.0)
+    let e = n.next_block-b.ensures in
+    omega (arith, next-left _ l.loop-s.s e, next-some _ l.loop-s.s e n.loop-s-test.true l.requires.1.0)
 
-loop-again : tie.Need-loop-preserved invariant-loop decreases-loop
+loop-again : tie.Need-loop-s-preserved invariant-loop decreases-loop
 loop-again c =
     let n = c.before.before.before.before.before.before.before.before.before.before in
     let l = n.before.before.before in
-    let h = n.before.if1.true in
-    let e = n.next-block.ensures in
-    let w = c.before.before.before.before.put-cue.ensures in
-    segment-turn l.loop.invariant h e _ _ _ (next-some _ l.loop.s e h l.before.before.before.requires.1.0) c.before.before.before.before.before.before.before.before.put-block.ensures w.0 w.1
+    let h = n.loop-s-test.true in
+    let e = n.next_block-b.ensures in
+    let w = c.put_cue-q.ensures in
+    segment-turn l.loop-s.invariant h e _ _ _ (next-some _ l.loop-s.s e h l.requires.1.0) c.put_block.ensures w.0 w.1
 
-same_length : tie.Need-same-length invariant-loop decreases-loop
-same_length c = c.before.before.loop.invariant.laying.list-len
+same_length : tie.Need-shape_of-list invariant-loop decreases-loop
+same_length c = c.loop-s.invariant.laying.list-len
 
-same-length-2 : tie.Need-same-length-2 invariant-loop decreases-loop
-same-length-2 c = c.before.before.loop.invariant.laying.cues-len
+same-length-2 : tie.Need-shape_of-cues invariant-loop decreases-loop
+same-length-2 c = c.loop-s.invariant.laying.cues-len
 
 returns : tie.Need-returns invariant-loop decreases-loop
-returns c = segment-end c.before.before.loop.invariant c.if1.false
+returns c = segment-end c.loop-s.invariant c.loop-s-test.false
 
-pub put-segment-spec : {M : Type 1} → statement M
-put-segment-spec =
+pub put_segment_spec : {M : Type 1} → statement M
+put_segment_spec =
     tie.close
     (tie.spec
     invariant-loop

@@ -5,7 +5,7 @@ use Rattle.blocks.proofs.numbers.frames_of.Statement.{statement}
 use Rattle.blocks.proofs.numbers.frames_of.Tie as tie
 
 returns : tie.Need-returns
-returns c = ap (λ (x : Segment). x.frames) c.segment-of.ensures
+returns c = ap (λ (x : Segment). x.frames) c.segment_of-segment.ensures
 
-pub frames-of-spec : {M : Type 1} → statement M
-frames-of-spec = tie.close (tie.spec (λ c κs. search rules) returns)
+pub frames_of_spec : {M : Type 1} → statement M
+frames_of_spec = tie.close (tie.spec (λ c κs. search rules) returns)

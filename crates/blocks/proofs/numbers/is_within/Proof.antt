@@ -8,10 +8,10 @@ use Rattle.blocks.proofs.numbers.is_within.Tie as tie
 
 returns : tie.Need-returns
 returns c =
-    let s = c.before.before.before.before.before.args.picture.now in
-    let e = c.before.before.segment-of.ensures in
-    ap₂ ◌&&◌ (c.before.is-inside.ensures ∙ ap (λ (x : Segment). inside s x.key_start x.key_end) e)
-    (c.is-inside2.ensures ∙ ap (λ (x : Segment). inside s x.golden_start x.golden_end) e)
+    let s = c.args.picture.now in
+    let e = c.segment_of-segment.ensures in
+    ap₂ ◌&&◌ (c.is_inside-key.ensures ∙ ap (λ (x : Segment). inside s x.key_start x.key_end) e)
+    (c.is_inside-golden.ensures ∙ ap (λ (x : Segment). inside s x.golden_start x.golden_end) e)
 
-pub is-within-spec : {M : Type 1} → statement M
-is-within-spec = tie.close (tie.spec (λ c κs. search rules) (λ c κs. search rules) (λ c κs. search rules) returns)
+pub is_within_spec : {M : Type 1} → statement M
+is_within_spec = tie.close (tie.spec (λ c κs. search rules) (λ c κs. search rules) (λ c κs. search rules) returns)

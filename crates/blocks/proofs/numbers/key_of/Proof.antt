@@ -7,8 +7,8 @@ use Rattle.blocks.proofs.numbers.key_of.Tie as tie
 
 returns : tie.Need-returns
 returns c =
-    let s = c.before.before.before.before.args.picture.now in
-    c.payload.ensures ∙ ap (λ (x : Segment). part s x.key_start x.key_end) c.before.segment-of.ensures
+    let s = c.args.picture.now in
+    c.payload.ensures ∙ ap (λ (x : Segment). part s x.key_start x.key_end) c.segment_of-segment.ensures
 
-pub key-of-spec : {M : Type 1} → statement M
-key-of-spec = tie.close (tie.spec (λ c κs. search rules) (λ c κs. search rules) returns)
+pub key_of_spec : {M : Type 1} → statement M
+key_of_spec = tie.close (tie.spec (λ c κs. search rules) (λ c κs. search rules) returns)

@@ -4,10 +4,10 @@ use Rattle.blocks.proofs.numbers.segment_of.Statement.{statement}
 use Rattle.blocks.proofs.numbers.segment_of.Tie as tie
 
 returns : tie.Need-returns
-returns c = let a = c.before.before.before.before.before.args in segment-at a.segments.now a.i
+returns c = let a = c.args in segment-at a.segments.now a.i
 
-pub segment-of-spec : {M : Type 1} → statement M
-segment-of-spec =
+pub segment_of_spec : {M : Type 1} → statement M
+segment_of_spec =
     tie.close
     (tie.spec
     (λ c. search rules)

@@ -6,33 +6,33 @@ use Rattle.container.proofs.ListLaws.{Checking, checking-start, checking-fall, c
 use Rattle.container.proofs.lists.check_ends.Statement.{statement}
 use Rattle.container.proofs.lists.check_ends.Tie as tie
 
-abbrev invariant-loop : tie.invariant-loop
+abbrev invariant-loop : tie.invariant-loop-i
 invariant-loop units ends len at₀ i₀ at i = Checking units ends at i
 
-abbrev decreases-loop : tie.decreases-loop
+abbrev decreases-loop : tie.decreases-loop-i
 decreases-loop units ends len at₀ i₀ at i = length ends - i
 
-loop-holds : tie.Need-loop-init invariant-loop decreases-loop
+loop-holds : tie.Need-loop-i-init invariant-loop decreases-loop
 loop-holds c = checking-start
 
-cast-e : tie.Need-overflow-cast-e invariant-loop decreases-loop
-cast-e c = omega (arith, c.shared-slice-known.given c.before.before.loop.i)
+cast-e : tie.Need-overflow_cast-e invariant-loop decreases-loop
+cast-e c = omega (arith, c.shared_slice_known-1.given c.loop-i.i)
 
-returns : tie.Need-returns invariant-loop decreases-loop
+returns : tie.Need-returns-then-e-at invariant-loop decreases-loop
 returns c =
     let i = c.before.before in
-    checking-fall i.before.loop.invariant i.loop-test.true c.if1.true
+    checking-fall i.loop-i.invariant i.loop-i-test.true c.if-e-at.true
 
-loop-again : tie.Need-loop-preserved invariant-loop decreases-loop
+loop-again : tie.Need-loop-i-preserved invariant-loop decreases-loop
 loop-again c =
     let i = c.before.before in
-    checking-next i.before.loop.invariant i.loop-test.true c.if1.false
+    checking-next i.loop-i.invariant i.loop-i-test.true c.if-e-at.false
 
-returns-2 : tie.Need-returns-2 invariant-loop decreases-loop
-returns-2 c = checking-end c.before.loop.invariant (omega arith)
+returns-2 : tie.Need-returns invariant-loop decreases-loop
+returns-2 c = checking-end c.loop-i.invariant (omega arith)
 
-pub check-ends-spec : {M : Type 1} → statement M
-check-ends-spec =
+pub check_ends_spec : {M : Type 1} → statement M
+check_ends_spec =
     tie.close
     (tie.spec
     invariant-loop

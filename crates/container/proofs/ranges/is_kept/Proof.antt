@@ -5,12 +5,12 @@ use Rattle.container.specs.code.Ranges.{is_kept}
 use Rattle.container.proofs.ranges.is_kept.Statement.{statement}
 use Rattle.container.proofs.ranges.is_kept.Tie as tie
 
-is-type-requires : tie.Need-is-type-requires
+is-type-requires : tie.Need-is_type-requires
 is-type-requires c κs = search rules
 
 returns : tie.Need-returns
 unfolding is_kept
-returns c = ap (λ (x : Bool). c.before.args.keep || not x) c.is-type.ensures
+returns c = ap (λ (x : Bool). c.args.keep || not x) c.is_type.ensures
 
-pub is-kept-spec : {M : Type 1} → statement M
-is-kept-spec = tie.close (tie.spec is-type-requires returns)
+pub is_kept_spec : {M : Type 1} → statement M
+is_kept_spec = tie.close (tie.spec is-type-requires returns)

@@ -8,60 +8,60 @@ use Rattle.container.proofs.RangeLaws.{range-within, range-found, Putting, put-s
 use Rattle.container.proofs.ranges.put_written.Statement.{statement}
 use Rattle.container.proofs.ranges.put_written.Tie as tie
 
-abbrev invariant-loop : tie.invariant-loop
+abbrev invariant-loop : tie.invariant-loop-at
 invariant-loop s a b keep out₀ to at₀ w₀ out at w = Putting s a b keep out₀ to at w out
 
-abbrev decreases-loop : tie.decreases-loop
+abbrev decreases-loop : tie.decreases-loop-at
 decreases-loop s a b keep out₀ to at₀ w₀ out at w = b - at
 
 -- the OBU that obu_at gave
-got : (c : tie.After-o invariant-loop decreases-loop)
-    → (let o = c.o.given.0.0 in
-    let l = c.before.before.before.before in
-    IsPlaced l.before.before.before.args.s.now l.loop.at o.obu_type (extension_says o.extension) o.start o.end)
-got c = is-placed _ _ (sym c.before.before.obu-at.ensures ∙ ap obu_says c.o.given.1)
+got : (c : tie.In-Found invariant-loop decreases-loop)
+    → (let o = c.in-Found.o in
+    let l = c.before.before.before in
+    IsPlaced l.args.s.now l.loop-at.at o.obu_type (extension_says o.extension) o.start o.end)
+got c = is-placed _ _ (sym c.obu_at.ensures ∙ ap obu_says c.in-Found.is)
 
-loop-holds : tie.Need-loop-init invariant-loop decreases-loop
-loop-holds c = put-start c.before.before.requires
+loop-holds : tie.Need-loop-at-init invariant-loop decreases-loop
+loop-holds c = put-start c.requires
 
-same_length : tie.Need-same-length invariant-loop decreases-loop
-same_length c = c.before.before.before.loop.invariant.long
+same_length : tie.Need-shape_of-out-in_default invariant-loop decreases-loop
+same_length c = c.loop-at.invariant.long
 
-returns : tie.Need-returns invariant-loop decreases-loop
+returns : tie.Need-returns-in_default invariant-loop decreases-loop
 returns c =
     let k = c.before in
-    let l = k.before.before.loop in
-    let t = k.before.loop-test.true in
+    let l = k.loop-at in
+    let t = k.loop-at-test.true in
     let r = l.invariant.range in
-    absurd (range-found _ r t (not_found _ _ k.obu-at.result c.match.keys2 (omega (arith, range-within r)) k.obu-at.ensures))
+    absurd (range-found _ r t (not_found _ _ k.obu_at.result c.in_default.in_default-own.keys2 (omega (arith, range-within r)) k.obu_at.ensures))
 
-put-kept-requires : tie.Need-put-kept-requires invariant-loop decreases-loop
+put-kept-requires : tie.Need-put_kept-w-requires invariant-loop decreases-loop
 put-kept-requires c κs =
-    let b = c.before.before in
-    let i = b.before.before.before in
-    (put-passes (got b), put-room i.before.loop.invariant i.loop-test.true (got b))
+    let b = c.before in
+    let i = b.before.before in
+    (put-passes (got b), put-room i.loop-at.invariant i.loop-at-test.true (got b))
 
-loop-less : tie.Need-loop-smaller invariant-loop decreases-loop
+loop-less : tie.Need-loop-at-smaller invariant-loop decreases-loop
 loop-less c =
-    let b = c.before.before.before.before.before in
-    let i = b.before.before.before in
+    let b = c.before.before.before.before in
+    let i = b.before.before in
     let g = (got b).placed in
-    omega (arith, i.loop-test.true, g.after, g.ends)
+    omega (arith, i.loop-at-test.true, g.after, g.ends)
 
-loop-again : tie.Need-loop-preserved invariant-loop decreases-loop
+loop-again : tie.Need-loop-at-preserved invariant-loop decreases-loop
 loop-again c =
-    let b = c.before.before.before.before.before in
-    let i = b.before.before.before in
-    put_next i.before.loop.invariant i.loop-test.true (got b) c.before.before.put-kept.ensures
+    let b = c.before.before.before.before in
+    let i = b.before.before in
+    put_next i.loop-at.invariant i.loop-at-test.true (got b) c.put_kept-w.ensures
 
-same-length-2 : tie.Need-same-length-2 invariant-loop decreases-loop
-same-length-2 c = c.before.loop.invariant.long
+same-length-2 : tie.Need-shape_of-out invariant-loop decreases-loop
+same-length-2 c = c.loop-at.invariant.long
 
-returns-2 : tie.Need-returns-2 invariant-loop decreases-loop
-returns-2 c = put-end c.before.loop.invariant (omega arith)
+returns-2 : tie.Need-returns invariant-loop decreases-loop
+returns-2 c = put-end c.loop-at.invariant (omega arith)
 
-pub put-written-spec : {M : Type 1} → statement M
-put-written-spec =
+pub put_written_spec : {M : Type 1} → statement M
+put_written_spec =
     tie.close
     (tie.spec
     invariant-loop

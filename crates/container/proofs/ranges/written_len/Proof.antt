@@ -8,60 +8,60 @@ use Rattle.container.proofs.RangeLaws.{range-within, range-found, Measuring, mea
 use Rattle.container.proofs.ranges.written_len.Statement.{statement}
 use Rattle.container.proofs.ranges.written_len.Tie as tie
 
-abbrev invariant-loop : tie.invariant-loop
+abbrev invariant-loop : tie.invariant-loop-at
 invariant-loop s a b keep at₀ n₀ at n = Measuring s a b keep at n
 
-abbrev decreases-loop : tie.decreases-loop
+abbrev decreases-loop : tie.decreases-loop-at
 decreases-loop s a b keep at₀ n₀ at n = b - at
 
 -- the OBU that obu_at gave
-got : (c : tie.After-o invariant-loop decreases-loop)
-    → (let o = c.o.given.0.0 in
-    let l = c.before.before.before.before in
-    IsPlaced l.before.before.args.s.now l.loop.at o.obu_type (extension_says o.extension) o.start o.end)
-got c = is-placed _ _ (sym c.before.before.obu-at.ensures ∙ ap obu_says c.o.given.1)
+got : (c : tie.In-Found invariant-loop decreases-loop)
+    → (let o = c.in-Found.o in
+    let l = c.before.before.before in
+    IsPlaced l.args.s.now l.loop-at.at o.obu_type (extension_says o.extension) o.start o.end)
+got c = is-placed _ _ (sym c.obu_at.ensures ∙ ap obu_says c.in-Found.is)
 
-loop-holds : tie.Need-loop-init invariant-loop decreases-loop
-loop-holds c = measure-start c.before.requires
+loop-holds : tie.Need-loop-at-init invariant-loop decreases-loop
+loop-holds c = measure-start c.requires
 
-returns : tie.Need-returns invariant-loop decreases-loop
+returns : tie.Need-returns-in_default invariant-loop decreases-loop
 returns c =
     let k = c.before in
-    let l = k.before.before.loop in
-    let t = k.before.loop-test.true in
+    let l = k.loop-at in
+    let t = k.loop-at-test.true in
     let r = l.invariant.range in
-    absurd (range-found _ r t (not_found _ _ k.obu-at.result c.match.keys2 (omega (arith, range-within r)) k.obu-at.ensures))
+    absurd (range-found _ r t (not_found _ _ k.obu_at.result c.in_default.in_default-own.keys2 (omega (arith, range-within r)) k.obu_at.ensures))
 
-kept-len-requires : tie.Need-kept-len-requires invariant-loop decreases-loop
+kept-len-requires : tie.Need-kept_len-n-requires invariant-loop decreases-loop
 kept-len-requires c κs =
-    let b = c.before in
-    let i = b.before.before.before in
-    measure-short i.before.loop.invariant i.loop-test.true (got b)
+    let b = c in
+    let i = b.before.before in
+    measure-short i.loop-at.invariant i.loop-at-test.true (got b)
 
-add-n : tie.Need-overflow-add-n invariant-loop decreases-loop
+add-n : tie.Need-overflow_add-n invariant-loop decreases-loop
 add-n c =
-    let b = c.before.before in
-    let i = b.before.before.before in
-    omega (arith, measure-fits i.before.loop.invariant i.loop-test.true (got b) c.kept-len.ensures)
+    let b = c.before in
+    let i = b.before.before in
+    omega (arith, measure-fits i.loop-at.invariant i.loop-at-test.true (got b) c.kept_len-n.ensures)
 
-loop-less : tie.Need-loop-smaller invariant-loop decreases-loop
+loop-less : tie.Need-loop-at-smaller invariant-loop decreases-loop
 loop-less c =
-    let b = c.before.before in
-    let i = b.before.before.before in
+    let b = c.before in
+    let i = b.before.before in
     let g = (got b).placed in
-    omega (arith, i.loop-test.true, g.after, g.ends)
+    omega (arith, i.loop-at-test.true, g.after, g.ends)
 
-loop-again : tie.Need-loop-preserved invariant-loop decreases-loop
+loop-again : tie.Need-loop-at-preserved invariant-loop decreases-loop
 loop-again c =
-    let b = c.before.before in
-    let i = b.before.before.before in
-    measure-next i.before.loop.invariant i.loop-test.true (got b) c.kept-len.ensures
+    let b = c.before in
+    let i = b.before.before in
+    measure-next i.loop-at.invariant i.loop-at-test.true (got b) c.kept_len-n.ensures
 
-returns-2 : tie.Need-returns-2 invariant-loop decreases-loop
-returns-2 c = measure-end c.before.loop.invariant (omega arith)
+returns-2 : tie.Need-returns invariant-loop decreases-loop
+returns-2 c = measure-end c.loop-at.invariant (omega arith)
 
-pub written-len-spec : {M : Type 1} → statement M
-written-len-spec =
+pub written_len_spec : {M : Type 1} → statement M
+written_len_spec =
     tie.close
     (tie.spec
     invariant-loop

@@ -5,22 +5,22 @@ use Rattle.container.proofs.StreamTurns.{roomy-most}
 use Rattle.container.proofs.stream.is_roomy.Statement.{statement}
 use Rattle.container.proofs.stream.is_roomy.Tie as tie
 
-returns : tie.Need-returns
+returns : tie.Need-returns-then-has_room
 returns c =
     let h = c.before in
     let m = h.before in
-    roomy-most _ m.before.before.requires (rw m.most-units.ensures at (sym h.has_room.ensures ∙ c.if1.true))
+    roomy-most _ m.requires (rw m.most_units.ensures at (sym h.has_room.ensures ∙ c.if-has_room.true))
 
-measure-requires : tie.Need-measure-requires
-measure-requires c κs = c.before.before.before.before.requires.stream
+measure-requires : tie.Need-measure-size-requires
+measure-requires c κs = c.requires.stream
 
-returns-2 : tie.Need-returns-2
+returns-2 : tie.Need-returns
 returns-2 c =
-    let a = c.before.before.before.before.before.before.args in
-    c.has-room2.ensures ∙ sym (ap (λ x. sizes_fit x (record { bytes = a.out-len; ends = a.ends-len })) c.before.measure.ensures)
+    let a = c.args in
+    c.has_room-2.ensures ∙ sym (ap (λ x. sizes_fit x (record { bytes = a.out_len; ends = a.ends_len })) c.measure-size.ensures)
 
-pub is-roomy-spec : {M : Type 1} → statement M
-is-roomy-spec =
+pub is_roomy_spec : {M : Type 1} → statement M
+is_roomy_spec =
     tie.close
     (tie.spec
     (λ c κs. search rules)

@@ -8,46 +8,46 @@ use Rattle.container.proofs.stream.split_obu_stream.Statement.{statement}
 use Rattle.container.proofs.stream.split_obu_stream.Tie as tie
 
 -- what the survey gave
-seen : (c : tie.After-known-told2)
-    → (let a = c.before.before.before.before.before.before.before.before.args in
-    let g = c.before.frames.given.0 in
+seen : (c : tie.In-Stream)
+    → (let a = c.args in
+    let g = c.frames-1.given.0 in
     Surveyed a.«data».now g.0 g.1.0)
 seen c =
-    let n = c.before in
-    surveyed _ _ _ (omega arith) (sym (ap seen_says n.frames.given.1) ∙ n.before.before.survey.ensures)
+    let n = c in
+    surveyed _ _ _ (omega arith) (sym (ap seen_says n.in-Stream.is) ∙ n.survey.ensures)
 
-returns : tie.Need-returns
+returns : tie.Need-returns-then-input-gt-LIMIT
 returns c = read-long _ _ _ (omega arith)
 
-is-roomy-requires : tie.Need-is-roomy-requires
+is-roomy-requires : tie.Need-is_roomy-requires
 is-roomy-requires c κs = seen c
 
-returns-2 : tie.Need-returns-2
+returns-2 : tie.Need-returns-then-not-is_roomy
 returns-2 c =
     let r = c.before in
-    read-full _ _ _ (omega arith) (seen r.before).stream (sym r.is-roomy.ensures ∙ not-true _ c.if2.true)
+    read-full _ _ _ (omega arith) (seen r.before).stream (sym r.is_roomy.ensures ∙ c.if-not-is_roomy.true)
 
-write-requires : tie.Need-write-requires
+write-requires : tie.Need-write-size-requires
 write-requires c κs =
     let e = c.before.before in
     let r = e.before in
-    read-room _ _ _ (omega arith) (seen r.before).stream (sym r.is-roomy.ensures ∙ not-false _ e.if2.false)
+    read-room _ _ _ (omega arith) (seen r.before).stream (sym r.is_roomy.ensures ∙ e.if-not-is_roomy.false)
 
-returns-3 : tie.Need-returns-3
+returns-3 : tie.Need-returns-in-Refused
 returns-3 c =
-    let k = c.before in
-    read-bad _ _ _ (omega arith) _ (sym k.before.before.survey.ensures ∙ ap seen_says k.k.given.1)
+    let k = c in
+    read-bad _ _ _ (omega arith) _ (sym k.survey.ensures ∙ ap seen_says k.in-Refused.is)
 
-returns-4 : tie.Need-returns-4
+returns-4 : tie.Need-returns-else-not-is_roomy
 returns-4 c =
     let w = c.before.before.before.before in
     let e = w.before.before.before in
     let r = e.before in
-    let d = w.write.ensures in
-    read_done _ _ _ (omega arith) (seen r.before).stream (sym r.is-roomy.ensures ∙ not-false _ e.if2.false) d.0 d.1.0 d.1.1
+    let d = w.write-size.ensures in
+    read_done _ _ _ (omega arith) (seen r.before).stream (sym r.is_roomy.ensures ∙ e.if-not-is_roomy.false) d.0 d.1.0 d.1.1
 
-pub split-obu-stream-spec : {M : Type 1} → statement M
-split-obu-stream-spec =
+pub split_obu_stream_spec : {M : Type 1} → statement M
+split_obu_stream_spec =
     tie.close
     (tie.spec
     returns

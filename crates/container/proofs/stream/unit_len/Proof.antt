@@ -3,17 +3,17 @@ use Rattle.container.proofs.StreamTurns.{lead-ranged, inner-ranged, unit-fits, u
 use Rattle.container.proofs.stream.unit_len.Statement.{statement}
 use Rattle.container.proofs.stream.unit_len.Tie as tie
 
-written-len-requires : tie.Need-written-len-requires
-written-len-requires c κs = lead-ranged c.before.requires
+written-len-requires : tie.Need-written_len-n-requires
+written-len-requires c κs = lead-ranged c.requires
 
-written-len-requires-2 : tie.Need-written-len-requires-2
-written-len-requires-2 c κs = inner-ranged c.before.before.requires
+written-len-requires-2 : tie.Need-written_len-requires
+written-len-requires-2 c κs = inner-ranged c.requires
 
-add-result : tie.Need-overflow-add-result
-add-result c = omega (arith, unit-fits c.before.before.before.requires c.before.written-len.ensures c.written-len2.ensures)
+add-result : tie.Need-overflow_add-result
+add-result c = omega (arith, unit-fits c.requires c.written_len-n.ensures c.written_len.ensures)
 
 returns : tie.Need-returns
-returns c = unit-length c.before.written-len.ensures c.written-len2.ensures
+returns c = unit-length c.written_len-n.ensures c.written_len.ensures
 
-pub unit-len-spec : {M : Type 1} → statement M
-unit-len-spec = tie.close (tie.spec written-len-requires written-len-requires-2 add-result returns)
+pub unit_len_spec : {M : Type 1} → statement M
+unit_len_spec = tie.close (tie.spec written-len-requires written-len-requires-2 add-result returns)

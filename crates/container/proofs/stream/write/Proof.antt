@@ -6,50 +6,50 @@ use Rattle.container.proofs.StreamTurns.{Writing, writing_start, writing-room, w
 use Rattle.container.proofs.stream.write.Statement.{statement}
 use Rattle.container.proofs.stream.write.Tie as tie
 
-abbrev invariant-loop : tie.invariant-loop
+abbrev invariant-loop : tie.invariant-loop-at
 invariant-loop s frames out₀ ends₀ at₀ left₀ w₀ u₀ out ends at left w u = Writing s at left out₀ ends₀ w u out ends
 
-abbrev decreases-loop : tie.decreases-loop
+abbrev decreases-loop : tie.decreases-loop-at
 decreases-loop s frames out₀ ends₀ at₀ left₀ w₀ u₀ out ends at left w u = length s - at
 
-loop-holds : tie.Need-loop-init invariant-loop decreases-loop
-loop-holds c = writing_start c.before.before.before.requires
+loop-holds : tie.Need-loop-at-init invariant-loop decreases-loop
+loop-holds c = writing_start c.requires
 
-next-unit-requires : tie.Need-next-unit-requires invariant-loop decreases-loop
-next-unit-requires c κs = (c.loop-test.true, c.before.loop.invariant.rest)
+next-unit-requires : tie.Need-next_unit-x-requires invariant-loop decreases-loop
+next-unit-requires c κs = (c.loop-at-test.true, c.loop-at.invariant.rest)
 
-put-unit-requires : tie.Need-put-unit-requires invariant-loop decreases-loop
-put-unit-requires c κs = let n = c.before in writing-room n.before.before.loop.invariant n.next-unit.ensures
+put-unit-requires : tie.Need-put_unit-w-requires invariant-loop decreases-loop
+put-unit-requires c κs = let n = c.before in writing-room n.loop-at.invariant n.next_unit-x.ensures
 
-cast_ends : tie.Need-overflow-cast-ends invariant-loop decreases-loop
+cast_ends : tie.Need-overflow_cast-ends invariant-loop decreases-loop
 cast_ends c =
     let p = c.before.before in
     let n = p.before.before in
-    omega (arith, writing-small n.before.before.loop.invariant n.next-unit.ensures p.put-unit.ensures)
+    omega (arith, writing-small n.loop-at.invariant n.next_unit-x.ensures p.put_unit-w.ensures)
 
-slice-write-ends : tie.Need-slice-write-ends invariant-loop decreases-loop
+slice-write-ends : tie.Need-bounds-ends-u invariant-loop decreases-loop
 slice-write-ends c =
     let p = c.before.before in
     let n = p.before.before in
-    writing-slot n.before.before.loop.invariant n.next-unit.ensures p.put-unit.ensures
+    writing-slot n.loop-at.invariant n.next_unit-x.ensures p.put_unit-w.ensures
 
-loop-less : tie.Need-loop-smaller invariant-loop decreases-loop
-loop-less c = let n = c.before.before.before.before.before in omega (arith, n.before.loop-test.true, n.next-unit.ensures.some)
+loop-less : tie.Need-loop-at-smaller invariant-loop decreases-loop
+loop-less c = let n = c.before.before.before.before.before in omega (arith, n.loop-at-test.true, n.next_unit-x.ensures.some)
 
-loop-again : tie.Need-loop-preserved invariant-loop decreases-loop
+loop-again : tie.Need-loop-at-preserved invariant-loop decreases-loop
 loop-again c =
     let p = c.before.before.before in
     let n = p.before.before in
-    writing-next n.before.before.loop.invariant n.next-unit.ensures p.put-unit.ensures c.less.ensures
+    writing-next n.loop-at.invariant n.next_unit-x.ensures p.put_unit-w.ensures c.less-left.ensures
 
-same_length : tie.Need-same-length invariant-loop decreases-loop
-same_length c = c.before.loop.invariant.long
+same_length : tie.Need-shape_of-out invariant-loop decreases-loop
+same_length c = c.loop-at.invariant.long
 
-same-length-2 : tie.Need-same-length-2 invariant-loop decreases-loop
-same-length-2 c = c.before.loop.invariant.slots-long
+same-length-2 : tie.Need-shape_of-ends invariant-loop decreases-loop
+same-length-2 c = c.loop-at.invariant.slots-long
 
 returns : tie.Need-returns invariant-loop decreases-loop
-returns c = writing-end c.before.loop.invariant (omega arith)
+returns c = writing-end c.loop-at.invariant (omega arith)
 
 pub write_spec : {M : Type 1} → statement M
 write_spec =

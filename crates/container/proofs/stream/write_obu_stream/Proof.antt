@@ -6,25 +6,25 @@ use Rattle.container.proofs.ListLaws.{write-long, write-none, write-full, write_
 use Rattle.container.proofs.stream.write_obu_stream.Statement.{statement}
 use Rattle.container.proofs.stream.write_obu_stream.Tie as tie
 
-returns : tie.Need-returns
+returns : tie.Need-returns-then-len-gt-LIMIT
 returns c = write-long _ _ _ (omega arith)
 
-returns-2 : tie.Need-returns-2
-returns-2 c = write-none _ _ _ (omega arith) (sym c.before.check-ends.ensures ∙ not-true _ c.if2.true)
+returns-2 : tie.Need-returns-then-not-check_ends
+returns-2 c = write-none _ _ _ (omega arith) (sym c.check_ends.ensures ∙ c.if-not-check_ends.true)
 
-returns-3 : tie.Need-returns-3
+returns-3 : tie.Need-returns-then-len-out
 returns-3 c =
     let n = c.before in
-    write-full _ _ _ (omega arith) (sym n.before.check-ends.ensures ∙ not-false _ n.if2.false) (omega arith)
+    write-full _ _ _ (omega arith) (sym n.check_ends.ensures ∙ n.if-not-check_ends.false) (omega arith)
 
-returns-4 : tie.Need-returns-4
+returns-4 : tie.Need-returns
 returns-4 c =
     let p = c.before.before in
     let n = p.before.before.before in
-    write_done _ _ _ (omega arith) (sym n.before.check-ends.ensures ∙ not-false _ n.if2.false) (omega arith) p.put-bytes.ensures.1
+    write_done _ _ _ (omega arith) (sym n.check_ends.ensures ∙ n.if-not-check_ends.false) (omega arith) p.put_bytes.ensures.1
 
-pub write-obu-stream-spec : {M : Type 1} → statement M
-write-obu-stream-spec =
+pub write_obu_stream_spec : {M : Type 1} → statement M
+write_obu_stream_spec =
     tie.close
     (tie.spec
     returns

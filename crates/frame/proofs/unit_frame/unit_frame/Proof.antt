@@ -5,30 +5,30 @@ use Rattle.frame.proofs.UnitFrameLaws.{frame_refused, frame-none, frame-many, fr
 use Rattle.frame.proofs.unit_frame.unit_frame.Statement.{statement}
 use Rattle.frame.proofs.unit_frame.unit_frame.Tie as tie
 
-returns : tie.Need-returns
+returns : tie.Need-returns-then-n-eq0
 returns c =
-    let n = c.before.before in
-    frame-none _ _ _ _ (sym (ap counted_says n.n.given.1) ∙ n.before.before.count-obus.ensures) c.if1.true
+    let n = c.before in
+    frame-none _ _ _ _ (sym (ap counted_says n.in-Count.is) ∙ n.count_obus.ensures) c.if-n-eq0.true
 
-returns-2 : tie.Need-returns-2
+returns-2 : tie.Need-returns-then-sole-n
 returns-2 c =
-    let n = c.before.before.before in
-    frame-many _ _ _ _ (sym (ap counted_says n.n.given.1) ∙ n.before.before.count-obus.ensures) c.before.if1.false c.if2.true
+    let n = c.before.before in
+    frame-many _ _ _ _ (sym (ap counted_says n.in-Count.is) ∙ n.count_obus.ensures) c.if-n-eq0.false c.if-sole-n.true
 
-returns-3 : tie.Need-returns-3
+returns-3 : tie.Need-returns-in-Refused
 returns-3 c =
-    let k = c.before in
-    frame_refused _ _ _ _ (sym (ap counted_says k.k.given.1) ∙ k.before.before.count-obus.ensures)
+    let k = c in
+    frame_refused _ _ _ _ (sym (ap counted_says k.in-Refused.is) ∙ k.count_obus.ensures)
 
-returns-4 : tie.Need-returns-4
+returns-4 : tie.Need-returns-else-sole-n
 returns-4 c =
     let b = c.before.before in
-    let n = b.before.before.before in
-    c.read-frame-header.ensures
-    ∙ frame-read _ _ _ _ (sym (ap counted_says n.n.given.1) ∙ n.before.before.count-obus.ensures) _ b.before.if1.false b.if2.false c.before.first-payload.ensures
+    let n = b.before.before in
+    c.read_frame_header.ensures
+    ∙ frame-read _ _ _ _ (sym (ap counted_says n.in-Count.is) ∙ n.count_obus.ensures) _ b.if-n-eq0.false b.if-sole-n.false c.first_payload.ensures
 
-pub unit-frame-spec : {M : Type 1} → statement M
-unit-frame-spec =
+pub unit_frame_spec : {M : Type 1} → statement M
+unit_frame_spec =
     tie.close
     (tie.spec
     (λ c κs. search rules)

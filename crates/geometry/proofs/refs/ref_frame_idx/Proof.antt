@@ -7,21 +7,21 @@ use Rattle.geometry.specs.Refs.{ref_frame_idx}
 use Rattle.geometry.proofs.refs.ref_frame_idx.Statement.{statement}
 use Rattle.geometry.proofs.refs.ref_frame_idx.Tie as tie
 
-abbrev invariant-loop : tie.invariant-loop
+abbrev invariant-loop : tie.invariant-loop-i
 invariant-loop s n at₀ idx₀ i₀ at idx i = Left ref_frame_idx s n idx₀ at₀ i idx at
 
-abbrev decreases-loop : tie.decreases-loop
+abbrev decreases-loop : tie.decreases-loop-i
 decreases-loop s n at₀ idx₀ i₀ at idx i = n - i
 
-loop-again : tie.Need-loop-preserved invariant-loop decreases-loop
+loop-again : tie.Need-loop-i-preserved invariant-loop decreases-loop
 unfolding follow ref_frame_idx
-loop-again c = turn c.before.before.before.loop.invariant c.before.before.loop-test.true (rw (← c.before.f.ensures.0))
+loop-again c = turn c.loop-i.invariant c.loop-i-test.true (rw (← c.f-v.ensures.0))
 
 returns : tie.Need-returns invariant-loop decreases-loop
-returns c = end c.before.loop.invariant c.loop-test.false
+returns c = end c.loop-i.invariant c.loop-i-test.false
 
-pub ref-frame-idx-spec : {M : Type 1} → statement M
-ref-frame-idx-spec =
+pub ref_frame_idx_spec : {M : Type 1} → statement M
+ref_frame_idx_spec =
     tie.close
     (tie.spec
     invariant-loop

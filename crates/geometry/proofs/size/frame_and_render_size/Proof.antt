@@ -7,13 +7,13 @@ use Rattle.geometry.proofs.size.frame_and_render_size.Tie as tie
 returns : tie.Need-returns
 unfolding frame_and_render_size
 returns c =
-    let a = c.before.before.before.args in (
+    let a = c.args in (
       whole (frame_and_render_size a.rules a.over) a.s.now a.c (λ w x.
-          let x = took x c.before.frame-size.ensures.0 in
-          let x = took x c.render-size.ensures.0 in
+          let x = took x c.frame_size-z.ensures.0 in
+          let x = took x c.render_size.ensures.0 in
           read x),
-      c.render-size.ensures.1,
+      c.render_size.ensures.1,
     )
 
-pub frame-and-render-size-spec : {M : Type 1} → statement M
-frame-and-render-size-spec = tie.close (tie.spec (λ c κs. search rules) (λ c κs. search rules) returns)
+pub frame_and_render_size_spec : {M : Type 1} → statement M
+frame_and_render_size_spec = tie.close (tie.spec (λ c κs. search rules) (λ c κs. search rules) returns)

@@ -7,19 +7,19 @@ use Rattle.geometry.proofs.size.frame_size.Tie as tie
 returns : tie.Need-returns
 unfolding frame_size
 returns c =
-    let a = c.before.before.before.before.before.before.before.args in (
+    let a = c.args in (
       whole (frame_size a.rules a.over) a.s.now a.c (λ w x.
-          let x = got x c.before.before.before.before.short-if.ensures.0 in
-          let x = got x c.before.before.before.short-if2.ensures.0 in
-          let x = rw (← c.before.before.either.ensures.0) at x in
-          let x = rw (← c.before.either2.ensures.0) at x in
-          let x = took x c.superres-params.ensures.0 in
+          let x = got x c.short_if-w.ensures.0 in
+          let x = got x c.short_if-h.ensures.0 in
+          let x = rw (← c.either-width.ensures.0) at x in
+          let x = rw (← c.either-height.ensures.0) at x in
+          let x = took x c.superres_params.ensures.0 in
           read x),
-      c.superres-params.ensures.1,
+      c.superres_params.ensures.1,
     )
 
-pub frame-size-spec : {M : Type 1} → statement M
-frame-size-spec =
+pub frame_size_spec : {M : Type 1} → statement M
+frame_size_spec =
     tie.close
     (tie.spec
     (λ c. search rules)

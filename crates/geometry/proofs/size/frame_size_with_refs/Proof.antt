@@ -4,25 +4,25 @@ use Rattle.geometry.specs.Size.{frame_size_with_refs}
 use Rattle.geometry.proofs.size.frame_size_with_refs.Statement.{statement}
 use Rattle.geometry.proofs.size.frame_size_with_refs.Tie as tie
 
-returns : tie.Need-returns
+returns : tie.Need-returns-then-sought
 unfolding follow frame_size_with_refs
 returns c = (
   rw (
-    ← c.before.before.before.before.before.found-ref.ensures,
-    c.before.before.before.if1.true,
-    ← c.before.before.slot_at.ensures,
-    ← c.before.slot-size.ensures.0,
-    ← c.superres-params.ensures.0,
+    ← c.found_ref-x.ensures,
+    c.if-sought.true,
+    ← c.slot_at.ensures,
+    ← c.slot_size-z.ensures.0,
+    ← c.superres_params.ensures.0,
   ),
-  c.superres-params.ensures.1,
+  c.superres_params.ensures.1,
 )
 
-returns-2 : tie.Need-returns-2
+returns-2 : tie.Need-returns
 unfolding follow frame_size_with_refs
 returns-2 c = (
-  rw (← c.before.before.before.found-ref.ensures, c.before.if1.false, ← c.frame-and-render-size.ensures.0),
-  c.frame-and-render-size.ensures.1,
+  rw (← c.found_ref-x.ensures, c.if-sought.false, ← c.frame_and_render_size.ensures.0),
+  c.frame_and_render_size.ensures.1,
 )
 
-pub frame-size-with-refs-spec : {M : Type 1} → statement M
-frame-size-with-refs-spec = tie.close (tie.spec _ _ _ (λ c κs. search rules) returns (λ c κs. search rules) returns-2)
+pub frame_size_with_refs_spec : {M : Type 1} → statement M
+frame_size_with_refs_spec = tie.close (tie.spec _ _ _ (λ c κs. search rules) returns (λ c κs. search rules) returns-2)

@@ -9,20 +9,20 @@ use Rattle.geometry.proofs.size.superres_params.Tie as tie
 returns : tie.Need-returns
 unfolding superres_params
 returns c =
-    let a = c.before.before.before.before.before.before.before.before.before.args in (
+    let a = c.args in (
       whole (superres_params a.enabled a.z) a.s.now a.c (λ w x.
-          let x = got x c.before.before.before.before.before.before.before.f-if.ensures.0 in
-          let x = got x c.before.before.before.before.before.f-if2.ensures.0 in
-          let x = rw (← c.before.before.either.ensures.0) at x in
+          let x = got x c.f_if-scaled.ensures.0 in
+          let x = got x c.f_if-coded.ensures.0 in
+          let x = rw (← c.either-denom.ensures.0) at x in
           read x),
       record {
         upscaled-width = search rules;
-        frame-width = omega (arith, scaled-le a.z.upscaled_width c.before.before.either.result (omega arith));
+        frame-width = omega (arith, scaled-le a.z.upscaled_width c.either-denom.result (omega arith));
         frame-height = search rules;
         render-width = search rules;
         render-height = search rules;
       },
     )
 
-pub superres-params-spec : {M : Type 1} → statement M
-superres-params-spec = tie.close (tie.spec _ _ (λ c. search rules) _ (λ c. search rules) (λ c. search rules) (λ c. search rules) returns)
+pub superres_params_spec : {M : Type 1} → statement M
+superres_params_spec = tie.close (tie.spec _ _ (λ c. search rules) _ (λ c. search rules) (λ c. search rules) (λ c. search rules) returns)

@@ -6,21 +6,21 @@ use Rattle.geometry.proofs.TileLaws.{area-le, shifted}
 use Rattle.geometry.proofs.tile_limits.limits_for.Statement.{statement}
 use Rattle.geometry.proofs.tile_limits.limits_for.Tie as tie
 
-width : (c : tie.Start) → 1 ≤ 4096 / 2 ^ c.args.sb-size
-width c = shifted 4096 c.args.sb-size 7 c.requires.1 (omega arith)
+width : (c : tie.Start) → 1 ≤ 4096 / 2 ^ c.args.sb_size
+width c = shifted 4096 c.args.sb_size 7 c.requires.1 (omega arith)
 
 returns : tie.Need-returns
 unfolding limits_for
 returns c = (
   rw (
-    ← c.before.before.before.before.before.before.before.tile-log2.ensures.0,
-    ← c.before.before.before.before.before.before.tile-log22.ensures.0,
-    ← c.before.before.before.before.before.greater.ensures,
-    ← c.before.before.before.before.either.ensures.0,
-    ← c.before.before.before.lesser.ensures,
-    ← c.before.before.tile-log23.ensures.0,
-    ← c.before.lesser2.ensures,
-    ← c.tile-log24.ensures.0,
+    ← c.tile_log2-min_log2_tile_cols.ensures.0,
+    ← c.tile_log2.ensures.0,
+    ← c.greater-min_log2_tiles.ensures,
+    ← c.either.ensures.0,
+    ← c.lesser.ensures,
+    ← c.tile_log2-2.ensures.0,
+    ← c.lesser-2.ensures,
+    ← c.tile_log2-3.ensures.0,
   ),
   record {
     sb-cols = search rules;
@@ -33,8 +33,8 @@ returns c = (
   },
 )
 
-pub limits-for-spec : {M : Type 1} → statement M
-limits-for-spec =
+pub limits_for_spec : {M : Type 1} → statement M
+limits_for_spec =
     tie.close
     (tie.spec
     (λ c. record { fits = omega (arith, area-le c.requires.0.1 c.requires.0.0) })
@@ -43,7 +43,7 @@ limits-for-spec =
     (λ c. search rules)
     (λ c. search rules)
     (λ c κs.
-    let p = c.before.requires in
+    let p = c.requires in
     (shifted 9437184 _ 14 (omega arith) (omega arith), area-le p.0.1 p.0.0))
     _
     (λ c. search rules)

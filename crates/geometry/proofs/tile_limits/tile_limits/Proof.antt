@@ -7,13 +7,13 @@ returns : tie.Need-returns
 unfolding tile_limits
 returns c = (
   rw (
-    ← c.before.before.before.superblocks.ensures.0,
-    ← c.before.before.superblocks2.ensures.0,
-    ← c.before.either.ensures.0,
-    ← c.limits-for.ensures.0,
+    ← c.superblocks-sb_cols.ensures.0,
+    ← c.superblocks-sb_rows.ensures.0,
+    ← c.either.ensures.0,
+    ← c.limits_for.ensures.0,
   ),
-  c.limits-for.ensures.1,
+  c.limits_for.ensures.1,
 )
 
-pub tile-limits-spec : {M : Type 1} → statement M
-tile-limits-spec = tie.close (tie.spec (λ c κs. search rules) (λ c κs. search rules) _ (λ c κs. search rules) returns)
+pub tile_limits_spec : {M : Type 1} → statement M
+tile_limits_spec = tie.close (tie.spec (λ c κs. search rules) (λ c κs. search rules) _ (λ c κs. search rules) returns)

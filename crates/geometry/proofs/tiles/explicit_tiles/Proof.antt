@@ -7,20 +7,20 @@ use Rattle.geometry.proofs.tiles.explicit_tiles.Tie as tie
 returns : tie.Need-returns
 unfolding explicit_tiles
 returns c =
-    let a = c.before.before.before.before.before.before.before.before.before.before.before.args in (
+    let a = c.args in (
       whole (explicit_tiles a.l) a.s.now a.c (λ w x.
-          let x = took x c.before.before.before.before.before.before.before.before.before.tile-sizes.ensures.0 in
-          let x = passed x c.before.before.before.before.before.before.refuse-if.ensures in
-          let x = rw (← c.before.before.before.before.before.max-height.ensures) at x in
-          let x = took x c.before.before.before.before.tile-sizes2.ensures.0 in
-          let x = rw (← c.before.tile-log2.ensures.0) at x in
-          let x = rw (← c.tile-log22.ensures.0) at x in
+          let x = took x c.tile_sizes-x.ensures.0 in
+          let x = passed x c.refuse_if-some.ensures in
+          let x = rw (← c.max_height.ensures) at x in
+          let x = took x c.tile_sizes-y.ensures.0 in
+          let x = rw (← c.tile_log2.ensures.0) at x in
+          let x = rw (← c.tile_log2-2.ensures.0) at x in
           read x),
       search rules,
     )
 
-pub explicit-tiles-spec : {M : Type 1} → statement M
-explicit-tiles-spec =
+pub explicit_tiles_spec : {M : Type 1} → statement M
+explicit_tiles_spec =
     tie.close
     (tie.spec
     (λ c κs. search rules)

@@ -6,24 +6,24 @@ use Rattle.geometry.specs.Tiles.{increment, increments}
 use Rattle.geometry.proofs.tiles.increments.Statement.{statement}
 use Rattle.geometry.proofs.tiles.increments.Tie as tie
 
-abbrev invariant-loop : tie.invariant-loop
+abbrev invariant-loop : tie.invariant-loop-i
 invariant-loop s least most n at₀ log2₀ i₀ at log2 i = (log2 ≤ least + i) × Left (increment least) s n least at₀ i log2 at
 
-abbrev decreases-loop : tie.decreases-loop
+abbrev decreases-loop : tie.decreases-loop-i
 decreases-loop s least most n at₀ log2₀ i₀ at log2 i = n - i
 
-loop-again : tie.Need-loop-preserved invariant-loop decreases-loop
+loop-again : tie.Need-loop-i-preserved invariant-loop decreases-loop
 unfolding follow increment
 loop-again c =
-    let l = c.before.before.before.before.loop in
-    (omega arith, turn l.invariant.1 c.before.before.before.loop-test.true (rw (← c.before.before.f-if.ensures.0)))
+    let l = c.loop-i in
+    (omega arith, turn l.invariant.1 c.loop-i-test.true (rw (← c.f_if-b.ensures.0)))
 
 returns : tie.Need-returns invariant-loop decreases-loop
 unfolding increments
-returns c = (rw (← c.before.before.minus.ensures) (end c.before.loop.invariant.1 c.loop-test.false), omega arith)
+returns c = (rw (← c.minus-n.ensures) (end c.loop-i.invariant.1 c.loop-i-test.false), omega arith)
 
-pub increments-spec : {M : Type 1} → statement M
-increments-spec =
+pub increments_spec : {M : Type 1} → statement M
+increments_spec =
     tie.close
     (tie.spec
     invariant-loop

@@ -8,29 +8,29 @@ use Rattle.geometry.specs.Tiles.{within, tiles_of, tile_size, tile_sizes}
 use Rattle.geometry.proofs.tiles.tile_sizes.Statement.{statement}
 use Rattle.geometry.proofs.tiles.tile_sizes.Tie as tie
 
-abbrev invariant-loop : tie.invariant-loop
+abbrev invariant-loop : tie.invariant-loop-start_sb
 invariant-loop s sbs most at₀ start₀ widest₀ count₀ at start widest count =
     ((count ≤ start) × (count ≤ sbs))
     × Still (within sbs) (tile_size sbs most) s sbs (tiles_of 0 0 0) at₀ (sbs - count) (tiles_of start widest count) at
 
-abbrev decreases-loop : tie.decreases-loop
+abbrev decreases-loop : tie.decreases-loop-start_sb
 decreases-loop s sbs most at₀ start₀ widest₀ count₀ at start widest count = sbs - start
 
-loop-again : tie.Need-loop-preserved invariant-loop decreases-loop
+loop-again : tie.Need-loop-start_sb-preserved invariant-loop decreases-loop
 unfolding follow tile_size
 loop-again c =
-    let l = c.before.before.before.before.before.before.loop in (
+    let l = c.loop-start_sb in (
       (omega arith, omega arith),
-      still-turn _ l.invariant.1 (omega arith) (lt-ltb _ _ c.before.before.before.before.before.loop-test.true) (
-          rw (← c.before.before.before.before.lesser.ensures, ← c.before.before.before.ns.ensures.0, ← c.before.greater.ensures)),
+      still-turn _ l.invariant.1 (omega arith) (lt-ltb _ _ c.loop-start_sb-test.true) (
+          rw (← c.lesser.ensures, ← c.ns-v.ensures.0, ← c.greater-widest_sb.ensures)),
     )
 
 returns : tie.Need-returns invariant-loop decreases-loop
 unfolding tile_sizes
-returns c = (still-end _ c.before.loop.invariant.1 (le-ltb _ _ c.loop-test.false), c.before.loop.invariant.0.1)
+returns c = (still-end _ c.loop-start_sb.invariant.1 (le-ltb _ _ c.loop-start_sb-test.false), c.loop-start_sb.invariant.0.1)
 
-pub tile-sizes-spec : {M : Type 1} → statement M
-tile-sizes-spec =
+pub tile_sizes_spec : {M : Type 1} → statement M
+tile_sizes_spec =
     tie.close
     (tie.spec
     invariant-loop

@@ -3,6 +3,6 @@ use Rattle.params.specs.Deltas.{delta_lf_params}
 use Rattle.params.proofs.deltas.delta_lf_params.Statement.{statement}
 use Rattle.params.proofs.deltas.delta_lf_params.Tie as tie
 
-pub delta-lf-params-spec : {M : Type 1} → statement M
+pub delta_lf_params_spec : {M : Type 1} → statement M
 unfolding follow delta_lf_params
-delta-lf-params-spec = tie.close (tie.spec _ _ _ (λ c. cc))
+delta_lf_params_spec = tie.close (tie.spec _ _ _ (λ c. cc))

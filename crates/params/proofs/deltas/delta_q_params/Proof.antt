@@ -3,6 +3,6 @@ use Rattle.params.specs.Deltas.{delta_q_params}
 use Rattle.params.proofs.deltas.delta_q_params.Statement.{statement}
 use Rattle.params.proofs.deltas.delta_q_params.Tie as tie
 
-pub delta-q-params-spec : {M : Type 1} → statement M
+pub delta_q_params_spec : {M : Type 1} → statement M
 unfolding follow delta_q_params
-delta-q-params-spec = tie.close (tie.spec _ _ (λ c. cc))
+delta_q_params_spec = tie.close (tie.spec _ _ (λ c. cc))

@@ -7,22 +7,22 @@ use Rattle.params.proofs.FoldLaws.{Folded, begin, turn, end}
 use Rattle.params.proofs.lossless.coded_lossless.Statement.{statement}
 use Rattle.params.proofs.lossless.coded_lossless.Tie as tie
 
-abbrev invariant-loop : tie.invariant-loop
+abbrev invariant-loop : tie.invariant-loop-i
 invariant-loop q alts zero₀ i₀ zero i =
     (i ≤ 8) × Folded (λ so_far v. so_far && eqb (qindex sign_magnitude q.base_q_idx v) 0) alts true i zero
 
-abbrev decreases-loop : tie.decreases-loop
+abbrev decreases-loop : tie.decreases-loop-i
 decreases-loop q alts zero₀ i₀ zero i = 8 - i
 
-loop-again : tie.Need-loop-preserved invariant-loop decreases-loop
-loop-again c = (search rules, turn c.before.before.loop.invariant.1 (search rules) (rw c.index-is-zero.ensures))
+loop-again : tie.Need-loop-i-preserved invariant-loop decreases-loop
+loop-again c = (search rules, turn c.loop-i.invariant.1 (search rules) (rw c.index_is_zero-zero.ensures))
 
 returns : tie.Need-returns invariant-loop decreases-loop
 unfolding coded_lossless
-returns c = rw (c.no-delta.ensures, end c.before.before.loop.invariant.1 (search rules))
+returns c = rw (c.no_delta.ensures, end c.loop-i.invariant.1 (search rules))
 
-pub coded-lossless-spec : {M : Type 1} → statement M
-coded-lossless-spec =
+pub coded_lossless_spec : {M : Type 1} → statement M
+coded_lossless_spec =
     tie.close
     (tie.spec
     invariant-loop

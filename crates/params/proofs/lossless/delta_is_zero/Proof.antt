@@ -2,5 +2,5 @@ use Rattle.params.proofs.LosslessLaws.{delta-zero}
 use Rattle.params.proofs.lossless.delta_is_zero.Statement.{statement}
 use Rattle.params.proofs.lossless.delta_is_zero.Tie as tie
 
-pub delta-is-zero-spec : {M : Type 1} → statement M
-delta-is-zero-spec = tie.close (tie.spec (λ c. delta-zero c.args.v))
+pub delta_is_zero_spec : {M : Type 1} → statement M
+delta_is_zero_spec = tie.close (tie.spec (λ c. delta-zero c.args.v))

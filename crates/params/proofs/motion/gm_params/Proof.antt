@@ -7,22 +7,22 @@ use Rattle.params.proofs.motion.gm_params.Tie as tie
 returns : tie.Need-returns
 unfolding gm_params
 returns c =
-    let a = c.before.before.before.before.before.before.before.before.before.before.before.before.before.before.args in
+    let a = c.args in
     whole (gm_params a.fine) a.s.now a.c (λ w x.
-    let x = got x c.before.before.before.before.before.before.before.before.before.before.before.before.f.ensures.0 in
-    let x = got x c.before.before.before.before.before.before.before.before.before.before.f-if.ensures.0 in
-    let x = took x c.before.before.before.before.before.before.before.before.read-global-param.ensures in
-    let x = took x c.before.before.before.before.before.before.before.read-global-param2.ensures in
-    let x = took x c.before.before.before.before.before.before.read-global-param3.ensures in
-    let x = took x c.before.before.before.before.before.read-global-param4.ensures in
-    let x = rw (← c.before.before.before.before.either.ensures.0) at x in
-    let x = rw (← c.before.before.before.either2.ensures.0) at x in
-    let x = took x c.before.before.read-global-param5.ensures in
-    let x = took x c.before.read-global-param6.ensures in
+    let x = got x c.f-rot_zoom.ensures.0 in
+    let x = got x c.f_if-translation.ensures.0 in
+    let x = took x c.read_global_param-p2.ensures in
+    let x = took x c.read_global_param-p3.ensures in
+    let x = took x c.read_global_param-p4.ensures in
+    let x = took x c.read_global_param-p5.ensures in
+    let x = rw (← c.either.ensures.0) at x in
+    let x = rw (← c.either-n.ensures.0) at x in
+    let x = took x c.read_global_param-p0.ensures in
+    let x = took x c.read_global_param-p1.ensures in
     read x)
 
-pub gm-params-spec : {M : Type 1} → statement M
-gm-params-spec =
+pub gm_params_spec : {M : Type 1} → statement M
+gm_params_spec =
     tie.close
     (tie.spec
     _

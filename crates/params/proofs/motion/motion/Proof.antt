@@ -6,24 +6,24 @@ use Rattle.syntax.proofs.LinkLaws.{got, read, took, whole}
 use Rattle.params.proofs.motion.motion.Statement.{statement}
 use Rattle.params.proofs.motion.motion.Tie as tie
 
-returns : tie.Need-returns
+returns : tie.Need-returns-then-global-eq1
 unfolding motion
 returns c =
-    let a = c.before.before.before.before.before.args in
+    let a = c.args in
     whole (motion a.fine) a.s.now a.c (λ w x.
-    let x = got x c.before.before.before.f.ensures.0 in
-    let x = rw (eq-eqb _ 1 c.before.if1.true) at x in
-    let x = took x c.gm-params.ensures in
+    let x = got x c.f-global.ensures.0 in
+    let x = rw (eq-eqb _ 1 c.if-global-eq1.true) at x in
+    let x = took x c.gm_params.ensures in
     read x)
 
-returns-2 : tie.Need-returns-2
+returns-2 : tie.Need-returns
 unfolding motion follow
 returns-2 c =
-    let a = c.before.before.before.before.before.args in
+    let a = c.args in
     whole (motion a.fine) a.s.now a.c (λ w x.
-    let x = got x c.before.before.before.f.ensures.0 in
-    let x = rw (ne_eqb _ 1 c.before.if1.false) at x in
+    let x = got x c.f-global.ensures.0 in
+    let x = rw (ne_eqb _ 1 c.if-global-eq1.false) at x in
     sym x.same)
 
-pub motion-spec : {M : Type 1} → statement M
-motion-spec = tie.close (tie.spec _ _ returns returns-2)
+pub motion_spec : {M : Type 1} → statement M
+motion_spec = tie.close (tie.spec _ _ returns returns-2)

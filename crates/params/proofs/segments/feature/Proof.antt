@@ -3,6 +3,6 @@ use Rattle.params.specs.Segmentation.{feature}
 use Rattle.params.proofs.segments.feature.Statement.{statement}
 use Rattle.params.proofs.segments.feature.Tie as tie
 
-pub feature-spec : {M : Type 1} → statement M
+pub feature_spec : {M : Type 1} → statement M
 unfolding follow feature
-feature-spec = tie.close (tie.spec _ _ (λ c. cc))
+feature_spec = tie.close (tie.spec _ _ (λ c. cc))

@@ -6,17 +6,17 @@ use Rattle.params.proofs.segments.segment.Tie as tie
 returns : tie.Need-returns
 unfolding segment
 returns c =
-    let a = c.before.before.before.before.before.before.before.before.before.before.args in
+    let a = c.args in
     whole (segment) a.s.now a.c (λ w x.
-    let x = took x c.before.before.before.before.before.before.before.before.feature.ensures in
-    let x = took x c.before.before.before.before.before.before.before.feature2.ensures in
-    let x = took x c.before.before.before.before.before.before.feature3.ensures in
-    let x = took x c.before.before.before.before.before.feature4.ensures in
-    let x = took x c.before.before.before.before.feature5.ensures in
-    let x = took x c.before.before.before.feature6.ensures in
-    let x = took x c.before.before.feature7.ensures in
-    let x = took x c.before.feature8.ensures in
+    let x = took x c.feature-alt_q.ensures in
+    let x = took x c.feature-lf_y_v.ensures in
+    let x = took x c.feature-lf_y_h.ensures in
+    let x = took x c.feature-lf_u.ensures in
+    let x = took x c.feature-lf_v.ensures in
+    let x = took x c.feature-reference.ensures in
+    let x = took x c.feature-skip.ensures in
+    let x = took x c.feature-global.ensures in
     read x)
 
-pub segment-spec : {M : Type 1} → statement M
-segment-spec = tie.close (tie.spec _ _ _ _ _ _ _ _ returns)
+pub segment_spec : {M : Type 1} → statement M
+segment_spec = tie.close (tie.spec _ _ _ _ _ _ _ _ returns)

@@ -10,22 +10,22 @@ use Rattle.params.specs.Segmentation.{segment, segments}
 use Rattle.params.proofs.segments.segments.Statement.{statement}
 use Rattle.params.proofs.segments.segments.Tie as tie
 
-abbrev invariant-loop : tie.invariant-loop
+abbrev invariant-loop : tie.invariant-loop-i
 invariant-loop s n at₀ kept₀ i₀ at kept i = Left (λ (i : ℕ) (kept : List ℕ). sub segment (λ alt-q. done (set kept i alt-q))) s n kept₀ at₀ i kept at
 
-abbrev decreases-loop : tie.decreases-loop
+abbrev decreases-loop : tie.decreases-loop-i
 decreases-loop s n at₀ kept₀ i₀ at kept i = n - i
 
-loop-again : tie.Need-loop-preserved invariant-loop decreases-loop
+loop-again : tie.Need-loop-i-preserved invariant-loop decreases-loop
 unfolding follow
-loop-again c = turn c.before.before.before.loop.invariant c.before.before.loop-test.true (rw (← c.before.segment.ensures))
+loop-again c = turn c.loop-i.invariant c.loop-i-test.true (rw (← c.segment-kept.ensures))
 
 returns : tie.Need-returns invariant-loop decreases-loop
 unfolding follow segments
-returns c = rw (← end c.before.loop.invariant c.loop-test.false)
+returns c = rw (← end c.loop-i.invariant c.loop-i-test.false)
 
-pub segments-spec : {M : Type 1} → statement M
-segments-spec =
+pub segments_spec : {M : Type 1} → statement M
+segments_spec =
     tie.close
     (tie.spec
     invariant-loop

@@ -18,20 +18,20 @@ module _ (c : tie.After-power2) where
   low : (v : ℕ) → v % c.before.power.result < c.before.power.result
   low v = mod-lt v pos
 
-returns : tie.Need-returns
+returns : tie.Need-returns-then-after
 unfolding is_after
 returns c =
     let p = c.before.before in
-    rw (c.if1.true, mod-add-mod p.before.args.a p.power.result (p.power.result - p.before.args.b % p.power.result), p.power.ensures, c.before.power2.ensures)
+    rw (c.if-after.true, mod-add-mod p.args.a p.power-whole.result (p.power-whole.result - p.args.b % p.power-whole.result), p.power-whole.ensures, c.power-half.ensures)
 
-returns-2 : tie.Need-returns-2
+returns-2 : tie.Need-returns
 unfolding is_before
 returns-2 c =
     let p = c.before.before in
-    rw (c.if1.false, mod-add-mod p.before.args.a p.power.result (p.power.result - p.before.args.b % p.power.result), p.power.ensures, c.before.power2.ensures)
+    rw (c.if-after.false, mod-add-mod p.args.a p.power-whole.result (p.power-whole.result - p.args.b % p.power-whole.result), p.power-whole.ensures, c.power-half.ensures)
 
-pub lies-spec : {M : Type 1} → statement M
-lies-spec =
+pub lies_spec : {M : Type 1} → statement M
+lies_spec =
     tie.close
     (tie.spec
     (λ c κs. search rules)
@@ -39,8 +39,8 @@ lies-spec =
     (λ c κs. search rules)
     pos
     pos
-    (λ c. omega (arith, low c c.before.before.args.b))
-    (λ c. omega (arith, small c, low c c.before.before.args.a))
+    (λ c. omega (arith, low c c.args.b))
+    (λ c. omega (arith, small c, low c c.args.a))
     pos
     returns
     returns-2)

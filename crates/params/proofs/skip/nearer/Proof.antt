@@ -3,13 +3,13 @@ use Rattle.params.specs.SkipMode.{nearer}
 use Rattle.params.proofs.skip.nearer.Statement.{statement}
 use Rattle.params.proofs.skip.nearer.Tie as tie
 
-returns : tie.Need-returns
+returns : tie.Need-returns-then-before-best
 unfolding nearer
-returns c = rw (← c.before.before.before.lies.ensures, ← c.before.before.lies2.ensures, c.if1.true)
+returns c = rw (← c.lies-before.ensures, ← c.lies-after.ensures, c.if-before-best.true)
 
-returns-2 : tie.Need-returns-2
+returns-2 : tie.Need-returns
 unfolding nearer
-returns-2 c = rw (← c.before.before.before.lies.ensures, ← c.before.before.lies2.ensures, c.if1.false)
+returns-2 c = rw (← c.lies-before.ensures, ← c.lies-after.ensures, c.if-before-best.false)
 
-pub nearer-spec : {M : Type 1} → statement M
-nearer-spec = tie.close (tie.spec (λ c κs. search rules) (λ c κs. search rules) returns returns-2)
+pub nearer_spec : {M : Type 1} → statement M
+nearer_spec = tie.close (tie.spec (λ c κs. search rules) (λ c κs. search rules) returns returns-2)

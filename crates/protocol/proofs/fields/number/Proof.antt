@@ -8,26 +8,26 @@ use Rattle.protocol.proofs.RoomLaws.{field_past, field-none, field-some}
 use Rattle.protocol.proofs.fields.number.Statement.{statement}
 use Rattle.protocol.proofs.fields.number.Tie as tie
 
-returns : tie.Need-returns
-returns c = let a = c.before.before.args in field_past a.line.now a.from c.if1.true
+returns : tie.Need-returns-then-from-line
+returns c = let a = c.args in field_past a.line.now a.from c.if-from-line.true
 
-returns-2 : tie.Need-returns-2
+returns-2 : tie.Need-returns-in_default
 returns-2 c =
-    let a = c.before.before.before.before.before.before.before.args in
-    let w = c.before.before.before.before.word_end in
+    let a = c.args in
+    let w = c.word_end-end in
     let s = a.line.now in
-    field-none s a.from (omega arith) (ap read_number (sym (word-between 32 s a.from w.ensures.1)) ∙ sym c.before.before.read-decimal.ensures ∙ ap decimal_says c.enum_told.given.1)
+    field-none s a.from (omega arith) (ap read_number (sym (word-between 32 s a.from w.ensures.1)) ∙ sym c.read_decimal.ensures ∙ ap decimal_says c.in_default.is)
 
-returns-3 : tie.Need-returns-3
+returns-3 : tie.Need-returns
 returns-3 c =
-    let a = c.before.before.before.before.before.before.before.before.args in
-    let w = c.before.before.before.before.before.word_end in
+    let a = c.args in
+    let w = c.word_end-end in
     let s = a.line.now in
     field-some s a.from (omega arith)
-    (ap read_number (sym (word-between 32 s a.from w.ensures.1)) ∙ sym c.before.before.before.read-decimal.ensures ∙ ap decimal_says c.before.value.given.1) w.ensures.1
+    (ap read_number (sym (word-between 32 s a.from w.ensures.1)) ∙ sym c.read_decimal.ensures ∙ ap decimal_says c.in-Value.is) w.ensures.1
 
-pub number-spec : {M : Type 1} → statement M
-number-spec =
+pub number_spec : {M : Type 1} → statement M
+number_spec =
     tie.close
     (tie.spec
     returns

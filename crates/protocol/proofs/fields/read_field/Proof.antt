@@ -10,41 +10,41 @@ use Rattle.protocol.proofs.FieldLaws.{Field, field-over, field-bytes, field-numb
 use Rattle.protocol.proofs.fields.read_field.Statement.{statement}
 use Rattle.protocol.proofs.fields.read_field.Tie as tie
 
-returns : tie.Need-returns
-returns c = let a = c.before.before.before.before.before.args in field-over a.line.now (fields_read a.so_far a.decoded.now a.ends.now a.numbers.now) c.if1.true
+returns : tie.Need-returns-then-from-line
+returns c = let a = c.args in field-over a.line.now (fields_read a.so_far a.decoded.now a.ends.now a.numbers.now) c.if-from-line.true
 
-returns-2 : tie.Need-returns-2
+returns-2 : tie.Need-returns-then-kind-eq-BYTES
 returns-2 c =
-    let a = c.before.before.before.before.before.before.before.before.before.before.before.before.before.before.before.before.before.before.before.before.args in
+    let a = c.args in
     let s = a.line.now in
     let from = a.so_far.next in
     let t = fields_read a.so_far a.decoded.now a.ends.now a.numbers.now in
-    let x : Field s t c.before.before.before.before.before.before.before.before.before.before.before.before.before.before.refilled.result c.before.before.before.before.before.before.before.before.before.before.before.before.before.rest.result c.before.before.before.before.before.before.before.before.before.before.word_end.result =
+    let x : Field s t c.refilled-format.result c.rest-rest.result c.word_end-end.result =
     record {
-      there = c.before.before.before.before.before.before.before.before.before.before.before.before.before.before.before.if1.false;
-      head = c.before.before.before.before.before.before.before.before.before.before.before.before.before.before.refilled.ensures;
-      rest = c.before.before.before.before.before.before.before.before.before.before.before.before.before.rest.ensures;
-      stop = c.before.before.before.before.before.before.before.before.before.before.word_end.ensures.1 ∙ ap (λ (e : ℕ). from + length (word_at e s from)) (c.before.before.before.before.before.before.before.before.before.before.before.separator.ensures ∙ ap (λ (h : Format). separator_of h.kinds) c.before.before.before.before.before.before.before.before.before.before.before.before.refilled2.ensures);
+      there = c.if-from-line.false;
+      head = c.refilled-format.ensures;
+      rest = c.rest-rest.ensures;
+      stop = c.word_end-end.ensures.1 ∙ ap (λ (e : ℕ). from + length (word_at e s from)) (c.separator.ensures ∙ ap (λ (h : Format). separator_of h.kinds) c.refilled.ensures);
     } in
-    c.before.before.before.before.read-bytes.ensures a.numbers.now ∙ field-bytes s t x c.before.before.before.before.before.before.before.before.if2.true
+    c.read_bytes.ensures a.numbers.now ∙ field-bytes s t x c.if-kind-eq-BYTES.true
 
-returns-3 : tie.Need-returns-3
+returns-3 : tie.Need-returns
 returns-3 c =
-    let a = c.before.before.before.before.before.before.before.before.before.before.before.before.before.before.before.before.before.args in
+    let a = c.args in
     let s = a.line.now in
     let from = a.so_far.next in
     let t = fields_read a.so_far a.decoded.now a.ends.now a.numbers.now in
-    let x : Field s t c.before.before.before.before.before.before.before.before.before.before.before.refilled.result c.before.before.before.before.before.before.before.before.before.before.rest.result c.before.before.before.before.before.before.before.word_end.result =
+    let x : Field s t c.refilled-format.result c.rest-rest.result c.word_end-end.result =
     record {
-      there = c.before.before.before.before.before.before.before.before.before.before.before.before.if1.false;
-      head = c.before.before.before.before.before.before.before.before.before.before.before.refilled.ensures;
-      rest = c.before.before.before.before.before.before.before.before.before.before.rest.ensures;
-      stop = c.before.before.before.before.before.before.before.word_end.ensures.1 ∙ ap (λ (e : ℕ). from + length (word_at e s from)) (c.before.before.before.before.before.before.before.before.separator.ensures ∙ ap (λ (h : Format). separator_of h.kinds) c.before.before.before.before.before.before.before.before.before.refilled2.ensures);
+      there = c.if-from-line.false;
+      head = c.refilled-format.ensures;
+      rest = c.rest-rest.ensures;
+      stop = c.word_end-end.ensures.1 ∙ ap (λ (e : ℕ). from + length (word_at e s from)) (c.separator.ensures ∙ ap (λ (h : Format). separator_of h.kinds) c.refilled.ensures);
     } in
-    c.before.before.read_number.ensures a.decoded.now a.ends.now ∙ field-number s t x c.before.before.before.before.before.if2.false
+    c.read_number.ensures a.decoded.now a.ends.now ∙ field-number s t x c.if-kind-eq-BYTES.false
 
-pub read-field-spec : {M : Type 1} → statement M
-read-field-spec =
+pub read_field_spec : {M : Type 1} → statement M
+read_field_spec =
     tie.close
     (tie.spec
     returns

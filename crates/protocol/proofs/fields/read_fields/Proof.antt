@@ -9,20 +9,20 @@ use Rattle.protocol.proofs.FieldLaws.{fields-start, fields-more, fields-end}
 use Rattle.protocol.proofs.fields.read_fields.Statement.{statement}
 use Rattle.protocol.proofs.fields.read_fields.Tie as tie
 
-abbrev invariant-loop : tie.invariant-loop
+abbrev invariant-loop : tie.invariant-loop-i
 invariant-loop line next decoded₀ ends₀ numbers₀ fields₀ i₀ decoded ends numbers fields i = (i ≤ length line) × (length decoded ≡ length decoded₀) × (length ends ≡ length ends₀) × (length numbers ≡ length numbers₀) × (fields_in (length line) line (fields_read fields₀ decoded₀ ends₀ numbers₀) ≡ fields_in (length line - i) line (fields_read fields decoded ends numbers))
 
-abbrev decreases-loop : tie.decreases-loop
+abbrev decreases-loop : tie.decreases-loop-i
 decreases-loop line next decoded₀ ends₀ numbers₀ fields₀ i₀ decoded ends numbers fields i = length line - i
 
-loop-holds : tie.Need-loop-init invariant-loop decreases-loop
+loop-holds : tie.Need-loop-i-init invariant-loop decreases-loop
 loop-holds c = (omega arith, refl, refl, refl, fields-start _ _ _)
 
-loop-again : tie.Need-loop-preserved invariant-loop decreases-loop
+loop-again : tie.Need-loop-i-preserved invariant-loop decreases-loop
 loop-again c =
-    let l = c.before.before.before.before.before.before.before.before.before.before.before.loop in
-    let s = c.before.before.before.before.before.before.before.before.before.before.before.before.before.before.before.before.args.line.now in
-    let r = c.before.before.before.before.before.before.read-field in (
+    let l = c.loop-i in
+    let s = c.args.line.now in
+    let r = c.read_field-fields in (
       omega arith,
       r.auto.1.0 ∙ l.invariant.1,
       r.auto.1.1.0 ∙ l.invariant.2,
@@ -31,10 +31,10 @@ loop-again c =
     )
 
 returns : tie.Need-returns invariant-loop decreases-loop
-returns c = let l = c.before.loop in sym (l.invariant.4 ∙ fields-end _ l.i _ _ (omega arith))
+returns c = let l = c.loop-i in sym (l.invariant.4 ∙ fields-end _ l.i _ _ (omega arith))
 
-pub read-fields-spec : {M : Type 1} → statement M
-read-fields-spec =
+pub read_fields_spec : {M : Type 1} → statement M
+read_fields_spec =
     tie.close
     (tie.spec
     invariant-loop

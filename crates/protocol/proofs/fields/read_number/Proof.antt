@@ -6,23 +6,23 @@ use Rattle.protocol.proofs.FieldLaws.{valued-bad, valued-full, valued-good}
 use Rattle.protocol.proofs.fields.read_number.Statement.{statement}
 use Rattle.protocol.proofs.fields.read_number.Tie as tie
 
-returns : tie.Need-returns
+returns : tie.Need-returns-in_default
 returns c =
-    let a = c.before.before.before.before.before.before.args in
-    λ d es. rw c.spoiled.ensures (valued-bad (fields_read a.so_far d es a.numbers.now) a.kind a.word.now (sym (ap decimal_says c.before.enum_told.given.1) ∙ c.before.before.before.value.ensures))
+    let a = c.args in
+    λ d es. rw c.spoiled.ensures (valued-bad (fields_read a.so_far d es a.numbers.now) a.kind a.word.now (sym (ap decimal_says c.in_default.is) ∙ c.value.ensures))
 
-returns-2 : tie.Need-returns-2
+returns-2 : tie.Need-returns-then-i-numbers
 returns-2 c =
-    let a = c.before.before.before.before.before.before.before.before.args in
-    λ d es. rw c.spoiled2.ensures (valued-full (fields_read a.so_far d es a.numbers.now) a.kind a.word.now (sym (ap decimal_says c.before.before.before.v.given.1) ∙ c.before.before.before.before.before.value.ensures) c.before.if1.true)
+    let a = c.args in
+    λ d es. rw c.spoiled-then-i-numbers.ensures (valued-full (fields_read a.so_far d es a.numbers.now) a.kind a.word.now (sym (ap decimal_says c.in-Value.is) ∙ c.value.ensures) c.if-i-numbers.true)
 
-returns-3 : tie.Need-returns-3
+returns-3 : tie.Need-returns
 returns-3 c =
-    let a = c.before.before.before.before.before.before.before.args in
-    λ d es. valued-good (fields_read a.so_far d es a.numbers.now) a.kind a.word.now (sym (ap decimal_says c.before.before.v.given.1) ∙ c.before.before.before.before.value.ensures) c.if1.false
+    let a = c.args in
+    λ d es. valued-good (fields_read a.so_far d es a.numbers.now) a.kind a.word.now (sym (ap decimal_says c.in-Value.is) ∙ c.value.ensures) c.if-i-numbers.false
 
-pub read-number-spec : {M : Type 1} → statement M
-read-number-spec =
+pub read_number_spec : {M : Type 1} → statement M
+read_number_spec =
     tie.close
     (tie.spec
     (λ c κs. search rules)

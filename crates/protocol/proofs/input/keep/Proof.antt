@@ -5,11 +5,11 @@ use borrow.Author.Tests.{lt-ltb, le-ltb}
 use Rattle.protocol.proofs.input.keep.Statement.{statement}
 use Rattle.protocol.proofs.input.keep.Tie as tie
 
-returns : tie.Need-returns
-returns c = (simp (lt-ltb _ _ c.if1.true), refl)
+returns : tie.Need-returns-then-len-line
+returns c = (simp (lt-ltb _ _ c.if-len-line.true), refl)
 
-returns-2 : tie.Need-returns-2
-returns-2 c = (simp (le-ltb _ _ c.if1.false), sym (set_out _ _ _ c.if1.false))
+returns-2 : tie.Need-returns
+returns-2 c = (simp (le-ltb _ _ c.if-len-line.false), sym (set_out _ _ _ c.if-len-line.false))
 
 pub keep_spec : {M : Type 1} → statement M
 keep_spec =

@@ -3,8 +3,8 @@ use Rattle.protocol.proofs.LineLaws.{kept_more}
 use Rattle.protocol.proofs.input.take.Statement.{statement}
 use Rattle.protocol.proofs.input.take.Tie as tie
 
-returns-3 : tie.Need-returns-3
-returns-3 c = λ d k. kept_more d c.before.before.before.before.before.before.before.before.before.args.line.now c.before.before.before.before.before.before.before.before.before.args.input.len _ c.before.before.before.before.if2.false k c.before.before.keep.ensures.0 c.before.before.keep.ensures.1
+returns-3 : tie.Need-returns
+returns-3 c = λ d k. kept_more d c.args.line.now c.args.input.len _ c.if-c-eq10.false k c.keep.ensures.0 c.keep.ensures.1
 
 pub take_spec : {M : Type 1} → statement M
 take_spec =

@@ -9,27 +9,27 @@ use Rattle.protocol.proofs.MarkedLaws.{marked-end, marked_more, marked-not}
 use Rattle.protocol.proofs.lent.is_marked.Statement.{statement}
 use Rattle.protocol.proofs.lent.is_marked.Tie as tie
 
-abbrev invariant-loop : tie.invariant-loop
+abbrev invariant-loop : tie.invariant-loop-i
 invariant-loop memory from i₀ i = is_marked byte_mark (drop from memory) ≡ is_marked byte_mark (drop i memory)
 
-abbrev decreases-loop : tie.decreases-loop
+abbrev decreases-loop : tie.decreases-loop-i
 decreases-loop memory from i₀ i = length memory - i
 
-returns : tie.Need-returns invariant-loop decreases-loop
+returns : tie.Need-returns-then-memory-i invariant-loop decreases-loop
 returns c =
-    let l = c.before.before.before.loop in
-    sym (l.invariant ∙ marked-not byte_mark _ l.i (omega arith) c.if1.true)
+    let l = c.loop-i in
+    sym (l.invariant ∙ marked-not byte_mark _ l.i (omega arith) c.if-memory-i.true)
 
-loop-again : tie.Need-loop-preserved invariant-loop decreases-loop
+loop-again : tie.Need-loop-i-preserved invariant-loop decreases-loop
 loop-again c =
-    let l = c.before.before.before.loop in
-    l.invariant ∙ marked_more byte_mark _ l.i (omega arith) c.if1.false
+    let l = c.loop-i in
+    l.invariant ∙ marked_more byte_mark _ l.i (omega arith) c.if-memory-i.false
 
-returns-2 : tie.Need-returns-2 invariant-loop decreases-loop
-returns-2 c = let l = c.before.loop in sym (l.invariant ∙ marked-end byte_mark _ l.i (omega arith))
+returns-2 : tie.Need-returns invariant-loop decreases-loop
+returns-2 c = let l = c.loop-i in sym (l.invariant ∙ marked-end byte_mark _ l.i (omega arith))
 
-pub is-marked-spec : {M : Type 1} → statement M
-is-marked-spec =
+pub is_marked_spec : {M : Type 1} → statement M
+is_marked_spec =
     tie.close
     (tie.spec
     invariant-loop

@@ -11,20 +11,20 @@ use Rattle.protocol.proofs.MarkedLaws.{all-marked}
 use Rattle.protocol.proofs.lent.mark.Statement.{statement}
 use Rattle.protocol.proofs.lent.mark.Tie as tie
 
-abbrev invariant-loop : tie.invariant-loop
+abbrev invariant-loop : tie.invariant-loop-i
 invariant-loop memory₀ i₀ memory i = (i ≤ length memory₀) × (length memory ≡ length memory₀) × (memory ≡ replicate i byte_mark ++ drop i memory₀)
 
-abbrev decreases-loop : tie.decreases-loop
+abbrev decreases-loop : tie.decreases-loop-i
 decreases-loop memory₀ i₀ memory i = length memory₀ - i
 
-loop-again : tie.Need-loop-preserved invariant-loop decreases-loop
+loop-again : tie.Need-loop-i-preserved invariant-loop decreases-loop
 loop-again c =
-    let l = c.before.loop in
-    let d = c.before.before.args.memory.now in
+    let l = c.loop-i in
+    let d = c.args.memory.now in
     (omega arith, simp length-set l.invariant.1, ap (λ m. set m l.i byte_mark) l.invariant.2 ∙ fill_more l.i byte_mark d (omega arith))
 
 returns : tie.Need-returns invariant-loop decreases-loop
-returns c = let l = c.before.loop in all-marked byte_mark c.before.before.args.memory.now l.i (omega arith) (omega arith) l.invariant.2
+returns c = let l = c.loop-i in all-marked byte_mark c.args.memory.now l.i (omega arith) (omega arith) l.invariant.2
 
 pub mark_spec : {M : Type 1} → statement M
 mark_spec =

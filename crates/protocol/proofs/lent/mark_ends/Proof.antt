@@ -11,23 +11,23 @@ use Rattle.protocol.proofs.MarkedLaws.{all-marked}
 use Rattle.protocol.proofs.lent.mark_ends.Statement.{statement}
 use Rattle.protocol.proofs.lent.mark_ends.Tie as tie
 
-abbrev invariant-loop : tie.invariant-loop
+abbrev invariant-loop : tie.invariant-loop-i
 invariant-loop ends₀ i₀ ends i = (i ≤ length ends₀) × (length ends ≡ length ends₀) × (ends ≡ replicate i end_mark ++ drop i ends₀)
 
-abbrev decreases-loop : tie.decreases-loop
+abbrev decreases-loop : tie.decreases-loop-i
 decreases-loop ends₀ i₀ ends i = length ends₀ - i
 
-loop-again : tie.Need-loop-preserved invariant-loop decreases-loop
+loop-again : tie.Need-loop-i-preserved invariant-loop decreases-loop
 loop-again c =
-    let l = c.before.loop in
-    let d = c.before.before.args.ends.now in
+    let l = c.loop-i in
+    let d = c.args.ends.now in
     (omega arith, simp length-set l.invariant.1, ap (λ m. set m l.i end_mark) l.invariant.2 ∙ fill_more l.i end_mark d (omega arith))
 
 returns : tie.Need-returns invariant-loop decreases-loop
-returns c = let l = c.before.loop in all-marked end_mark c.before.before.args.ends.now l.i (omega arith) (omega arith) l.invariant.2
+returns c = let l = c.loop-i in all-marked end_mark c.args.ends.now l.i (omega arith) (omega arith) l.invariant.2
 
-pub mark-ends-spec : {M : Type 1} → statement M
-mark-ends-spec =
+pub mark_ends_spec : {M : Type 1} → statement M
+mark_ends_spec =
     tie.close
     (tie.spec
     invariant-loop

@@ -2,16 +2,16 @@ use borrow.Author.Rules.{rules}
 use Rattle.protocol.proofs.lent.mark_lent.Statement.{statement}
 use Rattle.protocol.proofs.lent.mark_lent.Tie as tie
 
-returns : tie.Need-returns
-returns c = (rw c.if1.true, (rw c.if1.true, rw c.if1.true))
+returns : tie.Need-returns-then-is_own
+returns c = (rw c.if-is_own.true, (rw c.if-is_own.true, rw c.if-is_own.true))
 
-returns-2 : tie.Need-returns-2
+returns-2 : tie.Need-returns
 returns-2 c =
-    let own = c.before.before.before.before.before.before.before.before.before.before.before.before.if1.false in
-    (rw own c.before.before.before.before.before.before.before.before.before.before.mark.ensures, (rw own c.before.before.before.before.before.before.mark-ends.ensures, rw own c.before.before.mark-numbers.ensures))
+    let own = c.if-is_own.false in
+    (rw own c.mark.ensures, (rw own c.mark_ends.ensures, rw own c.mark_numbers.ensures))
 
-pub mark-lent-spec : {M : Type 1} → statement M
-mark-lent-spec =
+pub mark_lent_spec : {M : Type 1} → statement M
+mark_lent_spec =
     tie.close
     (tie.spec
     returns

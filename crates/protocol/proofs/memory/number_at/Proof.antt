@@ -3,11 +3,11 @@ use Rattle.bitio.proofs.EndsLaws.{get_d_past}
 use Rattle.protocol.proofs.memory.number_at.Statement.{statement}
 use Rattle.protocol.proofs.memory.number_at.Tie as tie
 
-returns-2 : tie.Need-returns-2
-returns-2 c = get_d_past c.before.args.numbers.now c.before.args.i c.if1.false
+returns-2 : tie.Need-returns
+returns-2 c = get_d_past c.args.numbers.now c.args.i c.if-i-numbers.false
 
-pub number-at-spec : {M : Type 1} → statement M
-number-at-spec =
+pub number_at_spec : {M : Type 1} → statement M
+number_at_spec =
     tie.close
     (tie.spec
     (λ c. search rules)

@@ -6,10 +6,10 @@ use Rattle.protocol.proofs.memory.part.Statement.{statement}
 use Rattle.protocol.proofs.memory.part.Tie as tie
 
 returns : tie.Need-returns
-returns c = c.payload.ensures ∙ ap₂ (λ (x y : ℕ). part c.before.before.before.before.before.args.s.now x y) c.before.before.start_of_lem.ensures c.before.end_of.ensures
+returns c = c.payload.ensures ∙ ap₂ (λ (x y : ℕ). part c.args.s.now x y) c.start_of-start.ensures c.end_of-end.ensures
 
-pub part-spec : {M : Type 1} → statement M
-part-spec =
+pub part_spec : {M : Type 1} → statement M
+part_spec =
     tie.close
     (tie.spec
     (λ c κs. search rules)

@@ -11,38 +11,38 @@ use Rattle.protocol.proofs.TypedLaws.{typed-more, hex-turn, hex-end, bytes-dash,
 use Rattle.protocol.proofs.output.put_hex.Statement.{statement}
 use Rattle.protocol.proofs.output.put_hex.Tie as tie
 
-abbrev invariant-loop : tie.invariant-loop
+abbrev invariant-loop : tie.invariant-loop-i
 invariant-loop out₀ at s to₀ i₀ out to i = (i ≤ length s) × (typed (typing at out₀) (hex_text s) ≡ typed (typing to out) (hex_text (drop i s)))
 
-abbrev decreases-loop : tie.decreases-loop
+abbrev decreases-loop : tie.decreases-loop-i
 decreases-loop out₀ at s to₀ i₀ out to i = length s - i
 
-returns : tie.Need-returns invariant-loop decreases-loop
-returns c = let a = c.before.before.before.before.before.args in c.put-text.ensures ∙ ap (λ (l : List ℕ). typed (typing a.at a.out.now) l) (sym (bytes-dash a.s.now c.before.before.before.if1.true))
+returns : tie.Need-returns-then-s-eq0 invariant-loop decreases-loop
+returns c = let a = c.args in c.put_text.ensures ∙ ap (λ (l : List ℕ). typed (typing a.at a.out.now) l) (sym (bytes-dash a.s.now c.if-s-eq0.true))
 
-put-hex-part-requires : tie.Need-put-hex-part-requires invariant-loop decreases-loop
+put-hex-part-requires : tie.Need-put_hex_part-to-requires invariant-loop decreases-loop
 put-hex-part-requires c κs = simp (length-take, length-drop) (omega arith)
 
-loop-again : tie.Need-loop-preserved invariant-loop decreases-loop
+loop-again : tie.Need-loop-i-preserved invariant-loop decreases-loop
 loop-again c =
-    let l = c.before.before.before.before.before.loop in
-    let s = c.before.before.before.before.before.before.before.before.args.s.now in
-    let n = c.before.before.before.least.result in (
+    let l = c.loop-i in
+    let s = c.args.s.now in
+    let n = c.least-n.result in (
       omega arith,
       l.invariant.1 ∙ ap (λ (x : List ℕ). typed (typing l.to l.out) x) (hex-turn s l.i n)
           ∙ sym (typed-more (typing l.to l.out) _ (hex_text (drop (l.i + n) s)))
-          ∙ ap (λ (t : Typed). typed t (hex_text (drop (l.i + n) s))) (sym c.put-hex-part.ensures),
+          ∙ ap (λ (t : Typed). typed t (hex_text (drop (l.i + n) s))) (sym c.put_hex_part-to.ensures),
     )
 
-returns-2 : tie.Need-returns-2 invariant-loop decreases-loop
+returns-2 : tie.Need-returns invariant-loop decreases-loop
 returns-2 c =
-    let l = c.before.loop in
-    let a = c.before.before.before.before.args in
+    let l = c.loop-i in
+    let a = c.args in
     let s = a.s.now in
-    sym (ap (λ (x : List ℕ). typed (typing a.at a.out.now) x) (bytes-hex s c.before.before.if1.false) ∙ l.invariant.1 ∙ hex-end _ s l.i (omega arith))
+    sym (ap (λ (x : List ℕ). typed (typing a.at a.out.now) x) (bytes-hex s c.if-s-eq0.false) ∙ l.invariant.1 ∙ hex-end _ s l.i (omega arith))
 
-pub put-hex-spec : {M : Type 1} → statement M
-put-hex-spec =
+pub put_hex_spec : {M : Type 1} → statement M
+put_hex_spec =
     tie.close
     (tie.spec
     invariant-loop

@@ -14,13 +14,13 @@ use Rattle.protocol.proofs.output.put_hex_part.Tie as tie
 returns : tie.Need-returns
 returns c =
     let a = c.before.before.before.before.before.before.before.before.args in
-    let x = c.before.before.before.before.before.encode-hex in
+    let x = c.encode_hex in
     let s = a.s.now in
-    c.put-text.ensures
+    c.put_text.ensures
     ∙ ap (λ (l : List ℕ). typed (typing a.at a.out.now) l) (ap (λ (d : List ℕ). take (x.result - 0) (drop 0 d)) x.ensures.1 ∙ pasted-front _ (hex_text s) (x.result - 0) (omega (arith, x.ensures.0, text-length s)))
 
-pub put-hex-part-spec : {M : Type 1} → statement M
-put-hex-part-spec =
+pub put_hex_part_spec : {M : Type 1} → statement M
+put_hex_part_spec =
     tie.close
     (tie.spec
     (λ c. search rules)

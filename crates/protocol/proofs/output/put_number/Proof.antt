@@ -9,12 +9,12 @@ use Rattle.protocol.proofs.output.put_number.Tie as tie
 
 returns : tie.Need-returns
 returns c =
-    let a = c.before.before.before.before.before.args in
-    let d = c.before.before.before.decimal.ensures in
-    c.put-text.ensures ∙ ap (λ (l : List ℕ). typed (typing a.at a.out.now) l) (d.1.1 ∙ decimal-is a.v _ c.before.before.before.before.before.ranges.v.fits d.1.0)
+    let a = c.args in
+    let d = c.decimal-n.ensures in
+    c.put_text.ensures ∙ ap (λ (l : List ℕ). typed (typing a.at a.out.now) l) (d.1.1 ∙ decimal-is a.v _ c.ranges.v.fits d.1.0)
 
-pub put-number-spec : {M : Type 1} → statement M
-put-number-spec =
+pub put_number_spec : {M : Type 1} → statement M
+put_number_spec =
     tie.close
     (tie.spec
     (λ c κs. search rules)

@@ -9,20 +9,20 @@ use Rattle.protocol.proofs.TypedLaws.{typed-next, typed-end}
 use Rattle.protocol.proofs.output.put_text.Statement.{statement}
 use Rattle.protocol.proofs.output.put_text.Tie as tie
 
-abbrev invariant-loop : tie.invariant-loop
+abbrev invariant-loop : tie.invariant-loop-i
 invariant-loop out₀ at text to₀ i₀ out to i = (i ≤ length text) × (typed (typing at out₀) text ≡ typed (typing to out) (drop i text))
 
-abbrev decreases-loop : tie.decreases-loop
+abbrev decreases-loop : tie.decreases-loop-i
 decreases-loop out₀ at text to₀ i₀ out to i = length text - i
 
-loop-again : tie.Need-loop-preserved invariant-loop decreases-loop
-loop-again c = let l = c.before.before.before.before.before.loop in (omega arith, l.invariant.1 ∙ typed-next (typing l.to l.out) c.before.before.before.before.before.before.before.args.text.now l.i (omega arith) c.before.place.ensures.0)
+loop-again : tie.Need-loop-i-preserved invariant-loop decreases-loop
+loop-again c = let l = c.loop-i in (omega arith, l.invariant.1 ∙ typed-next (typing l.to l.out) c.args.text.now l.i (omega arith) c.place-to.ensures.0)
 
 returns : tie.Need-returns invariant-loop decreases-loop
-returns c = let l = c.before.loop in sym (l.invariant.1 ∙ typed-end _ c.before.before.before.args.text.now l.i (omega arith))
+returns c = let l = c.loop-i in sym (l.invariant.1 ∙ typed-end _ c.args.text.now l.i (omega arith))
 
-pub put-text-spec : {M : Type 1} → statement M
-put-text-spec =
+pub put_text_spec : {M : Type 1} → statement M
+put_text_spec =
     tie.close
     (tie.spec
     invariant-loop

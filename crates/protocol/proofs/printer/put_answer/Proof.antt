@@ -6,18 +6,18 @@ use Rattle.protocol.proofs.PrintLaws.{answer_typed}
 use Rattle.protocol.proofs.printer.put_answer.Statement.{statement}
 use Rattle.protocol.proofs.printer.put_answer.Tie as tie
 
-returns : tie.Need-returns
+returns : tie.Need-put_text-requires
 returns c =
-    let a = c.before.before.before.before.before.before.before.before.before.before.before.before.before.args in
-    answer_typed (told a.answer a.memory.now a.ends.now a.numbers.now) (typing a.at a.out.now) a.format a.is-own c.before.before.before.before.before.before.before.before.before.format-of.ensures (sym c.before.before.before.if1.true ∙ c.before.before.before.before.is-clean.ensures) c.before.before.before.before.before.before.before.put-head.ensures c.before.before.before.before.before.put-items.ensures c.put-text.ensures
+    let a = c.args in
+    answer_typed (told a.answer a.memory.now a.ends.now a.numbers.now) (typing a.at a.out.now) a.format a.is_own c.format_of-form.ensures (sym c.if-is_clean.true ∙ c.is_clean.ensures) c.put_head-to.ensures c.put_items-to.ensures c.put-text.ensures
 
-returns-2 : tie.Need-returns-2
+returns-2 : tie.Need-returns
 returns-2 c =
-    let a = c.before.before.before.before.before.before.before.before.before.before.before.before.before.args in
-    answer_typed (told a.answer a.memory.now a.ends.now a.numbers.now) (typing a.at a.out.now) a.format a.is-own c.before.before.before.before.before.before.before.before.before.format-of.ensures (sym c.before.before.before.if1.false ∙ c.before.before.before.before.is-clean.ensures) c.before.before.before.before.before.before.before.put-head.ensures c.before.before.before.before.before.put-items.ensures c.put-text2.ensures
+    let a = c.args in
+    answer_typed (told a.answer a.memory.now a.ends.now a.numbers.now) (typing a.at a.out.now) a.format a.is_own c.format_of-form.ensures (sym c.if-is_clean.false ∙ c.is_clean.ensures) c.put_head-to.ensures c.put_items-to.ensures c.put_text-2.ensures
 
-pub put-answer-spec : {M : Type 1} → statement M
-put-answer-spec =
+pub put_answer_spec : {M : Type 1} → statement M
+put_answer_spec =
     tie.close
     (tie.spec
     (λ c κs. search rules)

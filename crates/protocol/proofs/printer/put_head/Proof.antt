@@ -3,14 +3,14 @@ use borrow.Author.Tests.{lt-ltb, le-ltb}
 use Rattle.protocol.proofs.printer.put_head.Statement.{statement}
 use Rattle.protocol.proofs.printer.put_head.Tie as tie
 
-returns : tie.Need-returns
-returns c = simp (lt-ltb _ _ c.before.before.before.if1.true) c.put-value.ensures
+returns : tie.Need-put_value-requires
+returns c = simp (lt-ltb _ _ c.if1.true) c.put-value.ensures
 
-returns-2 : tie.Need-returns-2
-returns-2 c = simp (le-ltb _ _ c.before.before.before.if1.false) c.put-text.ensures
+returns-2 : tie.Need-returns
+returns-2 c = simp (le-ltb _ _ c.if-answer-gt0.false) c.put_text.ensures
 
-pub put-head-spec : {M : Type 1} → statement M
-put-head-spec =
+pub put_head_spec : {M : Type 1} → statement M
+put_head_spec =
     tie.close
     (tie.spec
     (λ c. search rules)

@@ -13,37 +13,37 @@ use Rattle.protocol.proofs.PrintLaws.{items_more, items-end, items-none}
 use Rattle.protocol.proofs.printer.put_items.Statement.{statement}
 use Rattle.protocol.proofs.printer.put_items.Tie as tie
 
-abbrev invariant-loop : tie.invariant-loop
+abbrev invariant-loop : tie.invariant-loop-turns
 invariant-loop answer memory ends numbers out₀ at printed₀ to₀ turns₀ out printed to turns = typed (typing at out₀) (items_text turns₀ (told answer memory ends numbers) printed₀) ≡ typed (typing to out) (items_text turns (told answer memory ends numbers) printed)
 
-abbrev decreases-loop : tie.decreases-loop
+abbrev decreases-loop : tie.decreases-loop-turns
 decreases-loop answer memory ends numbers out₀ at printed₀ to₀ turns₀ out printed to turns = turns
 
-loop-again : tie.Need-loop-preserved invariant-loop decreases-loop
+loop-again : tie.Need-loop-turns-preserved invariant-loop decreases-loop
 loop-again c =
-    let l = c.before.before.before.before.before.before.before.loop in
-    let a = c.before.before.before.before.before.before.before.before.before.before.before.args in
+    let l = c.loop-turns in
+    let a = c.args in
     let d = told a.answer a.memory.now a.ends.now a.numbers.now in
     let t = typing l.to l.out in
     l.invariant
-    ∙ ap (λ (x : List ℕ). typed t x) (items_more d l.turns l.printed c.before.before.before.before.before.before.loop-test.true (sym c.before.before.before.before.before.is_all.ensures ∙ not-true _ c.before.before.before.before.if1.true) c.before.before.before.opened.ensures c.past.ensures)
+    ∙ ap (λ (x : List ℕ). typed t x) (items_more d l.turns l.printed c.loop-turns-test.true (sym c.is_all.ensures ∙ c.if-not-is_all.true) c.opened-item.ensures c.past-printed.ensures)
     ∙ sym (typed-more t _ _)
-    ∙ ap (λ (u : Typed). typed u (items_text (l.turns - 1) d c.past.result)) (sym c.before.put_item.ensures)
+    ∙ ap (λ (u : Typed). typed u (items_text (l.turns - 1) d c.past-printed.result)) (sym c.put_item-to.ensures)
 
-returns : tie.Need-returns invariant-loop decreases-loop
+returns : tie.Need-returns-else-not-is_all invariant-loop decreases-loop
 returns c =
-    let l = c.before.before.before.loop in
-    let a = c.before.before.before.before.before.before.before.args in
-    sym (l.invariant ∙ items-end (told a.answer a.memory.now a.ends.now a.numbers.now) _ l.turns l.printed (sym c.before.is_all.ensures ∙ not-false _ c.if1.false))
+    let l = c.loop-turns in
+    let a = c.args in
+    sym (l.invariant ∙ items-end (told a.answer a.memory.now a.ends.now a.numbers.now) _ l.turns l.printed (sym c.is_all.ensures ∙ c.if-not-is_all.false))
 
-returns-2 : tie.Need-returns-2 invariant-loop decreases-loop
+returns-2 : tie.Need-returns-after-loop-turns invariant-loop decreases-loop
 returns-2 c =
-    let l = c.before.loop in
-    let a = c.before.before.before.before.before.args in
+    let l = c.loop-turns in
+    let a = c.args in
     sym (l.invariant ∙ items-none (told a.answer a.memory.now a.ends.now a.numbers.now) _ l.turns l.printed (omega arith))
 
-pub put-items-spec : {M : Type 1} → statement M
-put-items-spec =
+pub put_items_spec : {M : Type 1} → statement M
+put_items_spec =
     tie.close
     (tie.spec
     invariant-loop

@@ -9,29 +9,29 @@ use Rattle.protocol.proofs.PrintLaws.{inside, part-inside, part-outside}
 use Rattle.protocol.proofs.printer.put_part.Statement.{statement}
 use Rattle.protocol.proofs.printer.put_part.Tie as tie
 
-sub-put-hex : tie.Need-overflow-sub-put-hex
-sub-put-hex c = omega (arith, inside c.before.before.before.part-start.result c.before.before.part-end.result (length c.before.before.before.before.before.before.args.memory.now) c.before.if1.true)
+sub-put-hex : tie.Need-part_end-end-requires
+sub-put-hex c = omega (arith, inside c.part_start.result c.part_end.result (length c.before.before.before.before.before.before.args.memory.now) c.if1.true)
 
-part-put-hex-start : tie.Need-slice-bounds-put-hex-start
-part-put-hex-start c = omega (arith, inside c.before.before.before.part-start.result c.before.before.part-end.result (length c.before.before.before.before.before.before.args.memory.now) c.before.if1.true)
+part-put-hex-start : tie.Need-slice_bounds-put_hex-count
+part-put-hex-start c = omega (arith, inside c.part_start-start.result c.part_end-end.result (length c.args.memory.now) c.if-start-end.true)
 
-part-put-hex-end : tie.Need-slice-bounds-put-hex-end
-part-put-hex-end c = omega (arith, inside c.before.before.before.part-start.result c.before.before.part-end.result (length c.before.before.before.before.before.before.args.memory.now) c.before.if1.true)
+part-put-hex-end : tie.Need-slice_bounds-put_hex-start
+part-put-hex-end c = omega (arith, inside c.part_start-start.result c.part_end-end.result (length c.args.memory.now) c.if-start-end.true)
 
-returns : tie.Need-returns
+returns : tie.Need-put_hex-requires
 returns c =
     let a = c.before.before.before.before.before.before.before.before.args in
     c.put-hex.ensures
-    ∙ ap (λ (l : List ℕ). typed (typing a.at a.out.now) l) (part-inside a.answer a.memory.now a.ends.now a.i c.before.before.before.before.before.part-start.ensures c.before.before.before.before.part-end.ensures c.before.before.before.if1.true)
+    ∙ ap (λ (l : List ℕ). typed (typing a.at a.out.now) l) (part-inside a.answer a.memory.now a.ends.now a.i c.part_start.ensures c.part_end.ensures c.if1.true)
 
-returns-2 : tie.Need-returns-2
+returns-2 : tie.Need-returns
 returns-2 c =
-    let a = c.before.before.before.before.before.before.before.before.args in
-    c.put-text.ensures
-    ∙ ap (λ (l : List ℕ). typed (typing a.at a.out.now) l) (part-outside a.answer a.memory.now a.ends.now a.i c.before.before.before.before.before.part-start.ensures c.before.before.before.before.part-end.ensures c.before.before.before.if1.false)
+    let a = c.args in
+    c.put_text.ensures
+    ∙ ap (λ (l : List ℕ). typed (typing a.at a.out.now) l) (part-outside a.answer a.memory.now a.ends.now a.i c.part_start-start.ensures c.part_end-end.ensures c.if-start-end.false)
 
-pub put-part-spec : {M : Type 1} → statement M
-put-part-spec =
+pub put_part_spec : {M : Type 1} → statement M
+put_part_spec =
     tie.close
     (tie.spec
     (λ c κs. search rules)

@@ -8,34 +8,34 @@ use Rattle.protocol.proofs.PrintLaws.{printed-dash, printed-refused, printed-neg
 use Rattle.protocol.proofs.printer.put_value.Statement.{statement}
 use Rattle.protocol.proofs.printer.put_value.Tie as tie
 
-returns : tie.Need-returns
-returns c = let a = c.before.before.before.before.args in c.put-text.ensures ∙ ap (λ (l : List ℕ). typed (typing a.at a.out.now) l) (printed-dash a.kind a.v c.before.before.before.if1.true)
+returns : tie.Need-returns-then-kind-v
+returns c = let a = c.args in c.put_text.ensures ∙ ap (λ (l : List ℕ). typed (typing a.at a.out.now) l) (printed-dash a.kind a.v c.if-kind-v.true)
 
-returns-2 : tie.Need-returns-2
+returns-2 : tie.Need-put_text-to-requires
 returns-2 c =
     let a = c.before.before.before.before.before.before.before.args in
-    typed-both (typing a.at a.out.now) (110 ∷ 111 ∷ 32 ∷ []) (decimal_text a.v) c.before.before.put-text2.ensures c.put-number.ensures (printed-refused a.kind a.v c.before.before.before.before.before.before.if1.false c.before.before.before.before.before.if2.true)
+    typed-both (typing a.at a.out.now) (110 ∷ 111 ∷ 32 ∷ []) (decimal_text a.v) c.put-text2.ensures c.put-number.ensures (printed-refused a.kind a.v c.before.before.before.before.before.before.if1.false c.if2.true)
 
-returns-3 : tie.Need-returns-3
+returns-3 : tie.Need-put_number-requires-then-kind-eq-NEGATIVE
 returns-3 c =
     let k = c.before.before.before.before.before in
-    let a = k.before.before.before.args in
-    typed-both (typing a.at a.out.now) (45 ∷ []) (decimal_text a.v) c.before.before.put-text3.ensures c.put-number2.ensures (printed-negative a.kind a.v k.before.before.if1.false k.if3.true)
+    let a = k.args in
+    typed-both (typing a.at a.out.now) (45 ∷ []) (decimal_text a.v) c.put-text3.ensures c.put-number2.ensures (printed-negative a.kind a.v k.if-kind-v.false k.if-kind-eq-NEGATIVE.true)
 
-returns-4 : tie.Need-returns-4
+returns-4 : tie.Need-returns-then-kind-eq-SLOTS
 returns-4 c =
     let k = c.before.before.before in
-    let a = k.before.before.before.before.args in
-    c.put-text4.ensures ∙ ap (λ (l : List ℕ). typed (typing a.at a.out.now) l) (printed-slots a.kind a.v k.before.before.before.if1.false k.if4.true)
+    let a = k.args in
+    c.put_text-then-kind-eq-SLOTS.ensures ∙ ap (λ (l : List ℕ). typed (typing a.at a.out.now) l) (printed-slots a.kind a.v k.if-kind-v.false k.if-kind-eq-SLOTS.true)
 
-returns-5 : tie.Need-returns-5
+returns-5 : tie.Need-returns
 returns-5 c =
     let k = c.before.before in
-    let a = k.before.before.before.before.args in
-    c.put-number3.ensures ∙ ap (λ (l : List ℕ). typed (typing a.at a.out.now) l) (printed-plain a.kind a.v k.before.before.before.if1.false k.before.before.if2.false k.before.if3.false k.if4.false)
+    let a = k.args in
+    c.put_number-2.ensures ∙ ap (λ (l : List ℕ). typed (typing a.at a.out.now) l) (printed-plain a.kind a.v k.if-kind-v.false k.if-kind-eq-REFUSED.false k.if-kind-eq-NEGATIVE.false k.if-kind-eq-SLOTS.false)
 
-pub put-value-spec : {M : Type 1} → statement M
-put-value-spec =
+pub put_value_spec : {M : Type 1} → statement M
+put_value_spec =
     tie.close
     (tie.spec
     (λ c. search rules)

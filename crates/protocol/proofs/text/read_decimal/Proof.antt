@@ -10,45 +10,45 @@ use Rattle.protocol.proofs.TextLaws.{number-end, number-low, number-high, number
 use Rattle.protocol.proofs.text.read_decimal.Statement.{statement}
 use Rattle.protocol.proofs.text.read_decimal.Tie as tie
 
-abbrev invariant-loop : tie.invariant-loop
+abbrev invariant-loop : tie.invariant-loop-i
 invariant-loop text v₀ i₀ v i = (i ≤ length text) × (v < 2 ^ 64) × (read_number text ≡ number_from v (drop i text))
 
-abbrev decreases-loop : tie.decreases-loop
+abbrev decreases-loop : tie.decreases-loop-i
 decreases-loop text v₀ i₀ v i = length text - i
 
-returns : tie.Need-returns invariant-loop decreases-loop
-returns c = sym (number-none _ c.if1.true)
+returns : tie.Need-returns-then-text-eq0 invariant-loop decreases-loop
+returns c = sym (number-none _ c.if-text-eq0.true)
 
-loop-holds : tie.Need-loop-init invariant-loop decreases-loop
+loop-holds : tie.Need-loop-i-init invariant-loop decreases-loop
 loop-holds c = (omega arith, omega arith, number-some _ (omega arith))
 
-returns-2 : tie.Need-returns-2 invariant-loop decreases-loop
+returns-2 : tie.Need-returns-then-c-lt48 invariant-loop decreases-loop
 returns-2 c =
-    let l = c.before.before.before.loop in
-    sym (l.invariant.2 ∙ number-low _ l.v l.i (omega arith) c.if2.true)
+    let l = c.loop-i in
+    sym (l.invariant.2 ∙ number-low _ l.v l.i (omega arith) c.if-c-lt48.true)
 
-returns-3 : tie.Need-returns-3 invariant-loop decreases-loop
+returns-3 : tie.Need-returns-then-c-gt57 invariant-loop decreases-loop
 returns-3 c =
-    let l = c.before.before.before.before.loop in
-    sym (l.invariant.2 ∙ number-high _ l.v l.i (omega arith) c.if3.true)
+    let l = c.loop-i in
+    sym (l.invariant.2 ∙ number-high _ l.v l.i (omega arith) c.if-c-gt57.true)
 
-returns-4 : tie.Need-returns-4 invariant-loop decreases-loop
+returns-4 : tie.Need-returns-then-v-d invariant-loop decreases-loop
 returns-4 c =
-    let l = c.before.before.before.before.before.loop in
+    let l = c.loop-i in
     sym (l.invariant.2 ∙ number_past _ l.v l.i (omega arith) (omega arith) (omega arith) (omega arith))
 
-loop-again : tie.Need-loop-preserved invariant-loop decreases-loop
+loop-again : tie.Need-loop-i-preserved invariant-loop decreases-loop
 loop-again c =
-    let l = c.before.before.before.before.before.loop in
+    let l = c.loop-i in
     (omega arith, omega arith, l.invariant.2 ∙ number_more _ l.v l.i (omega arith) (omega arith) (omega arith) (omega arith))
 
-returns-5 : tie.Need-returns-5 invariant-loop decreases-loop
+returns-5 : tie.Need-returns invariant-loop decreases-loop
 returns-5 c =
-    let l = c.before.loop in
+    let l = c.loop-i in
     sym (l.invariant.2 ∙ number-end _ l.v l.i (omega arith))
 
-pub read-decimal-spec : {M : Type 1} → statement M
-read-decimal-spec =
+pub read_decimal_spec : {M : Type 1} → statement M
+read_decimal_spec =
     tie.close
     (tie.spec
     invariant-loop

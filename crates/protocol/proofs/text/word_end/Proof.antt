@@ -10,32 +10,32 @@ use Rattle.protocol.proofs.TextLaws.{word_end, word-stop, word_more}
 use Rattle.protocol.proofs.text.word_end.Statement.{statement}
 use Rattle.protocol.proofs.text.word_end.Tie as tie
 
-abbrev invariant-loop : tie.invariant-loop
+abbrev invariant-loop : tie.invariant-loop-i
 invariant-loop line from stop i₀ i = (from ≤ i) × (i ≤ length line) × (i + length (word stop (drop i line)) ≡ from + length (word stop (drop from line)))
 
-abbrev decreases-loop : tie.decreases-loop
+abbrev decreases-loop : tie.decreases-loop-i
 decreases-loop line from stop i₀ i = length line - i
 
-returns : tie.Need-returns invariant-loop decreases-loop
+returns : tie.Need-returns-then-line-i invariant-loop decreases-loop
 returns c =
-    let l = c.before.before.before.loop in
-    let e = word-stop c.before.before.before.before.args.stop c.before.before.before.before.args.line.now l.i (omega arith) c.if1.true in
+    let l = c.loop-i in
+    let e = word-stop c.args.stop c.args.line.now l.i (omega arith) c.if-line-i.true in
     ((l.invariant.0, l.invariant.1), omega (arith, l.invariant.2, ap length e))
 
-loop-again : tie.Need-loop-preserved invariant-loop decreases-loop
+loop-again : tie.Need-loop-i-preserved invariant-loop decreases-loop
 loop-again c =
-    let l = c.before.before.before.loop in
-    let e = word_more c.before.before.before.before.args.stop c.before.before.before.before.args.line.now l.i (omega arith) c.if1.false in
+    let l = c.loop-i in
+    let e = word_more c.args.stop c.args.line.now l.i (omega arith) c.if-line-i.false in
     (omega arith, omega arith, omega (arith, l.invariant.2, e))
 
-returns-2 : tie.Need-returns-2 invariant-loop decreases-loop
+returns-2 : tie.Need-returns invariant-loop decreases-loop
 returns-2 c =
-    let l = c.before.loop in
-    let e = word_end c.before.before.args.stop c.before.before.args.line.now l.i (omega arith) in
+    let l = c.loop-i in
+    let e = word_end c.args.stop c.args.line.now l.i (omega arith) in
     ((l.invariant.0, l.invariant.1), omega (arith, l.invariant.2, ap length e))
 
-pub word-end-spec : {M : Type 1} → statement M
-word-end-spec =
+pub word_end_spec : {M : Type 1} → statement M
+word_end_spec =
     tie.close
     (tie.spec
     invariant-loop

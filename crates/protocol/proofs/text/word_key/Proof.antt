@@ -17,47 +17,47 @@ first-none : (s : List ℕ) → length s ≡ 0 → get_or s 0 0 ≡ 0
 first-none [] h = refl
 first-none (c ∷ s) h = absurd (omega arith)
 
-abbrev invariant-loop : tie.invariant-loop
+abbrev invariant-loop : tie.invariant-loop-i
 invariant-loop word key₀ i₀ key i = (i ≤ length word) × (length word ≤ 8) × (key < 2 ^ (8 * i)) × (word_key word ≡ key_from key (drop i word))
 
-abbrev decreases-loop : tie.decreases-loop
+abbrev decreases-loop : tie.decreases-loop-i
 decreases-loop word key₀ i₀ key i = length word - i
 
-returns : tie.Need-returns invariant-loop decreases-loop
-returns c = sym (key-long _ c.if1.true)
+returns : tie.Need-returns-then-word-gt8 invariant-loop decreases-loop
+returns c = sym (key-long _ c.if-word-gt8.true)
 
-loop-holds : tie.Need-loop-init invariant-loop decreases-loop
-loop-holds c = (omega arith, omega arith, omega arith, key-short _ (omega arith) c.if3.false)
+loop-holds : tie.Need-loop-i-init invariant-loop decreases-loop
+loop-holds c = (omega arith, omega arith, omega arith, key-short _ (omega arith) c.if-word-eq0-2.false)
 
-mul-key : tie.Need-overflow-mul-key invariant-loop decreases-loop
-mul-key c = omega (arith, pow_mono {i = 8 * c.before.loop.i} {j = 56} (omega arith))
+mul-key : tie.Need-overflow_mul-key invariant-loop decreases-loop
+mul-key c = omega (arith, pow_mono {i = 8 * c.loop-i.i} {j = 56} (omega arith))
 
-cast-key : tie.Need-overflow-cast-key invariant-loop decreases-loop
-cast-key c = omega (arith, c.shared-slice-known2.given c.before.before.loop.i)
+cast-key : tie.Need-overflow_cast-key invariant-loop decreases-loop
+cast-key c = omega (arith, c.shared_slice_known-in-loop-i-1.given c.loop-i.i)
 
-add-key : tie.Need-overflow-add-key invariant-loop decreases-loop
+add-key : tie.Need-overflow_add-key invariant-loop decreases-loop
 add-key c =
-    let i = c.before.before.loop.i in
-    omega (arith, c.shared-slice-known2.given i, pow_mono {i = 8 * i} {j = 56} (omega arith))
+    let i = c.loop-i.i in
+    omega (arith, c.shared_slice_known-in-loop-i-1.given i, pow_mono {i = 8 * i} {j = 56} (omega arith))
 
-loop-again : tie.Need-loop-preserved invariant-loop decreases-loop
+loop-again : tie.Need-loop-i-preserved invariant-loop decreases-loop
 loop-again c =
-    let l = c.before.before.loop in
-    (omega arith, omega arith, omega (arith, c.shared-slice-known2.given l.i, key-weight l.i), l.invariant.3 ∙ key_more _ l.key l.i (omega arith))
+    let l = c.loop-i in
+    (omega arith, omega arith, omega (arith, c.shared_slice_known-in-loop-i-1.given l.i, key-weight l.i), l.invariant.3 ∙ key_more _ l.key l.i (omega arith))
 
-returns-2 : tie.Need-returns-2 invariant-loop decreases-loop
-returns-2 c = sym (key-none _ (omega arith) (first-none c.before.before.args.word.now c.if2.true))
+returns-2 : tie.Need-returns-then-word-eq0 invariant-loop decreases-loop
+returns-2 c = sym (key-none _ (omega arith) (first-none c.args.word.now c.if-word-eq0.true))
 
-returns-3 : tie.Need-returns-3 invariant-loop decreases-loop
-returns-3 c = sym (key-none _ (omega arith) c.if3.true)
+returns-3 : tie.Need-returns-then-word-eq0-2 invariant-loop decreases-loop
+returns-3 c = sym (key-none _ (omega arith) c.if-word-eq0-2.true)
 
-returns-4 : tie.Need-returns-4 invariant-loop decreases-loop
+returns-4 : tie.Need-returns invariant-loop decreases-loop
 returns-4 c =
-    let l = c.before.loop in
+    let l = c.loop-i in
     sym (l.invariant.3 ∙ key-end _ l.key l.i (omega arith))
 
-pub word-key-spec : {M : Type 1} → statement M
-word-key-spec =
+pub word_key_spec : {M : Type 1} → statement M
+word_key_spec =
     tie.close
     (tie.spec
     invariant-loop

@@ -7,27 +7,27 @@ use borrow.Author.Tests.{not-true, not-false}
 use Rattle.emittable.proofs.EmitSteps.{opening-bad, opening-good}
 use Rattle.emittable.proofs.BackSequence.{opening-delay, opening-count}
 
-returns : tie.Need-returns
-returns c = opening-bad _ _ (sym c.before.opening-fits.ensures ∙ not-true _ c.if1.true)
+returns : tie.Need-returns-then-not-opening_fits
+returns c = opening-bad _ _ (sym c.opening_fits.ensures ∙ c.if-not-opening_fits.true)
 
-add-count : tie.Need-overflow-add-count
+add-count : tie.Need-overflow_add-count
 add-count c =
-    let g = sym c.before.opening-fits.ensures ∙ not-false _ c.if1.false in
+    let g = sym c.opening_fits.ensures ∙ c.if-not-opening_fits.false in
     omega (arith, opening-count _ g)
 
-points-fit-requires : tie.Need-points-fit-requires
+points-fit-requires : tie.Need-points_fit-requires
 points-fit-requires c κs =
-    let g = sym c.before.opening-fits.ensures ∙ not-false _ c.if1.false in
+    let g = sym c.opening_fits.ensures ∙ c.if-not-opening_fits.false in
     (opening-delay _ g, opening-count _ g)
 
-returns-2 : tie.Need-returns-2
+returns-2 : tie.Need-returns
 returns-2 c =
     let e = c.before.before.before in
-    let g = sym e.before.opening-fits.ensures ∙ not-false _ e.if1.false in
-    opening-good _ _ g (search rules) c.before.before.points-fit.ensures c.coding-fits.ensures
+    let g = sym e.opening_fits.ensures ∙ e.if-not-opening_fits.false in
+    opening-good _ _ g (search rules) c.points_fit.ensures c.coding_fits.ensures
 
-pub is-emittable-spec : {M : Type 1} → statement M
-is-emittable-spec =
+pub is_emittable_spec : {M : Type 1} → statement M
+is_emittable_spec =
     tie.close
     (tie.spec
     (λ c κs. search rules)

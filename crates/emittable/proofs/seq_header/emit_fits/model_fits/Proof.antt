@@ -7,8 +7,8 @@ returns : tie.Need-returns
 unfolding model_fits
 returns c = cc
 
-pub model-fits-spec : {M : Type 1} → statement M
-model-fits-spec =
+pub model_fits_spec : {M : Type 1} → statement M
+model_fits_spec =
     tie.close
     (tie.spec
     (λ c κs. search rules)

@@ -7,8 +7,8 @@ returns : tie.Need-returns
 unfolding opening_fits
 returns c = cc
 
-pub opening-fits-spec : {M : Type 1} → statement M
-opening-fits-spec =
+pub opening_fits_spec : {M : Type 1} → statement M
+opening_fits_spec =
     tie.close
     (tie.spec
     (λ c κs. search rules)

@@ -7,8 +7,8 @@ returns : tie.Need-returns
 unfolding point_fits
 returns c = cc
 
-pub point-fits-spec : {M : Type 1} → statement M
-point-fits-spec =
+pub point_fits_spec : {M : Type 1} → statement M
+point_fits_spec =
     tie.close
     (tie.spec
     (λ c. search rules)

@@ -8,29 +8,29 @@ use mathlib.Core.Path.{◌≡◌, ap, ◌∙◌}
 use lib.ListN.{take}
 use Rattle.emittable.specs.Emittable.{points_fit}
 
-abbrev invariant-loop : tie.invariant-loop
+abbrev invariant-loop : tie.invariant-loop-i
 invariant-loop o count points fits₀ i₀ fits i = (i ≤ count) × (fits ≡ points_fit o (take i points))
 
-abbrev decreases-loop : tie.decreases-loop
+abbrev decreases-loop : tie.decreases-loop-i
 decreases-loop o count points fits₀ i₀ fits i = count - i
 
-loop-holds : tie.Need-loop-init invariant-loop decreases-loop
+loop-holds : tie.Need-loop-i-init invariant-loop decreases-loop
 loop-holds c = (omega arith, points_none _)
 
-loop-again : tie.Need-loop-preserved invariant-loop decreases-loop
+loop-again : tie.Need-loop-i-preserved invariant-loop decreases-loop
 loop-again c =
-    let l = c.before.before.before.loop in
-    (omega arith, points-turn _ _ _ l.i (search rules) l.invariant.1 c.point-fits.ensures)
+    let l = c.loop-i in
+    (omega arith, points-turn _ _ _ l.i (search rules) l.invariant.1 c.point_fits-fits.ensures)
 
 returns : tie.Need-returns invariant-loop decreases-loop
 returns c =
-    let l = c.before.loop in
-    let a = c.before.before.args in
+    let l = c.loop-i in
+    let a = c.args in
     let e : l.i ≡ a.count = omega arith in
-    l.invariant.1 ∙ ap (λ j. points_fit a.o (take j a.t2)) e
+    l.invariant.1 ∙ ap (λ j. points_fit a.o (take j a.points)) e
 
-pub points-fit-spec : {M : Type 1} → statement M
-points-fit-spec =
+pub points_fit_spec : {M : Type 1} → statement M
+points_fit_spec =
     tie.close
     (tie.spec
     invariant-loop

@@ -7,8 +7,8 @@ returns : tie.Need-returns
 unfolding timing_fits
 returns c = cc
 
-pub timing-fits-spec : {M : Type 1} → statement M
-timing-fits-spec =
+pub timing_fits_spec : {M : Type 1} → statement M
+timing_fits_spec =
     tie.close
     (tie.spec
     (λ c κs. search rules)

@@ -7,8 +7,8 @@ returns : tie.Need-returns
 unfolding coding_fits
 returns c = cc
 
-pub coding-fits-spec : {M : Type 1} → statement M
-coding-fits-spec =
+pub coding_fits_spec : {M : Type 1} → statement M
+coding_fits_spec =
     tie.close
     (tie.spec
     (λ c κs. search rules)

@@ -7,8 +7,8 @@ returns : tie.Need-returns
 unfolding color_fits
 returns c = cc
 
-pub color-fits-spec : {M : Type 1} → statement M
-color-fits-spec =
+pub color_fits_spec : {M : Type 1} → statement M
+color_fits_spec =
     tie.close
     (tie.spec
     (λ c κs. search rules)

@@ -7,8 +7,8 @@ returns : tie.Need-returns
 unfolding sampling_fits
 returns c = cc
 
-pub sampling-fits-spec : {M : Type 1} → statement M
-sampling-fits-spec =
+pub sampling_fits_spec : {M : Type 1} → statement M
+sampling_fits_spec =
     tie.close
     (tie.spec
     (λ c κs. search rules)

@@ -7,8 +7,8 @@ returns : tie.Need-returns
 unfolding screen_fits
 returns c = cc
 
-pub screen-fits-spec : {M : Type 1} → statement M
-screen-fits-spec =
+pub screen_fits_spec : {M : Type 1} → statement M
+screen_fits_spec =
     tie.close
     (tie.spec
     (λ c κs. search rules)

@@ -4,17 +4,17 @@ use Rattle.emittable.proofs.seq_header.emit_fits_coding.size_fits.Statement.{sta
 use Rattle.emittable.proofs.seq_header.emit_fits_coding.size_fits.Tie as tie
 use Rattle.emittable.proofs.EmitSteps.{size-wide, size-high, size-rest}
 
-returns : tie.Need-returns
+returns : tie.Need-returns-then-z-gt15
 returns c = size-wide _ (omega arith)
 
-returns-2 : tie.Need-returns-2
+returns-2 : tie.Need-returns-then-z-gt15-2
 returns-2 c = size-high _ (omega arith)
 
-returns-3 : tie.Need-returns-3
-returns-3 c = size-rest _ (omega arith) (omega arith) c.before.bits_fit.ensures c.bits-fit2.ensures
+returns-3 : tie.Need-returns
+returns-3 c = size-rest _ (omega arith) (omega arith) c.bits_fit.ensures c.bits_fit-2.ensures
 
-pub size-fits-spec : {M : Type 1} → statement M
-size-fits-spec =
+pub size_fits_spec : {M : Type 1} → statement M
+size_fits_spec =
     tie.close
     (tie.spec
     returns

@@ -7,8 +7,8 @@ returns : tie.Need-returns
 unfolding tools_fit
 returns c = cc
 
-pub tools-fit-spec : {M : Type 1} → statement M
-tools-fit-spec =
+pub tools_fit_spec : {M : Type 1} → statement M
+tools_fit_spec =
     tie.close
     (tie.spec
     (λ c κs. search rules)

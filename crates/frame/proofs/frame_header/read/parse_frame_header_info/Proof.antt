@@ -7,25 +7,25 @@ use Rattle.frame.proofs.FrameFromLaws.{beside-read, beside-refused}
 use Rattle.frame.proofs.frame_header.read.parse_frame_header_info.Statement.{statement}
 use Rattle.frame.proofs.frame_header.read.parse_frame_header_info.Tie as tie
 
-returns : tie.Need-returns
-returns c = sym (over-limit _ _ c.if1.true)
+returns : tie.Need-returns-then-payload-gt-LIMIT
+returns c = sym (over-limit _ _ c.if-payload-gt-LIMIT.true)
 
-returns-2 : tie.Need-returns-2
+returns-2 : tie.Need-returns-in-Header
 unfolding parse_frame_from
 returns-2 c =
-    let f = c.before.before.before.before.before.before.before.before.before.args.payload.now in
-    let p = c.before.before.before.before.before.parse-sequence-header in
-    c.frame-header-info.ensures ∙ ap (limited f) (beside-read _ p.result p.ensures (λ q. parse_frame q f) _ c.before.before.answer.given.1)
+    let f = c.args.payload.now in
+    let p = c.parse_sequence_header-read in
+    c.frame_header_info.ensures ∙ ap (limited f) (beside-read _ p.result p.ensures (λ q. parse_frame q f) _ c.in-Header.is)
 
-returns-3 : tie.Need-returns-3
+returns-3 : tie.Need-returns-in-Refused
 unfolding parse_frame_from
 returns-3 c =
-    let k = c.before.before.before.before in
-    let p = k.parse-sequence-header in
-    beside-refused _ p.result p.ensures (λ q. parse_frame q _) _ c.before.answer2.given.1 ∙ sym (within-limit _ _ k.before.if1.false)
+    let k = c.before.before in
+    let p = k.parse_sequence_header-read in
+    beside-refused _ p.result p.ensures (λ q. parse_frame q _) _ c.in-Refused.is ∙ sym (within-limit _ _ k.if-payload-gt-LIMIT.false)
 
-pub parse-frame-header-info-spec : {M : Type 1} → statement M
-parse-frame-header-info-spec =
+pub parse_frame_header_info_spec : {M : Type 1} → statement M
+parse_frame_header_info_spec =
     tie.close
     (tie.spec
     returns

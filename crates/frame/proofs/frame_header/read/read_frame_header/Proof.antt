@@ -8,29 +8,29 @@ use Rattle.frame.specs.Frame.{modelled, frame_bits, frame_header, read_frame, pa
 use Rattle.frame.proofs.frame_header.read.read_frame_header.Statement.{statement}
 use Rattle.frame.proofs.frame_header.read.read_frame_header.Tie as tie
 
-returns : tie.Need-returns
+returns : tie.Need-returns-then-header
 unfolding parse_frame frame_header
-returns c = rw c.if1.true
+returns c = rw c.if-header.true
 
-returns-2 : tie.Need-returns-2
+returns-2 : tie.Need-returns-then-header-2
 unfolding parse_frame frame_header
-returns-2 c = rw (c.before.if1.false, c.if2.true)
+returns-2 c = rw (c.if-header.false, c.if-header-2.true)
 
 -- the bits are read with as many removal times as the points have
-counted : (c : tie.After-removals) → run (frame_bits c.before.before.before.before.args.header c.removals.result) c.before.before.before.before.args.payload.now 0
-    ≡ read_frame (sequence_of c.before.before.before.before.args.header c.before.before.before.before.args.points) c.before.before.before.before.args.payload.now
+counted : (c : tie.After-removals-removals) → run (frame_bits c.args.header c.removals-removals.result) c.args.payload.now 0
+    ≡ read_frame (sequence_of c.args.header c.args.points) c.args.payload.now
 counted c =
-    let a = c.before.before.before.before.args in
-    ap (λ n. run (frame_bits a.header n) a.payload.now 0) c.removals.ensures
-    ∙ sym (header-bits modelled _ 0 _ c.before.before.if1.false c.before.if2.false)
+    let a = c.args in
+    ap (λ n. run (frame_bits a.header n) a.payload.now 0) c.removals-removals.ensures
+    ∙ sym (header-bits modelled _ 0 _ c.if-header.false c.if-header-2.false)
 
-returns-3 : tie.Need-returns-3
+returns-3 : tie.Need-returns-then-at-ne0
 unfolding parse_frame
-returns-3 c = ap answer_of (refused _ _ 0 c.before.before.before.frame-bits.ensures c.if3.true ∙ counted c.before.before.before.before)
+returns-3 c = ap answer_of (refused _ _ 0 c.frame_bits-r.ensures c.if-at-ne0.true ∙ counted c.before.before.before.before)
 
-returns-4 : tie.Need-returns-4
+returns-4 : tie.Need-returns
 unfolding parse_frame
-returns-4 c = ap answer_of (accepted _ _ 0 c.before.before.before.frame-bits.ensures c.if3.false ∙ counted c.before.before.before.before)
+returns-4 c = ap answer_of (accepted _ _ 0 c.frame_bits-r.ensures c.if-at-ne0.false ∙ counted c.before.before.before.before)
 
-pub read-frame-header-spec : {M : Type 1} → statement M
-read-frame-header-spec = tie.close (tie.spec returns returns-2 _ _ returns-3 returns-4)
+pub read_frame_header_spec : {M : Type 1} → statement M
+read_frame_header_spec = tie.close (tie.spec returns returns-2 _ _ returns-3 returns-4)

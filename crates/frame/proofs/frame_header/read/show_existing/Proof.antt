@@ -7,11 +7,11 @@ use Rattle.frame.proofs.frame_header.read.show_existing.Tie as tie
 returns : tie.Need-returns
 unfolding show_existing
 returns c =
-    let a = c.before.before.before.args in
-    whole (show_existing a.point-info) a.s.now a.c (λ w x.
-    let x = got x c.before.f.ensures.0 in
-    let x = passed x c.refuse-if.ensures in
+    let a = c.args in
+    whole (show_existing a.point_info) a.s.now a.c (λ w x.
+    let x = got x c.f-slot.ensures.0 in
+    let x = passed x c.refuse_if-at.ensures in
     read x)
 
-pub show-existing-spec : {M : Type 1} → statement M
-show-existing-spec = tie.close (tie.spec _ (λ c κs. search rules) returns)
+pub show_existing_spec : {M : Type 1} → statement M
+show_existing_spec = tie.close (tie.spec _ (λ c κs. search rules) returns)

@@ -6,12 +6,12 @@ use Rattle.frame.proofs.frame_header.sections.buffer_removal.Tie as tie
 returns : tie.Need-returns
 unfolding buffer_removal
 returns c =
-    let a = c.before.before.before.before.before.args in
+    let a = c.args in
     whole (buffer_removal a.m a.removals) a.s.now a.c (λ w x.
-    let x = got x c.before.before.before.f-if.ensures.0 in
-    let x = rw (← c.before.times-if.ensures.0) at x in
-    let x = took x c.read-over.ensures in
+    let x = got x c.f_if-present.ensures.0 in
+    let x = rw (← c.times_if.ensures.0) at x in
+    let x = took x c.read_over.ensures in
     read x)
 
-pub buffer-removal-spec : {M : Type 1} → statement M
-buffer-removal-spec = tie.close (tie.spec _ _ _ returns)
+pub buffer_removal_spec : {M : Type 1} → statement M
+buffer_removal_spec = tie.close (tie.spec _ _ _ returns)

@@ -7,17 +7,17 @@ use Rattle.frame.proofs.frame_header.sections.frame_start.Tie as tie
 returns : tie.Need-returns
 unfolding frame_start
 returns c =
-    let a = c.before.before.before.before.before.before.before.before.before.before.before.before.before.before.before.args in
+    let a = c.args in
     whole (frame_start a.strict a.o) a.s.now a.c (λ w x.
-    let x = got x c.before.before.before.before.before.before.before.before.before.before.before.before.f.ensures.0 in
-    let x = got x c.before.before.before.before.before.before.before.before.before.before.before.f2.ensures.0 in
-    let x = rw (← c.before.before.before.before.before.before.before.before.before.has-point-info.ensures) at x in
-    let x = passed x c.before.before.before.before.before.before.before.before.refuse-if.ensures in
-    let x = got x c.before.before.before.before.before.before.before.width-if.ensures in
-    let x = rw (← c.before.before.before.before.before.before.all_slots.ensures) at x in
-    let x = got x c.before.before.before.before.before.f-if.ensures.0 in
-    let x = got x c.before.before.before.before.f-if2.ensures.0 in
+    let x = got x c.f-kind.ensures.0 in
+    let x = got x c.f-show.ensures.0 in
+    let x = rw (← c.has_point_info.ensures) at x in
+    let x = passed x c.refuse_if.ensures in
+    let x = got x c.width_if-time.ensures in
+    let x = rw (← c.all_slots-all.ensures) at x in
+    let x = got x c.f_if-showable.ensures.0 in
+    let x = got x c.f_if-resilient.ensures.0 in
     read x)
 
-pub frame-start-spec : {M : Type 1} → statement M
-frame-start-spec = tie.close (tie.spec _ _ _ (λ c κs. search rules) _ _ _ _ returns)
+pub frame_start_spec : {M : Type 1} → statement M
+frame_start_spec = tie.close (tie.spec _ _ _ (λ c κs. search rules) _ _ _ _ returns)

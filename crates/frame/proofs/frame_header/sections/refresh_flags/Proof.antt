@@ -6,13 +6,13 @@ use Rattle.frame.proofs.frame_header.sections.refresh_flags.Tie as tie
 returns : tie.Need-returns
 unfolding refresh_flags
 returns c =
-    let a = c.before.before.before.before.before.before.args in
+    let a = c.args in
     whole (refresh_flags a.m a.removals a.f) a.s.now a.c (λ w x.
-    let x = took x c.before.before.before.before.buffer-removal.ensures in
-    let x = rw (← c.before.before.before.all_slots.ensures) at x in
-    let x = got x c.before.before.f-if.ensures.0 in
+    let x = took x c.buffer_removal-times.ensures in
+    let x = rw (← c.all_slots-all.ensures) at x in
+    let x = got x c.f_if-flags.ensures.0 in
     let x = rw (← c.either.ensures.0) at x in
     read x)
 
-pub refresh-flags-spec : {M : Type 1} → statement M
-refresh-flags-spec = tie.close (tie.spec _ _ _ _ returns)
+pub refresh_flags_spec : {M : Type 1} → statement M
+refresh_flags_spec = tie.close (tie.spec _ _ _ _ returns)

@@ -10,37 +10,37 @@ use Rattle.frame.specs.Frame.{modelled}
 use Rattle.frame.proofs.frame_header.sections.removals.Statement.{statement}
 use Rattle.frame.proofs.frame_header.sections.removals.Tie as tie
 
-abbrev invariant-loop : tie.invariant-loop
+abbrev invariant-loop : tie.invariant-loop-i
 invariant-loop more points all n₀ i₀ n i =
     (i ≤ all) × ((n ≤ i) × (n + count modelled (drop i (take all points)) ≡ count modelled (take all points)))
 
-abbrev decreases-loop : tie.decreases-loop
+abbrev decreases-loop : tie.decreases-loop-i
 decreases-loop more points all n₀ i₀ n i = all - i
 
-fits : (c : tie.After-points-in invariant-loop decreases-loop) → c.points-in.result ≤ length c.before.args.t1
+fits : (c : tie.After-points_in-all invariant-loop decreases-loop) → c.points_in-all.result ≤ length c.args.points
 fits c =
-    let size : length c.before.args.t1 ≡ 32 = search rules in
-    omega (arith, c.points-in.ensures)
+    let size : length c.args.points ≡ 32 = search rules in
+    omega (arith, c.points_in-all.ensures)
 
-loop-again : tie.Need-loop-preserved invariant-loop decreases-loop
+loop-again : tie.Need-loop-i-preserved invariant-loop decreases-loop
 loop-again c =
     let k = c.before.before.before.before in
-    let a = k.before.args in
-    let l = c.before.before.before.loop in
-    let turn = count_turn modelled k.points-in.result a.t1 (fits k) l.i no_point (omega arith) in
-    (omega arith, (omega (arith, c.times-if.ensures), omega (arith, turn, c.times-if.ensures.0, l.invariant.1.1)))
+    let a = k.args in
+    let l = c.loop-i in
+    let turn = count_turn modelled k.points_in-all.result a.points (fits k) l.i no_point (omega arith) in
+    (omega arith, (omega (arith, c.times_if-n.ensures), omega (arith, turn, c.times_if-n.ensures.0, l.invariant.1.1)))
 
 returns : tie.Need-returns invariant-loop decreases-loop
 returns c =
     let k = c.before.before in
-    let a = k.before.args in
-    let l = c.before.loop in
-    let none = count-end modelled k.points-in.result a.t1 (fits k) l.i (omega arith) in
-    let all : l.n ≡ count modelled (take k.points-in.result a.t1) = omega (arith, none, l.invariant.1.1) in
-    all ∙ ap (λ j. count modelled (take j a.t1)) k.points-in.ensures ∙ ap (count modelled) (take-least (a.more + 1) a.t1 (search rules))
+    let a = k.args in
+    let l = c.loop-i in
+    let none = count-end modelled k.points_in-all.result a.points (fits k) l.i (omega arith) in
+    let all : l.n ≡ count modelled (take k.points_in-all.result a.points) = omega (arith, none, l.invariant.1.1) in
+    all ∙ ap (λ j. count modelled (take j a.points)) k.points_in-all.ensures ∙ ap (count modelled) (take-least (a.more + 1) a.points (search rules))
 
-pub removals-spec : {M : Type 1} → statement M
-removals-spec =
+pub removals_spec : {M : Type 1} → statement M
+removals_spec =
     tie.close
     (tie.spec
     invariant-loop

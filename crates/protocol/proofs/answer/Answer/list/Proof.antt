@@ -9,17 +9,17 @@ use Rattle.protocol.proofs.AnswerLaws.{numbers-next, numbers-end}
 use Rattle.protocol.proofs.answer.Answer.list.Statement.{statement}
 use Rattle.protocol.proofs.answer.Answer.list.Tie as tie
 
-abbrev invariant-loop : tie.invariant-loop
+abbrev invariant-loop : tie.invariant-loop-i
 invariant-loop list numbers₀ answer₀ i₀ numbers answer i = (i ≤ length list) × (length numbers ≡ length numbers₀) × (with_numbers (numbered answer₀ numbers₀) list ≡ with_numbers (numbered answer numbers) (drop i list))
 
-abbrev decreases-loop : tie.decreases-loop
+abbrev decreases-loop : tie.decreases-loop-i
 decreases-loop list numbers₀ answer₀ i₀ numbers answer i = length list - i
 
-loop-again : tie.Need-loop-preserved invariant-loop decreases-loop
+loop-again : tie.Need-loop-i-preserved invariant-loop decreases-loop
 loop-again c =
-    let l = c.before.before.before.before.before.before.loop in
-    let list = c.before.before.before.before.before.before.before.before.before.args.list.now in
-    let n = c.before.before.number in (
+    let l = c.loop-i in
+    let list = c.args.list.now in
+    let n = c.number-answer in (
       omega arith,
       omega (arith, n.auto.1.1.0),
       l.invariant.2 ∙ numbers-next _ list l.i (omega arith) ∙ ap (λ (t : Numbered). with_numbers t (drop (l.i + 1) list)) (sym n.ensures),
@@ -27,11 +27,11 @@ loop-again c =
 
 returns : tie.Need-returns invariant-loop decreases-loop
 returns c =
-    let l = c.before.loop in
-    sym (l.invariant.2 ∙ numbers-end _ c.before.before.before.before.args.list.now l.i (omega arith))
+    let l = c.loop-i in
+    sym (l.invariant.2 ∙ numbers-end _ c.args.list.now l.i (omega arith))
 
-pub list-spec : {M : Type 1} → statement M
-list-spec =
+pub list_spec : {M : Type 1} → statement M
+list_spec =
     tie.close
     (tie.spec
     invariant-loop

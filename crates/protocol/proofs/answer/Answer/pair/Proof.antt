@@ -8,9 +8,9 @@ use Rattle.protocol.proofs.answer.Answer.pair.Tie as tie
 
 returns : tie.Need-returns
 returns c =
-    let a = c.before.before.before.before.before.before.before.before.before.args in
-    c.before.before.number2.ensures
-    ∙ ap (λ (t : Numbered). with_numbers t (a.b ∷ [])) c.before.before.before.before.before.before.number.ensures
+    let a = c.args in
+    c.number-2.ensures
+    ∙ ap (λ (t : Numbered). with_numbers t (a.b ∷ [])) c.number.ensures
     ∙ numbers_more (numbered a.self a.numbers.now) (a.a ∷ []) (a.b ∷ [])
 
 pub pair_spec : {M : Type 1} → statement M

@@ -3,7 +3,7 @@ use Rattle.protocol.proofs.lent.Room.lent.Statement.{statement}
 use Rattle.protocol.proofs.lent.Room.lent.Tie as tie
 
 returns : tie.Need-returns
-returns c = rw (c.before.before.size.ensures, c.before.size2.ensures, c.size3.ensures)
+returns c = rw (c.size.ensures, c.size-2.ensures, c.size-3.ensures)
 
 pub lent_spec : {M : Type 1} → statement M
 lent_spec =

@@ -3,16 +3,16 @@ use Rattle.protocol.specs.Printed.{is_printed}
 use Rattle.protocol.proofs.printer.Printed.is_all.Statement.{statement}
 use Rattle.protocol.proofs.printer.Printed.is_all.Tie as tie
 
-returns : tie.Need-returns
+returns : tie.Need-returns-then-format-eq-BYTES
 unfolding is_printed
-returns c = simp (eq-eqb _ _ c.before.before.before.if1.true)
+returns c = simp (eq-eqb _ _ c.if-format-eq-BYTES.true)
 
-returns-2 : tie.Need-returns-2
+returns-2 : tie.Need-returns
 unfolding is_printed
-returns-2 c = simp (ne_eqb _ _ c.before.before.before.before.if1.false)
+returns-2 c = simp (ne_eqb _ _ c.if-format-eq-BYTES.false)
 
-pub is-all-spec : {M : Type 1} → statement M
-is-all-spec =
+pub is_all_spec : {M : Type 1} → statement M
+is_all_spec =
     tie.close
     (tie.spec
     returns

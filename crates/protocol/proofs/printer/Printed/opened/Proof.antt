@@ -4,14 +4,14 @@ use Rattle.protocol.proofs.PrintLaws.{opened-told, opened-plain}
 use Rattle.protocol.proofs.printer.Printed.opened.Statement.{statement}
 use Rattle.protocol.proofs.printer.Printed.opened.Tie as tie
 
-returns : tie.Need-returns
-returns c = let a = c.before.before.before.before.before.before.before.args in c.opened-at.ensures ∙ opened-told a.numbers.now a.self c.before.before.before.before.before.refilled.ensures c.before.before.before.if1.true c.before.before.number_at.ensures c.before.plus.ensures
+returns : tie.Need-returns-then-format-eq-TOLD
+returns c = let a = c.args in c.opened_at.ensures ∙ opened-told a.numbers.now a.self c.refilled-format.ensures c.if-format-eq-TOLD.true c.number_at.ensures c.plus.ensures
 
-returns-2 : tie.Need-returns-2
-returns-2 c = let a = c.before.before.before.before.before.args in c.opened-at2.ensures ∙ opened-plain a.numbers.now a.self c.before.before.before.refilled.ensures c.before.if1.false
+returns-2 : tie.Need-returns
+returns-2 c = let a = c.args in c.opened_at-2.ensures ∙ opened-plain a.numbers.now a.self c.refilled-format.ensures c.if-format-eq-TOLD.false
 
-pub opened-spec : {M : Type 1} → statement M
-opened-spec =
+pub opened_spec : {M : Type 1} → statement M
+opened_spec =
     tie.close
     (tie.spec
     (λ c κs. search rules)

@@ -4,20 +4,20 @@ use Rattle.protocol.specs.Printed.{past_of}
 use Rattle.protocol.proofs.printer.Printed.past.Statement.{statement}
 use Rattle.protocol.proofs.printer.Printed.past.Tie as tie
 
-returns : tie.Need-returns
+returns : tie.Need-returns-then-kind-eq-BYTES
 unfolding past_of
-returns c = simp (c.plus.ensures, eq-eqb _ _ c.before.if1.true)
+returns c = simp (c.plus.ensures, eq-eqb _ _ c.if-kind-eq-BYTES.true)
 
-returns-2 : tie.Need-returns-2
+returns-2 : tie.Need-returns-then-kind-eq-COUNT
 unfolding past_of
-returns-2 c = simp (ne_eqb _ _ c.before.if1.false, eq-eqb _ _ c.if2.true)
+returns-2 c = simp (ne_eqb _ _ c.if-kind-eq-BYTES.false, eq-eqb _ _ c.if-kind-eq-COUNT.true)
 
-returns-3 : tie.Need-returns-3
+returns-3 : tie.Need-returns
 unfolding past_of
-returns-3 c = simp (c.plus2.ensures, ne_eqb _ _ c.before.before.if1.false, ne_eqb _ _ c.before.if2.false)
+returns-3 c = simp (c.plus-2.ensures, ne_eqb _ _ c.if-kind-eq-BYTES.false, ne_eqb _ _ c.if-kind-eq-COUNT.false)
 
-pub past-spec : {M : Type 1} → statement M
-past-spec =
+pub past_spec : {M : Type 1} → statement M
+past_spec =
     tie.close
     (tie.spec
     (λ c κs. search rules)
