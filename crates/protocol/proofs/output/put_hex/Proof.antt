@@ -47,7 +47,6 @@ put_hex_spec =
     (tie.spec
     invariant-loop
     decreases-loop
-    (λ c. search rules)
     (λ c κs. search rules)
     returns
     (λ c. search rules)

@@ -3,8 +3,8 @@ use borrow.Author.Tests.{lt-ltb, le-ltb}
 use Rattle.protocol.proofs.printer.put_head.Statement.{statement}
 use Rattle.protocol.proofs.printer.put_head.Tie as tie
 
-returns : tie.Need-put_value-requires
-returns c = simp (lt-ltb _ _ c.if1.true) c.put-value.ensures
+returns : tie.Need-returns-then-answer-gt0
+returns c = simp (lt-ltb _ _ c.if-answer-gt0.true) c.put_value.ensures
 
 returns-2 : tie.Need-returns
 returns-2 c = simp (le-ltb _ _ c.if-answer-gt0.false) c.put_text.ensures
@@ -16,6 +16,5 @@ put_head_spec =
     (λ c. search rules)
     (λ c κs. search rules)
     returns
-    (λ c. search rules)
     (λ c κs. search rules)
     returns-2)

@@ -9,20 +9,20 @@ use Rattle.protocol.proofs.PrintLaws.{inside, part-inside, part-outside}
 use Rattle.protocol.proofs.printer.put_part.Statement.{statement}
 use Rattle.protocol.proofs.printer.put_part.Tie as tie
 
-sub-put-hex : tie.Need-part_end-end-requires
-sub-put-hex c = omega (arith, inside c.part_start.result c.part_end.result (length c.before.before.before.before.before.before.args.memory.now) c.if1.true)
+sub-put-hex : tie.Need-slice_bounds-put_hex-count
+sub-put-hex c = omega (arith, inside c.part_start-start.result c.part_end-end.result (length c.args.memory.now) c.if-start-end.true)
 
-part-put-hex-start : tie.Need-slice_bounds-put_hex-count
+part-put-hex-start : tie.Need-slice_bounds-put_hex-start
 part-put-hex-start c = omega (arith, inside c.part_start-start.result c.part_end-end.result (length c.args.memory.now) c.if-start-end.true)
 
-part-put-hex-end : tie.Need-slice_bounds-put_hex-start
+part-put-hex-end : tie.Need-slice_bounds-put_hex-end
 part-put-hex-end c = omega (arith, inside c.part_start-start.result c.part_end-end.result (length c.args.memory.now) c.if-start-end.true)
 
-returns : tie.Need-put_hex-requires
+returns : tie.Need-returns-then-start-end
 returns c =
-    let a = c.before.before.before.before.before.before.before.before.args in
-    c.put-hex.ensures
-    ∙ ap (λ (l : List ℕ). typed (typing a.at a.out.now) l) (part-inside a.answer a.memory.now a.ends.now a.i c.part_start.ensures c.part_end.ensures c.if1.true)
+    let a = c.args in
+    c.put_hex.ensures
+    ∙ ap (λ (l : List ℕ). typed (typing a.at a.out.now) l) (part-inside a.answer a.memory.now a.ends.now a.i c.part_start-start.ensures c.part_end-end.ensures c.if-start-end.true)
 
 returns-2 : tie.Need-returns
 returns-2 c =
@@ -41,6 +41,5 @@ put_part_spec =
     part-put-hex-end
     (λ c κs. search rules)
     returns
-    (λ c. search rules)
     (λ c κs. search rules)
     returns-2)

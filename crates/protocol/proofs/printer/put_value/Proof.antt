@@ -11,16 +11,16 @@ use Rattle.protocol.proofs.printer.put_value.Tie as tie
 returns : tie.Need-returns-then-kind-v
 returns c = let a = c.args in c.put_text.ensures ∙ ap (λ (l : List ℕ). typed (typing a.at a.out.now) l) (printed-dash a.kind a.v c.if-kind-v.true)
 
-returns-2 : tie.Need-put_text-to-requires
+returns-2 : tie.Need-returns-then-kind-eq-REFUSED
 returns-2 c =
-    let a = c.before.before.before.before.before.before.before.args in
-    typed-both (typing a.at a.out.now) (110 ∷ 111 ∷ 32 ∷ []) (decimal_text a.v) c.put-text2.ensures c.put-number.ensures (printed-refused a.kind a.v c.before.before.before.before.before.before.if1.false c.if2.true)
+    let a = c.args in
+    typed-both (typing a.at a.out.now) (110 ∷ 111 ∷ 32 ∷ []) (decimal_text a.v) c.put_text-to.ensures c.put_number.ensures (printed-refused a.kind a.v c.if-kind-v.false c.if-kind-eq-REFUSED.true)
 
-returns-3 : tie.Need-put_number-requires-then-kind-eq-NEGATIVE
+returns-3 : tie.Need-returns-then-kind-eq-NEGATIVE
 returns-3 c =
     let k = c.before.before.before.before.before in
     let a = k.args in
-    typed-both (typing a.at a.out.now) (45 ∷ []) (decimal_text a.v) c.put-text3.ensures c.put-number2.ensures (printed-negative a.kind a.v k.if-kind-v.false k.if-kind-eq-NEGATIVE.true)
+    typed-both (typing a.at a.out.now) (45 ∷ []) (decimal_text a.v) c.put_text-to-then-kind-eq-NEGATIVE.ensures c.put_number-then-kind-eq-NEGATIVE.ensures (printed-negative a.kind a.v k.if-kind-v.false k.if-kind-eq-NEGATIVE.true)
 
 returns-4 : tie.Need-returns-then-kind-eq-SLOTS
 returns-4 c =
@@ -37,19 +37,15 @@ returns-5 c =
 pub put_value_spec : {M : Type 1} → statement M
 put_value_spec =
     tie.close
-    (tie.spec
-    (λ c. search rules)
+    (
     (λ c κs. search rules)
     returns
-    (λ c. search rules)
     (λ c κs. search rules)
     (λ c κs. search rules)
     returns-2
-    (λ c. search rules)
     (λ c κs. search rules)
     (λ c κs. search rules)
     returns-3
-    (λ c. search rules)
     (λ c κs. search rules)
     returns-4
     (λ c κs. search rules)
