@@ -53,8 +53,8 @@ loop-again c =
     let h = b.loop-p.invariant in
     let n = sym f.is_type.ensures ∙ f.if-is_type.false in
     ⊎_elim
-    (λ w. rw (w.1, w.2) (heading-taken h (got b) n d.is_type-is.ensures w.0.taken))
-    (λ w. rw (w.1, w.2) (heading-left h (got b) n d.is_type-is.ensures w.0.left))
+    (λ w. rw (w.lead-is, w.behind-is) (heading-taken h (got b) n d.is_type-is.ensures w.if-is-is_led.true))
+    (λ w. rw (w.lead-is, w.behind-is) (heading-left h (got b) n d.is_type-is.ensures w.if-is-is_led.false))
     c.if-is-is_led.branch-raw
 
 returns-3 : tie.Need-returns invariant-loop decreases-loop

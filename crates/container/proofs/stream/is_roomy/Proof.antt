@@ -17,7 +17,7 @@ measure-requires c κs = c.requires.stream
 returns-2 : tie.Need-returns
 returns-2 c =
     let a = c.args in
-    c.has_room-2.ensures ∙ sym (ap (λ x. sizes_fit x (record { bytes = a.out_len; ends = a.ends-len })) c.measure-size.ensures)
+    c.has_room-2.ensures ∙ sym (ap (λ x. sizes_fit x (record { bytes = a.out_len; ends = a.ends_len })) c.measure-size.ensures)
 
 pub is_roomy_spec : {M : Type 1} → statement M
 is_roomy_spec =

@@ -9,9 +9,7 @@ use Rattle.container.proofs.stream.split_obu_stream.Tie as tie
 
 -- what the survey gave
 seen : (c : tie.In-Stream)
-    → (let a = c.args in
-    let g = c.frames-1.given.0 in
-    Surveyed a.«data».now g.0 g.1.0)
+    → Surveyed c.args.«data».now c.in-Stream.frames c.in-Stream.bytes
 seen c =
     let n = c in
     surveyed _ _ _ (omega arith) (sym (ap seen_says n.in-Stream.is) ∙ n.survey.ensures)

@@ -31,7 +31,7 @@ returns c =
 
 returns-2 : tie.Need-returns-then-more-ne1 invariant-loop decreases-loop
 returns-2 c =
-    let e = c.before.before.before.before.before.before.before in
+    let e = c.before.before.before.before.before.before.before.before in
     last e.loop-mk.invariant e.either-b2.ensures.0 (omega (arith, one e, c.if-n-mk.false))
     c.f-more.ensures.0 c.if-more-ne1.true c.short_if-last.ensures.0
 

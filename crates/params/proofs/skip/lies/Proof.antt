@@ -8,14 +8,14 @@ use Rattle.params.proofs.skip.lies.Statement.{statement}
 use Rattle.params.proofs.skip.lies.Tie as tie
 
 -- 2 ^ bits is a small number, but none
-module _ (c : tie.After-power2) where
-  pos : 0 < c.before.power.result
-  pos = rw c.before.power.ensures (pow_pos c.before.before.args.bits)
+module _ (c : tie.After-power-half) where
+  pos : 0 < c.power-whole.result
+  pos = rw c.power-whole.ensures (pow_pos c.args.bits)
 
-  small : c.before.power.result ≤ 256
-  small = rw c.before.power.ensures (pow_mono c.before.before.requires.1)
+  small : c.power-whole.result ≤ 256
+  small = rw c.power-whole.ensures (pow_mono c.requires.1)
 
-  low : (v : ℕ) → v % c.before.power.result < c.before.power.result
+  low : (v : ℕ) → v % c.power-whole.result < c.power-whole.result
   low v = mod-lt v pos
 
 returns : tie.Need-returns-then-after
