@@ -7,47 +7,47 @@ use Rattle.annexb.proofs.SplitLaws.{says-refused, read-long, read-empty, Counted
 use Rattle.annexb.proofs.annexb.split_annexb.Statement.{statement}
 use Rattle.annexb.proofs.annexb.split_annexb.Tie as tie
 
-abbrev begin : tie.After-measure → tie.Start
+abbrev begin : tie.After-measure-found → tie.Start
 begin c = c.before.before.before.before.before.before
 
 -- what was measured
-size : (c : tie.After-found) → Counted (begin c.before.before).args.«data».now c.found.given.0.0 c.found.given.0.1.0
-size c = counted _ (sym c.before.before.measure.ensures ∙ ap split_says c.found.given.1)
+size : (c : tie.In-Units) → Counted (begin c.before).args.«data».now c.in-Units.bytes c.in-Units.units
+size c = counted _ (sym c.measure-found.ensures ∙ ap split_says c.in-Units.is)
 
-returns : tie.Need-returns
-returns c = says-refused _ _ (read-long _ _ c.if1.true)
+returns : tie.Need-returns-then-data-gt-LIMIT
+returns c = says-refused _ _ (read-long _ _ c.if-data-gt-LIMIT.true)
 
-returns-2 : tie.Need-returns-2
-returns-2 c = says-refused _ _ (read-empty _ _ c.if2.true)
+returns-2 : tie.Need-returns-then-data-eq0
+returns-2 c = says-refused _ _ (read-empty _ _ c.if-data-eq0.true)
 
-returns-3 : tie.Need-returns-3
+returns-3 : tie.Need-returns-in_default
 returns-3 c =
-    let m = c.before.before in
+    let m = c.before in
     let e = m.before in
-    let (k, q, r) = not-units m.measure.result c.before.match.keys2 m.measure.ensures in
-    rw q (says-refused _ _ (read-refused _ _ e.before.if1.false (omega arith) r))
+    let (k, q, r) = not-units m.measure-found.result c.in_default.in_default-own.keys2 m.measure-found.ensures in
+    rw q (says-refused _ _ (read-refused _ _ e.if-data-gt-LIMIT.false (omega arith) r))
 
-returns-4 : tie.Need-returns-4
+returns-4 : tie.Need-returns-then-not-has_room
 returns-4 c =
-    let f = c.before.before.before in
-    let e = f.before.before.before in
-    says-refused _ _ (read-full _ _ e.before.if1.false (omega arith) (size f) (sym c.before.has_room.ensures ∙ not-true _ c.if3.true))
+    let f = c.before.before in
+    let e = f.before.before in
+    says-refused _ _ (read-full _ _ e.if-data-gt-LIMIT.false (omega arith) (size f) (sym c.has_room.ensures ∙ not-true _ c.if-not-has_room.true-raw))
 
 fill-requires : tie.Need-fill-requires
 fill-requires c κs =
     let h = c.before.before in
-    measured (size h.before.before.before) (sym h.before.has_room.ensures ∙ not-false _ h.if3.false)
+    measured (size h.before.before) (sym h.has_room.ensures ∙ not-false _ h.if-not-has_room.false-raw)
 
-returns-5 : tie.Need-returns-5
+returns-5 : tie.Need-returns
 returns-5 c =
     let w = c.before.before.before.before in
     let h = w.before.before.before in
-    let f = h.before.before.before in
-    let m = f.before.before in
-    says-whole _ (read_whole _ _ m.before.before.if1.false (omega arith) (size f) (sym h.before.has_room.ensures ∙ not-false _ h.if3.false)) (sym (ap split_says f.found.given.1) ∙ m.measure.ensures) w.fill.ensures
+    let f = h.before.before in
+    let m = f.before in
+    says-whole _ (read_whole _ _ m.if-data-gt-LIMIT.false (omega arith) (size f) (sym h.has_room.ensures ∙ not-false _ h.if-not-has_room.false-raw)) (sym (ap split_says f.in-Units.is) ∙ m.measure-found.ensures) w.fill.ensures
 
-pub split-annexb-spec : {M : Type 1} → statement M
-split-annexb-spec =
+pub split_annexb_spec : {M : Type 1} → statement M
+split_annexb_spec =
     tie.close
     (tie.spec
     returns

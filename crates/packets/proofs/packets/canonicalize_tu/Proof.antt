@@ -5,17 +5,17 @@ use Rattle.packets.proofs.CanonicalLaws.{canon-long}
 use Rattle.packets.proofs.packets.canonicalize_tu.Statement.{statement}
 use Rattle.packets.proofs.packets.canonicalize_tu.Tie as tie
 
-returns : tie.Need-returns
+returns : tie.Need-returns-then-unit-gt-LIMIT
 returns c = canon-long _ _ (omega arith)
 
-clean-unit-requires : tie.Need-clean-unit-requires
-clean-unit-requires c κs = (omega arith, sym c.before.before.has-stray-delimiter.ensures ∙ c.before.if2.true)
+clean-unit-requires : tie.Need-clean_unit-requires
+clean-unit-requires c κs = (omega arith, sym c.has_stray_delimiter.ensures ∙ c.if-has_stray_delimiter.true)
 
-copy-unit-requires : tie.Need-copy-unit-requires
-copy-unit-requires c κs = record { short = omega arith; clean = sym c.before.before.has-stray-delimiter.ensures ∙ c.before.if2.false }
+copy-unit-requires : tie.Need-copy_unit-requires
+copy-unit-requires c κs = record { short = omega arith; clean = sym c.has_stray_delimiter.ensures ∙ c.if-has_stray_delimiter.false }
 
-pub canonicalize-tu-spec : {M : Type 1} → statement M
-canonicalize-tu-spec =
+pub canonicalize_tu_spec : {M : Type 1} → statement M
+canonicalize_tu_spec =
     tie.close
     (tie.spec
     returns

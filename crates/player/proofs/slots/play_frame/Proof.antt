@@ -5,23 +5,23 @@ use Rattle.player.specs.Values.{acted_on}
 use Rattle.player.proofs.slots.play_frame.Statement.{statement}
 use Rattle.player.proofs.slots.play_frame.Tie as tie
 
-returns : tie.Need-returns
+returns : tie.Need-returns-then-f
 returns c =
-    let i = c.before.before.before.before.info2.given.1 in
-    rw (i, c.if1.true, c.before.refresh-slots.ensures)
+    let i = c.in-Frame.is in
+    rw (i, c.if-f.true, c.refresh_slots-all.ensures)
 
-returns-2 : tie.Need-returns-2
+returns-2 : tie.Need-returns-in-Existing
 returns-2 c =
-    let a = c.before.before.before.before.args in
-    c.show-slot.ensures ∙ ap (λ x. acted_on a.slots (act a.slots a.position x)) (sym c.before.before.info.given.1)
+    let a = c.args in
+    c.show_slot.ensures ∙ ap (λ x. acted_on a.slots (act a.slots a.position x)) (sym c.in-Existing.is)
 
-returns-3 : tie.Need-returns-3
+returns-3 : tie.Need-returns-else-f
 returns-3 c =
-    let i = c.before.before.before.before.info2.given.1 in
-    rw (i, c.if1.false, c.before.refresh-slots.ensures)
+    let i = c.in-Frame.is in
+    rw (i, c.if-f.false, c.refresh_slots-all.ensures)
 
-pub play-frame-spec : {M : Type 1} → statement M
-play-frame-spec =
+pub play_frame_spec : {M : Type 1} → statement M
+play_frame_spec =
     tie.close
     (tie.spec
     (λ c. search rules)

@@ -13,12 +13,12 @@ use Rattle.player.proofs.start.start_state.Tie as tie
 abbrev with : OperatingPoint → CodeState
 with p = record { slots = replicate 8 empty; kept = record { last = Nothing; points = replicate 32 p } }
 
-no-point-requires : tie.Need-no-point-requires
+no-point-requires : tie.Need-no_point-point-requires
 no-point-requires c κs = search rules
 
 returns : tie.Need-returns
 unfolding padded
-returns c = ap with c.no-point.ensures
+returns c = ap with c.no_point-point.ensures
 
-pub start-state-spec : {M : Type 1} → statement M
-start-state-spec = tie.close (tie.spec no-point-requires returns)
+pub start_state_spec : {M : Type 1} → statement M
+start_state_spec = tie.close (tie.spec no-point-requires returns)

@@ -7,30 +7,29 @@ use Rattle.player.proofs.StepLaws.{frame-left, kept-none, kept-refused, kept_fra
 use Rattle.player.proofs.step.step_frame.Statement.{statement}
 use Rattle.player.proofs.step.step_frame.Tie as tie
 
-returns : tie.Need-returns
+returns : tie.Need-returns-in-Nothing
 returns c =
-    let a = c.before.before.before.before.before.before.args in
-    c.refuse.ensures ∙ ap (played_on a.state a.kept) (kept-none a.state.slots a.position a.unit.now a.kept c.before.enum_told.given.1)
+    let a = c.args in
+    c.refuse.ensures ∙ ap (played_on a.state a.kept) (kept-none a.state.slots a.position a.unit.now a.kept c.in-Nothing.is)
 
-returns-2 : tie.Need-returns-2
+returns-2 : tie.Need-returns-in-Refused
 returns-2 c =
-    let f = c.before.before.before.before in
-    let t = f.before.before in
-    let a = t.before.before.before.before.before.args in
-    c.refuse2.ensures
-    ∙ ap (played_on a.state a.kept) (kept-refused a.state.slots a.position a.unit.now a.kept _ t.last.given.1 _ (sym f.unit-frame.ensures ∙ ap frame_says c.before.before.k.given.1))
+    let f = c.before.before in
+    let t = f.before in
+    let a = t.args in
+    c.refuse-in-Refused.ensures
+    ∙ ap (played_on a.state a.kept) (kept-refused a.state.slots a.position a.unit.now a.kept _ t.in-Header.is _ (sym f.unit_frame.ensures ∙ ap frame_says c.in-Refused.is))
 
-returns-3 : tie.Need-returns-3
+returns-3 : tie.Need-returns-in-Header-unit_frame
 returns-3 c =
-    let f = c.before.before.before.before.before in
-    let t = f.before.before in
-    let a = t.before.before.before.before.before.args in
-    let i = c.before.before.before.info.given in
-    c.leave.ensures ∙ ap (left_in a.state a.kept) c.before.play-frame.ensures ∙ frame-left a.state a.kept (kept_says a.kept) (act a.state.slots a.position i.0.0)
-    ∙ ap (played_on a.state a.kept) (kept_frame a.state.slots a.position a.unit.now a.kept _ t.last.given.1 _ (sym f.unit-frame.ensures ∙ ap frame_says i.1))
+    let f = c.before.before.before in
+    let t = f.before in
+    let a = t.args in
+    c.leave.ensures ∙ ap (left_in a.state a.kept) c.play_frame.ensures ∙ frame-left a.state a.kept (kept_says a.kept) (act a.state.slots a.position c.in-Header-unit_frame.info)
+    ∙ ap (played_on a.state a.kept) (kept_frame a.state.slots a.position a.unit.now a.kept _ t.in-Header.is _ (sym f.unit_frame.ensures ∙ ap frame_says c.in-Header-unit_frame.is))
 
-pub step-frame-spec : {M : Type 1} → statement M
-step-frame-spec =
+pub step_frame_spec : {M : Type 1} → statement M
+step_frame_spec =
     tie.close
     (tie.spec
     (λ c. search rules)

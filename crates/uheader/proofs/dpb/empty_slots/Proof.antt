@@ -4,5 +4,5 @@ use lib.ListN.{replicate}
 use Rattle.uheader.proofs.dpb.empty_slots.Statement.{statement}
 use Rattle.uheader.proofs.dpb.empty_slots.Tie as tie
 
-pub empty-slots-spec : {M : Type 1} → statement M
-empty-slots-spec = tie.close (tie.spec (λ c κs. search rules) (λ c. ap (replicate 8) c.empty-slot.ensures))
+pub empty_slots_spec : {M : Type 1} → statement M
+empty_slots_spec = tie.close (tie.spec (λ c κs. search rules) (λ c. ap (replicate 8) c.empty_slot-empty.ensures))

@@ -5,8 +5,8 @@ use lib.ListN.{get_or-eq_default}
 use Rattle.uheader.proofs.dpb.hint_at.Statement.{statement}
 use Rattle.uheader.proofs.dpb.hint_at.Tie as tie
 
-returns-2 : tie.Need-returns-2
-returns-2 c = sym (get_or-eq_default c.before.args.t1 0 (omega (arith, c.before.well-formed.0)))
+returns-2 : tie.Need-returns
+returns-2 c = sym (get_or-eq_default c.args.hints 0 (omega (arith, c.well_formed.0)))
 
-pub hint-at-spec : {M : Type 1} → statement M
-hint-at-spec = tie.close (tie.spec (λ c. search rules) (λ c. search rules) (λ c. search rules) returns-2)
+pub hint_at_spec : {M : Type 1} → statement M
+hint_at_spec = tie.close (tie.spec (λ c. search rules) (λ c. search rules) (λ c. search rules) returns-2)

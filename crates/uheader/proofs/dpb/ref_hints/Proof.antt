@@ -13,19 +13,19 @@ use Rattle.uheader.proofs.dpb.ref_hints.Tie as tie
 abbrev hint : List ℕ → ℕ → ℕ
 hint all k = get_or all k 0
 
-abbrev invariant-loop : tie.invariant-loop
+abbrev invariant-loop : tie.invariant-loop-i
 invariant-loop all hints₀ i₀ hints i = (i ≤ 7) × (length hints ≡ 7) × (map_from (hint all) i hints ≡ map_from (hint all) 0 hints₀)
 
-abbrev decreases-loop : tie.decreases-loop
+abbrev decreases-loop : tie.decreases-loop-i
 decreases-loop all hints₀ i₀ hints i = 7 - i
 
-loop-again : tie.Need-loop-preserved invariant-loop decreases-loop
+loop-again : tie.Need-loop-i-preserved invariant-loop decreases-loop
 loop-again c =
-    let all = c.before.before.before.order-hints.result in
-    let l = c.before.before.loop in (
+    let all = c.order_hints-all.result in
+    let l = c.loop-i in (
       omega arith,
       length-set l.hints l.i _ ∙ l.invariant.1,
-      ap (λ (w : ℕ). map_from (hint all) (l.i + 1) (set l.hints l.i w)) c.hint-at.ensures
+      ap (λ (w : ℕ). map_from (hint all) (l.i + 1) (set l.hints l.i w)) c.hint_at.ensures
           ∙ sym (map-set (hint all) l.i l.hints 0 (omega arith))
           ∙ l.invariant.2,
     )
@@ -33,13 +33,13 @@ loop-again c =
 returns : tie.Need-returns invariant-loop decreases-loop
 returns c =
     let o = c.before.before in
-    let l = c.before.loop in
-    sym (map-end (hint o.order-hints.result) l.i l.hints (omega arith))
+    let l = c.loop-i in
+    sym (map-end (hint o.order_hints-all.result) l.i l.hints (omega arith))
     ∙ l.invariant.2
-    ∙ map_congr_left {l = o.before.args.refs} (λ k _. ap (λ (x : List ℕ). get_or x k 0) o.order-hints.ensures ∙ get_or-map (λ (x : RefSlot). x.order_hint) o.before.args.slots k empty_slot)
+    ∙ map_congr_left {l = o.args.refs} (λ k _. ap (λ (x : List ℕ). get_or x k 0) o.order_hints-all.ensures ∙ get_or-map (λ (x : RefSlot). x.order_hint) o.args.slots k empty_slot)
 
-pub ref-hints-spec : {M : Type 1} → statement M
-ref-hints-spec =
+pub ref_hints_spec : {M : Type 1} → statement M
+ref_hints_spec =
     tie.close
     (tie.spec
     invariant-loop

@@ -8,34 +8,34 @@ use Rattle.frame.proofs.RefreshLaws.{sweep, sweep-end, sweep-set, sweep-skip}
 use Rattle.uheader.proofs.dpb.refreshed.Statement.{statement}
 use Rattle.uheader.proofs.dpb.refreshed.Tie as tie
 
-abbrev invariant-loop : tie.invariant-loop
+abbrev invariant-loop : tie.invariant-loop-i
 invariant-loop flags new all₀ rest₀ i₀ all rest i = (i ≤ 8) × (length all ≡ 8) × (sweep i rest new all ≡ sweep 0 rest₀ new all₀)
 
-abbrev decreases-loop : tie.decreases-loop
+abbrev decreases-loop : tie.decreases-loop-i
 decreases-loop flags new all₀ rest₀ i₀ all rest i = 8 - i
 
-loop-holds : tie.Need-loop-init invariant-loop decreases-loop
+loop-holds : tie.Need-loop-i-init invariant-loop decreases-loop
 loop-holds c = (omega arith, search rules, refl)
 
-loop-again : tie.Need-loop-preserved invariant-loop decreases-loop
+loop-again : tie.Need-loop-i-preserved invariant-loop decreases-loop
 loop-again c =
-    let l = c.before.before.loop in
+    let l = c.loop-i in
     let h = l.invariant.1 in (
       omega arith,
-      ⊎_elim (λ w. rw w.1 (length-set l.all l.i _ ∙ h)) (λ w. rw w.1 h) c.if1.branch,
+      ⊎_elim (λ w. rw w.all-is (length-set l.all l.i _ ∙ h)) (λ w. rw w.all-is h) c.if-rest-eq1.branch-raw,
       ⊎_elim
-          (λ w. rw w.1 (sym (sweep-set l.i l.rest _ l.all (omega arith) w.0.taken) ∙ l.invariant.2))
-          (λ w. rw w.1 (sym (sweep-skip l.i l.rest _ l.all (omega arith) w.0.left) ∙ l.invariant.2))
-          c.if1.branch,
+          (λ w. rw w.all-is (sym (sweep-set l.i l.rest _ l.all (omega arith) w.if-rest-eq1.true) ∙ l.invariant.2))
+          (λ w. rw w.all-is (sym (sweep-skip l.i l.rest _ l.all (omega arith) w.if-rest-eq1.false) ∙ l.invariant.2))
+          c.if-rest-eq1.branch-raw,
     )
 
 returns : tie.Need-returns invariant-loop decreases-loop
 returns c =
-    let l = c.before.loop in
+    let l = c.loop-i in
     sym (sweep-end l.i l.rest _ l.all (omega arith)) ∙ l.invariant.2
 
-pub refreshed-spec : {M : Type 1} → statement M
-refreshed-spec =
+pub refreshed_spec : {M : Type 1} → statement M
+refreshed_spec =
     tie.close
     (tie.spec
     invariant-loop

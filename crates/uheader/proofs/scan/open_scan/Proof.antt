@@ -10,17 +10,17 @@ use Rattle.uheader.specs.Scan.{scan_front, open_scan}
 use Rattle.uheader.proofs.scan.open_scan.Statement.{statement}
 use Rattle.uheader.proofs.scan.open_scan.Tie as tie
 
-returns : tie.Need-returns
+returns : tie.Need-returns-then-header
 unfolding open_scan
-returns c = rw c.if1.true
+returns c = rw c.if-header.true
 
-returns-2 : tie.Need-returns-2
+returns-2 : tie.Need-returns-then-header-2
 unfolding open_scan
-returns-2 c = rw (c.before.if1.false, c.if2.true)
+returns-2 c = rw (c.if-header.false, c.if-header-2.true)
 
-returns-3 : tie.Need-returns-3
+returns-3 : tie.Need-returns-then-header-3
 unfolding open_scan
-returns-3 c = rw (c.before.before.if1.false, c.before.if2.false, c.if3.true)
+returns-3 c = rw (c.if-header.false, c.if-header-2.false, c.if-header-3.true)
 
 -- none of the three
 opens : (h : SequenceHeader) (f : List ℕ)
@@ -35,17 +35,17 @@ opens h f full grain ids =
     ∙ ap (λ t. pick t (fails 20) y) grain
     ∙ ap (λ t. pick t (fails 18) x) ids)
 
-returns-4 : tie.Need-returns-4
+returns-4 : tie.Need-returns-then-at-ne0
 returns-4 c =
     let k = c.before.before.before in
-    refused (scan_front _) _ 0 k.scan-front.ensures c.if4.true
-    ∙ opens _ _ k.before.before.before.if1.false k.before.before.if2.false k.before.if3.false
+    refused (scan_front _) _ 0 k.scan_front-f.ensures c.if-at-ne0.true
+    ∙ opens _ _ k.if-header.false k.if-header-2.false k.if-header-3.false
 
-returns-5 : tie.Need-returns-5
+returns-5 : tie.Need-returns
 returns-5 c =
     let k = c.before.before.before.before in
-    accepted (scan_front _) _ 0 k.scan-front.ensures c.before.if4.false
-    ∙ opens _ _ k.before.before.before.if1.false k.before.before.if2.false k.before.if3.false
+    accepted (scan_front _) _ 0 k.scan_front-f.ensures c.if-at-ne0.false
+    ∙ opens _ _ k.if-header.false k.if-header-2.false k.if-header-3.false
 
-pub open-scan-spec : {M : Type 1} → statement M
-open-scan-spec = tie.close (tie.spec returns returns-2 returns-3 _ returns-4 returns-5)
+pub open_scan_spec : {M : Type 1} → statement M
+open_scan_spec = tie.close (tie.spec returns returns-2 returns-3 _ returns-4 returns-5)

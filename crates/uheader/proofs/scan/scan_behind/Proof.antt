@@ -23,47 +23,47 @@ abbrev after_rest : List RefSlot → FrameFront → ℕ → Reading Rest → Sca
 after_rest slots x insert y = scanned slots (answer_of (and_then y (λ r end. reads (scan_of x r insert end) end)))
 
 -- the whole of it, as the cursor has gone
-gone : (c : tie.After-frame-tail)
-    → let a = c.before.before.before.before.before.before.before.before.before.args in
-    here (rest_of c.before.before.before.before.before.before.frame-shape.result.shape c.frame-tail.result.q) c.frame-tail.result.at
+gone : (c : tie.After-frame_tail-y)
+    → let a = c.args in
+    here (rest_of c.frame_shape-z.result.shape c.frame_tail-y.result.q) c.frame_tail-y.result.at
     ≡ follow (scan_rest sign_magnitude a.header a.removals a.slots a.x) a.payload.now (fresh a.insert)
 unfolding scan_rest
 gone c =
-    let a = c.before.before.before.before.before.before.before.before.before.args in
+    let a = c.args in
     whole (scan_rest sign_magnitude a.header a.removals a.slots a.x) a.payload.now (fresh a.insert) (λ w x.
-    let x = took x c.before.before.before.before.before.before.frame-shape.ensures.0 in
-    let x = took x c.before.tile-info.ensures in
-    let x = took x c.frame-tail.ensures.0 in
+    let x = took x c.frame_shape-z.ensures.0 in
+    let x = took x c.tile_info-tiles.ensures in
+    let x = took x c.frame_tail-y.ensures.0 in
     read x)
 
-returns : tie.Need-returns
+returns : tie.Need-returns-then-sized-ne0
 unfolding scan_behind scan_rest run
 returns c =
     let k = c.before.before.before.before in
-    let a = k.before.before.before.args in
-    let e = refused (frame_shape a.header a.removals a.slots a.x) a.payload.now a.insert k.frame-shape.ensures.0 c.before.if1.true in
+    let a = k.args in
+    let e = refused (frame_shape a.header a.removals a.slots a.x) a.payload.now a.insert k.frame_shape-z.ensures.0 c.if-sized-ne0.true in
     c.stopped.ensures ∙ rw (← e)
 
-returns-2 : tie.Need-returns-2
+returns-2 : tie.Need-returns-then-at-ne0
 unfolding scan_behind
 returns-2 c =
     let t = c.before.before.before.before in
-    let a = t.before.before.before.before.before.before.before.before.before.args in
-    c.stopped2.ensures
+    let a = t.args in
+    c.stopped-then-at-ne0.ensures
     ∙ ap (after_rest a.slots a.x a.insert)
-    (refused (scan_rest sign_magnitude a.header a.removals a.slots a.x) a.payload.now a.insert (gone t) c.before.if2.true)
+    (refused (scan_rest sign_magnitude a.header a.removals a.slots a.x) a.payload.now a.insert (gone t) c.if-at-ne0.true)
 
-returns-3 : tie.Need-returns-3
+returns-3 : tie.Need-returns
 unfolding scan_behind
 returns-3 c =
     let t = c.before.before.before.before.before in
-    let a = t.before.before.before.before.before.before.before.before.before.args in
+    let a = t.args in
     c.finished.ensures
     ∙ ap (after_rest a.slots a.x a.insert)
-    (accepted (scan_rest sign_magnitude a.header a.removals a.slots a.x) a.payload.now a.insert (gone t) c.before.before.if2.false)
+    (accepted (scan_rest sign_magnitude a.header a.removals a.slots a.x) a.payload.now a.insert (gone t) c.if-at-ne0.false)
 
-pub scan-behind-spec : {M : Type 1} → statement M
-scan-behind-spec =
+pub scan_behind_spec : {M : Type 1} → statement M
+scan_behind_spec =
     tie.close
     (tie.spec
     (λ c κs. search rules)

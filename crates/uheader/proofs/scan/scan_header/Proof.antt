@@ -18,21 +18,21 @@ use Rattle.uheader.proofs.scan.scan_header.Tie as tie
 abbrev after_opening : SequenceHeader → ℕ → List RefSlot → List ℕ → Reading FrameFront → ScanStep
 after_opening h n slots f y = scanned slots (answer_of (and_then y (λ x insert. scan_behind sign_magnitude h n slots f x insert)))
 
-returns : tie.Need-returns
+returns : tie.Need-returns-in-Front
 unfolding scan_header scan_by
 returns c =
-    let k = c.before.before.before.before in
-    let a = k.before.before.args in
-    c.scan-behind.ensures
-    ∙ ap (after_opening a.header a.removals a.slots a.payload.now) (sym (ap opened_says c.before.before.opened.given.1) ∙ k.open-scan.ensures)
+    let k = c.before.before in
+    let a = k.args in
+    c.scan_behind.ensures
+    ∙ ap (after_opening a.header a.removals a.slots a.payload.now) (sym (ap opened_says c.in-Front.is) ∙ k.open_scan-opened.ensures)
 
-returns-2 : tie.Need-returns-2
+returns-2 : tie.Need-returns-in-Refused
 unfolding scan_header scan_by
 returns-2 c =
-    let k = c.before.before.before.before in
-    let a = k.before.before.args in
+    let k = c.before.before in
+    let a = k.args in
     c.stopped.ensures
-    ∙ ap (after_opening a.header a.removals a.slots a.payload.now) (sym (ap opened_says c.before.before.opened2.given.1) ∙ k.open-scan.ensures)
+    ∙ ap (after_opening a.header a.removals a.slots a.payload.now) (sym (ap opened_says c.in-Refused.is) ∙ k.open_scan-opened.ensures)
 
-pub scan-header-spec : {M : Type 1} → statement M
-scan-header-spec = tie.close (tie.spec _ (λ c. search rules) (λ c κs. search rules) (λ c. search rules) _ returns returns-2)
+pub scan_header_spec : {M : Type 1} → statement M
+scan_header_spec = tie.close (tie.spec _ (λ c. search rules) (λ c κs. search rules) (λ c. search rules) _ returns returns-2)

@@ -14,40 +14,39 @@ use Rattle.uheader.proofs.WithinLaws.{read-within}
 use Rattle.uheader.proofs.scan.scan_uncompressed_header.Statement.{statement}
 use Rattle.uheader.proofs.scan.scan_uncompressed_header.Tie as tie
 
-returns : tie.Need-returns
+returns : tie.Need-returns-then-payload-gt-LIMIT
 unfolding scan_payloads
-returns c = c.stopped.ensures ∙ ap (scanned _) (sym (over-limit _ _ c.before.if1.true))
+returns c = c.stopped.ensures ∙ ap (scanned _) (sym (over-limit _ _ c.if-payload-gt-LIMIT.true))
 
 -- a scan under each header, with the Rust's removal times
 abbrev scans : List RefSlot → List ℕ → Sequence → Answer HeaderScan
 scans slots f q = scan_header q.header (removals modelled q) slots f
 
-returns-2 : tie.Need-returns-2
+returns-2 : tie.Need-returns-in-Header
 unfolding scan_payloads
 returns-2 c =
-    let k = c.before.before.before.before.before.before in
-    let a = k.before.before.before.before.args in
-    let p = k.parse-sequence-header in
-    let x = c.before.before.before.answer.given in
-    c.scan-header.ensures
-    ∙ ap (λ n. scanned a.slots (scan_header x.0.0 n a.slots a.payload.now)) c.before.removals.ensures
+    let k = c.before.before.before.before in
+    let a = k.args in
+    let p = k.parse_sequence_header-read in
+    c.scan_header.ensures
+    ∙ ap (λ n. scanned a.slots (scan_header c.in-Header.header n a.slots a.payload.now)) c.removals-removals.ensures
     ∙ ap (scanned _)
-    (beside-read _ p.result p.ensures (scans a.slots a.payload.now) _ x.1
-    ∙ sym (within-limit _ _ k.before.if1.false))
+    (beside-read _ p.result p.ensures (scans a.slots a.payload.now) _ c.in-Header.is
+    ∙ sym (within-limit _ _ k.if-payload-gt-LIMIT.false))
 
-returns-3 : tie.Need-returns-3
+returns-3 : tie.Need-returns-in-Refused
 unfolding scan_payloads
 returns-3 c =
-    let k = c.before.before.before.before.before in
-    let a = k.before.before.before.before.args in
-    let p = k.parse-sequence-header in
-    c.stopped2.ensures
+    let k = c.before.before.before in
+    let a = k.args in
+    let p = k.parse_sequence_header-read in
+    c.stopped-in-Refused.ensures
     ∙ ap (scanned _)
-    (beside-refused _ p.result p.ensures (scans a.slots a.payload.now) _ c.before.before.answer2.given.1
-    ∙ sym (within-limit _ _ k.before.if1.false))
+    (beside-refused _ p.result p.ensures (scans a.slots a.payload.now) _ c.in-Refused.is
+    ∙ sym (within-limit _ _ k.if-payload-gt-LIMIT.false))
 
-pub scan-uncompressed-header-spec : {M : Type 1} → statement M
-scan-uncompressed-header-spec =
+pub scan_uncompressed_header_spec : {M : Type 1} → statement M
+scan_uncompressed_header_spec =
     tie.close
     (tie.spec
     _
@@ -56,8 +55,8 @@ scan-uncompressed-header-spec =
     (λ c. search rules)
     _
     (λ c κs.
-    let p = c.before.before.before.before.before.parse-sequence-header in
-    read-within _ _ (limited-read _ _ (beside-whole _ p.result p.ensures _ c.before.before.answer.given.1)))
+    let p = c.parse_sequence_header-read in
+    read-within _ _ (limited-read _ _ (beside-whole _ p.result p.ensures _ c.in-Header.is)))
     (λ c. search rules)
     _
     returns-2

@@ -36,14 +36,14 @@ returns c =
     let q = k.args.q in
     let h = k.requires in
     same
-    (kept q.delta_q_y_dc h.y-dc c.before.before.before.before.su-7.ensures)
-    (kept q.delta_q_u_dc h.u-dc c.before.before.before.su-72.ensures)
-    (kept q.delta_q_u_ac h.u-ac c.before.before.su-73.ensures)
-    (kept q.delta_q_v_dc h.v-dc c.before.su-74.ensures)
-    (kept q.delta_q_v_ac h.v-ac c.su-75.ensures)
+    (kept q.delta_q_y_dc h.y-dc c.su_7.ensures)
+    (kept q.delta_q_u_dc h.u-dc c.su_7-2.ensures)
+    (kept q.delta_q_u_ac h.u-ac c.su_7-3.ensures)
+    (kept q.delta_q_v_dc h.v-dc c.su_7-4.ensures)
+    (kept q.delta_q_v_ac h.v-ac c.su_7-5.ensures)
 
-pub signed-deltas-spec : {M : Type 1} → statement M
-signed-deltas-spec =
+pub signed_deltas_spec : {M : Type 1} → statement M
+signed_deltas_spec =
     tie.close
     (tie.spec
     (λ c κs. search rules)

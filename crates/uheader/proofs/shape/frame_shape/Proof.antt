@@ -6,19 +6,19 @@ use Rattle.uheader.proofs.shape.frame_shape.Tie as tie
 returns : tie.Need-returns
 unfolding frame_shape
 returns c =
-    let a = c.before.before.before.before.before.before.before.before.before.before.before.before.before.before.before.before.before.before.before.before.before.before.before.before.args in (
+    let a = c.args in (
       whole (frame_shape a.header a.removals a.slots a.x) a.s.now a.c (λ w x.
-          let x = rw (← c.before.before.before.before.before.before.before.before.before.before.before.before.before.before.before.before.before.before.is-intra.ensures) at x in
-          let x = took x c.before.before.before.before.before.before.before.before.before.before.before.before.before.before.before.before.before.refresh-flags.ensures in
-          let x = took x c.before.before.before.before.before.before.before.before.before.before.before.before.before.ref-order-hints.ensures in
-          let x = took x c.before.before.before.before.before.before.before.before.before.before.before.before.frame-refs.ensures in
-          let x = took x c.before.before.before.before.before.before.before.before.before.frame-geometry.ensures.0 in
-          let x = got x c.before.before.before.before.before.before.f-if.ensures.0 in
-          let x = took x c.before.before.before.before.before.motion-modes.ensures in
-          let x = got x c.before.before.before.f-if2.ensures.0 in
+          let x = rw (← c.is_intra-intra.ensures) at x in
+          let x = took x c.refresh_flags-flags.ensures in
+          let x = took x c.ref_order_hints-hints.ensures in
+          let x = took x c.frame_refs-refs.ensures in
+          let x = took x c.frame_geometry-z.ensures.0 in
+          let x = got x c.f_if-intrabc.ensures.0 in
+          let x = took x c.motion_modes-fine.ensures in
+          let x = got x c.f_if-disable.ensures.0 in
           read x),
-      c.before.before.before.before.before.before.before.before.before.frame-geometry.ensures.1,
+      c.frame_geometry-z.ensures.1,
     )
 
-pub frame-shape-spec : {M : Type 1} → statement M
-frame-shape-spec = tie.close (tie.spec _ _ _ _ (λ c κs. c.before.before.before.before.before.before.before.before.before.before.before.before.before.before.requires) _ _ _ returns)
+pub frame_shape_spec : {M : Type 1} → statement M
+frame_shape_spec = tie.close (tie.spec _ _ _ _ (λ c κs. c.requires) _ _ _ returns)

@@ -6,13 +6,13 @@ use Rattle.uheader.proofs.tail.filter_params.Tie as tie
 returns : tie.Need-returns
 unfolding filter_params
 returns c =
-    let a = c.before.before.before.before.before.before.before.before.before.before.before.before.args in
+    let a = c.args in
     whole (filter_params a.lossless a.coding a.z) a.s.now a.c (λ w x.
-    let x = took x c.before.before.before.before.before.before.loop-filter-params.ensures in
-    let x = took x c.before.before.before.before.cdef-params.ensures in
-    let x = took x c.before.lr-params.ensures in
-    let x = got x c.f-if.ensures.0 in
+    let x = took x c.loop_filter_params-loops.ensures in
+    let x = took x c.cdef_params-cdef.ensures in
+    let x = took x c.lr_params-lr.ensures in
+    let x = got x c.f_if.ensures.0 in
     read x)
 
-pub filter-params-spec : {M : Type 1} → statement M
-filter-params-spec = tie.close (tie.spec _ _ _ _ returns)
+pub filter_params_spec : {M : Type 1} → statement M
+filter_params_spec = tie.close (tie.spec _ _ _ _ returns)

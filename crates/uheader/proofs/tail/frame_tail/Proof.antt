@@ -7,18 +7,18 @@ use Rattle.uheader.proofs.tail.frame_tail.Tie as tie
 returns : tie.Need-returns
 unfolding frame_tail
 returns c =
-    let a = c.before.before.before.before.before.before.before.before.before.before.before.before.before.before.before.args in (
+    let a = c.args in (
       whole (frame_tail sign_magnitude a.coding a.x a.z a.slots) a.s.now a.c (λ w x.
-          let x = took x c.before.before.before.before.before.before.before.before.before.before.before.before.quantization-params.ensures.0 in
-          let x = took x c.before.before.before.before.before.before.before.before.before.segmentation-params.ensures in
-          let x = took x c.before.before.before.before.before.before.before.before.delta-q-params.ensures in
-          let x = took x c.before.before.before.before.before.delta-lf-params.ensures in
-          let x = rw (← c.before.before.before.coded-lossless.ensures) at x in
-          let x = took x c.before.before.filter-params.ensures in
-          let x = took x c.before.motion-params.ensures in
+          let x = took x c.quantization_params-quant.ensures.0 in
+          let x = took x c.segmentation_params-alts.ensures in
+          let x = took x c.delta_q_params-present.ensures in
+          let x = took x c.delta_lf_params-lf.ensures in
+          let x = rw (← c.coded_lossless-lossless.ensures) at x in
+          let x = took x c.filter_params-filters.ensures in
+          let x = took x c.motion_params-motion.ensures in
           read x),
-      c.before.before.before.before.before.before.before.before.before.before.before.before.quantization-params.ensures.1,
+      c.quantization_params-quant.ensures.1,
     )
 
-pub frame-tail-spec : {M : Type 1} → statement M
-frame-tail-spec = tie.close (tie.spec _ _ _ _ _ _ _ returns)
+pub frame_tail_spec : {M : Type 1} → statement M
+frame_tail_spec = tie.close (tie.spec _ _ _ _ _ _ _ returns)

@@ -14,116 +14,116 @@ use Rattle.annexb.proofs.WriteLaws.{not-bytes}
 use Rattle.annexb.proofs.annexb.count.count_units.Statement.{statement}
 use Rattle.annexb.proofs.annexb.count.count_units.Tie as tie
 
-abbrev invariant-loop : tie.invariant-loop
+abbrev invariant-loop : tie.invariant-loop-i
 invariant-loop units unit_ends at₀ i₀ total₀ at i total = Totalling units unit_ends at i total
 
-abbrev decreases-loop : tie.decreases-loop
+abbrev decreases-loop : tie.decreases-loop-i
 decreases-loop units unit_ends at₀ i₀ total₀ at i total = length unit_ends - i
 
-abbrev begin : tie.At-loop invariant-loop decreases-loop → tie.Start invariant-loop decreases-loop
+abbrev begin : tie.At-loop-i invariant-loop decreases-loop → tie.Start invariant-loop decreases-loop
 begin c = c.before.before.before
 
-abbrev end_of : tie.At-loop invariant-loop decreases-loop → ℕ
-end_of l = get_or (begin l).args.unit_ends.now l.loop.i 0
+abbrev end_of : tie.At-loop-i invariant-loop decreases-loop → ℕ
+end_of l = get_or (begin l).args.unit_ends.now l.loop-i.i 0
 
 -- the unit lies within the bytes
-good : (c : tie.In-loop invariant-loop decreases-loop) → (c.before.loop.at ≤ end_of c.before) × (end_of c.before ≤ length (begin c.before).args.units.now)
-good c = totalling-good _ _ (begin c.before).pre.1 c.before.loop.invariant c.loop-test.true
+good : (c : tie.In-loop-i invariant-loop decreases-loop) → (c.loop-i.at ≤ end_of c.before) × (end_of c.before ≤ length (begin c.before).args.units.now)
+good c = totalling-good _ _ (begin c.before).requires.1 c.loop-i.invariant c.loop-i-test.true
 
-abbrev turn : tie.After-count-inner invariant-loop decreases-loop → tie.In-loop invariant-loop decreases-loop
+abbrev turn : tie.After-count_inner-found invariant-loop decreases-loop → tie.In-loop-i invariant-loop decreases-loop
 turn c = c.before.before.before
 
-abbrev bytes_of : tie.In-loop invariant-loop decreases-loop → List ℕ
-bytes_of c = span (begin c.before).args.units.now c.before.loop.at (end_of c.before)
+abbrev bytes_of : tie.In-loop-i invariant-loop decreases-loop → List ℕ
+bytes_of c = span (begin c.before).args.units.now c.loop-i.at (end_of c.before)
 
 -- what was counted of it
-inner-counted : (c : tie.After-found invariant-loop decreases-loop) → counts (bytes_of (turn c.before.before)) ≡ accepted c.found.given.0.0
+inner-counted : (c : tie.In-Bytes invariant-loop decreases-loop) → counts (bytes_of (turn c.before)) ≡ accepted c.in-Bytes.n
 unfolding span
-inner-counted c = sym c.before.before.count-inner.ensures.0 ∙ ap byte_count_says c.found.given.1
+inner-counted c = sym c.count_inner-found.ensures.0 ∙ ap byte_count_says c.in-Bytes.is
 
-few : (c : tie.After-found invariant-loop decreases-loop) → (let l = (turn c.before.before).before in c.found.given.0.0 ≤ 12 * (end_of l - l.loop.at))
+few : (c : tie.In-Bytes invariant-loop decreases-loop) → (let l = (turn c.before).before in c.in-Bytes.n ≤ 12 * (end_of l - l.loop-i.at))
 unfolding span
 few c =
-    let t = turn c.before.before in
+    let t = turn c.before in
     let l = t.before in
-    let n = span-length (begin l).args.units.now l.loop.at (end_of l) (good t).1 in
-    let m : AtMost (12 * length (bytes_of t)) (accepted c.found.given.0.0) = rw c.found.given.1 at c.before.before.count-inner.ensures.1 in
+    let n = span-length (begin l).args.units.now l.loop-i.at (end_of l) (good t).1 in
+    let m : AtMost (12 * length (bytes_of t)) (accepted c.in-Bytes.n) = rw c.in-Bytes.is at c.count_inner-found.ensures.1 in
     omega arith
 
 -- the unit counted behind the others
-next : (c : tie.After-framed-len2 invariant-loop decreases-loop)
-    → (let l = (turn c.before.before.before.before.before).before in
-    Totalling (begin l).args.units.now (begin l).args.unit_ends.now (end_of l) (l.loop.i + 1) (l.loop.total + c.framed-len2.result))
+next : (c : tie.After-framed_len-total invariant-loop decreases-loop)
+    → (let l = (turn c.before.before.before).before in
+    Totalling (begin l).args.units.now (begin l).args.unit_ends.now (end_of l) (l.loop-i.i + 1) (l.loop-i.total + c.framed_len-total.result))
 next c =
-    let f = c.before.before.before in
-    let t = turn f.before.before in
-    totalling-next _ _ (begin t.before).pre.1 t.before.loop.inv t.loop-test.taken (begin t.before).pre.0 (inner-counted f) (few f) (c.framed-len2.ensures ∙ ap framed_length c.before.framed-len.ensures)
+    let f = c.before.before in
+    let t = turn f.before in
+    totalling-next _ _ (begin t.before).requires.1 t.loop-i.invariant t.loop-i-test.true (begin t.before).requires.0 (inner-counted f) (few f) (c.framed_len-total.ensures ∙ ap framed_length c.framed_len.ensures)
 
-loop-holds : tie.Need-loop-init invariant-loop decreases-loop
+loop-holds : tie.Need-loop-i-init invariant-loop decreases-loop
 loop-holds c = totalling-start _ _
 
-cast-end : tie.Need-overflow-cast-end invariant-loop decreases-loop
-cast-end c = omega (arith, c.shared-slice-known3.given c.before.before.loop.i)
+cast-end : tie.Need-overflow_cast-end invariant-loop decreases-loop
+cast-end c = omega (arith, c.shared_slice_known-in-loop-i-1.given c.loop-i.i)
 
-sub-count-inner : tie.Need-overflow-sub-count-inner invariant-loop decreases-loop
+sub-count-inner : tie.Need-slice_bounds-count_inner-count invariant-loop decreases-loop
 sub-count-inner c = let g = good c.before in omega arith
 
-part-count-inner-start : tie.Need-slice-bounds-count-inner-start invariant-loop decreases-loop
+part-count-inner-start : tie.Need-slice_bounds-count_inner-start invariant-loop decreases-loop
 part-count-inner-start c = let g = good c.before in omega arith
 
-part-count-inner-end : tie.Need-slice-bounds-count-inner-end invariant-loop decreases-loop
+part-count-inner-end : tie.Need-slice_bounds-count_inner-end invariant-loop decreases-loop
 part-count-inner-end c = let g = good c.before in omega arith
 
-count-inner-requires : tie.Need-count-inner-requires invariant-loop decreases-loop
+count-inner-requires : tie.Need-count_inner-found-requires invariant-loop decreases-loop
 unfolding span
 count-inner-requires c κs =
     let t = c.before.before in
     let l = t.before in
     let g = good t in
-    omega (arith, span-length (begin l).args.units.now l.loop.at (end_of l) g.1, (begin l).requires.0)
+    omega (arith, span-length (begin l).args.units.now l.loop-i.at (end_of l) g.1, (begin l).requires.0)
 
-returns : tie.Need-returns invariant-loop decreases-loop
+returns : tie.Need-returns-in_default invariant-loop decreases-loop
 unfolding span
 returns c =
-    let m = c.before.before in
+    let m = c.before in
     let t = turn m in
-    let (k, q, r) = not-bytes m.count-inner.result c.before.match.keys2 m.count-inner.ensures.0 in
-    q ∙ totalling-stop _ _ (begin t.before).pre.1 t.before.loop.inv t.loop-test.taken r
+    let (k, q, r) = not-bytes m.count_inner-found.result c.in_default.in_default-own.keys2 m.count_inner-found.ensures.0 in
+    q ∙ totalling-stop _ _ (begin t.before).requires.1 t.loop-i.invariant t.loop-i-test.true r
 
-framed-len-requires : tie.Need-framed-len-requires invariant-loop decreases-loop
+framed-len-requires : tie.Need-framed_len-requires invariant-loop decreases-loop
 framed-len-requires c κs =
-    let t = turn c.before.before.before in
-    omega (arith, few c.before, (good t).1, (begin t.before).pre.0)
+    let t = turn c.before in
+    omega (arith, few c, (good t).1, (begin t.before).requires.0)
 
-framed-len-requires-2 : tie.Need-framed-len-requires-2 invariant-loop decreases-loop
+framed-len-requires-2 : tie.Need-framed_len-total-requires invariant-loop decreases-loop
 framed-len-requires-2 c κs =
-    let f = c.before.before in
-    let t = turn f.before.before in
+    let f = c.before in
+    let t = turn f.before in
     let a = (good t).1 in
-    let b = (begin t.before).pre.0 in
+    let b = (begin t.before).requires.0 in
     let d = few f in
-    omega (arith, c.framed-len.ensures, (unit-few f.found.given.0.0 (omega arith)).0)
+    omega (arith, c.framed_len.ensures, (unit-few f.in-Bytes.n (omega arith)).0)
 
-add_total : tie.Need-overflow-add-total invariant-loop decreases-loop
+add_total : tie.Need-overflow_add-total invariant-loop decreases-loop
 add_total c =
-    let t = turn c.before.before.before.before.before in
+    let t = turn c.before.before.before in
     let b = begin t.before in
-    omega (arith, (next c).few, (good t).1, b.pre.0, b.good, t.loop-test.taken)
+    omega (arith, (next c).few, (good t).1, b.requires.0, b.well_formed, t.loop-i-test.true)
 
-add-i : tie.Need-overflow-add-i invariant-loop decreases-loop
-add-i c = let t = turn c.before.before.before.before.before in omega (arith, t.loop-test.taken, (begin t.before).good)
+add-i : tie.Need-overflow_add-i invariant-loop decreases-loop
+add-i c = let t = turn c.before.before.before in omega (arith, t.loop-i-test.true, (begin t.before).well_formed)
 
-loop-less : tie.Need-loop-smaller invariant-loop decreases-loop
-loop-less c = let t = turn c.before.before.before.before.before in omega (arith, t.loop-test.taken)
+loop-less : tie.Need-loop-i-smaller invariant-loop decreases-loop
+loop-less c = let t = turn c.before.before.before in omega (arith, t.loop-i-test.true)
 
-loop-again : tie.Need-loop-preserved invariant-loop decreases-loop
+loop-again : tie.Need-loop-i-preserved invariant-loop decreases-loop
 loop-again c = next c
 
-returns-2 : tie.Need-returns-2 invariant-loop decreases-loop
-returns-2 c = totalling-end _ _ (begin c.before).pre.1 c.before.loop.invariant c.loop-test.false
+returns-2 : tie.Need-returns invariant-loop decreases-loop
+returns-2 c = totalling-end _ _ (begin c.before).requires.1 c.loop-i.invariant c.loop-i-test.false
 
-pub count-units-spec : {M : Type 1} → statement M
-count-units-spec =
+pub count_units_spec : {M : Type 1} → statement M
+count_units_spec =
     tie.close
     (tie.spec
     invariant-loop

@@ -17,108 +17,108 @@ use Rattle.annexb.proofs.FillLaws.{All, all_start, all_small, all-slot, all-next
 use Rattle.annexb.proofs.annexb.fill.fill.Statement.{statement}
 use Rattle.annexb.proofs.annexb.fill.fill.Tie as tie
 
-abbrev invariant-loop : tie.invariant-loop
+abbrev invariant-loop : tie.invariant-loop-at
 invariant-loop «data» out₀ ends₀ len at₀ w₀ u₀ out ends at w u = All «data» out₀ ends₀ at out ends w u
 
-abbrev decreases-loop : tie.decreases-loop
+abbrev decreases-loop : tie.decreases-loop-at
 decreases-loop «data» out₀ ends₀ len at₀ w₀ u₀ out ends at w u = length «data» - at
 
-abbrev begin : tie.At-loop invariant-loop decreases-loop → tie.Start invariant-loop decreases-loop
+abbrev begin : tie.At-loop-at invariant-loop decreases-loop → tie.Start invariant-loop decreases-loop
 begin c = c.before.before.before.before
 
-abbrev bytes_of : tie.At-loop invariant-loop decreases-loop → List ℕ
+abbrev bytes_of : tie.At-loop-at invariant-loop decreases-loop → List ℕ
 bytes_of c = (begin c).args.«data».now
 
-abbrev at-loop : tie.After-start invariant-loop decreases-loop → tie.At-loop invariant-loop decreases-loop
-at-loop c = c.before.before.before.before
+abbrev at-loop : tie.In-Part invariant-loop decreases-loop → tie.At-loop-at invariant-loop decreases-loop
+at-loop c = c.before.before.before
 
 -- the unit that was found
-got : (c : tie.After-start invariant-loop decreases-loop)
+got : (c : tie.In-Part invariant-loop decreases-loop)
     → (let s = bytes_of (at-loop c) in
-    IsPart 6 7 s (at-loop c).loop.at (length s) c.start.given.0.0 c.start.given.0.1.0)
+    IsPart 6 7 s (at-loop c).loop-at.at (length s) c.in-Part.start c.in-Part.unit_end)
 got c =
-    let t = c.before.before.before.loop-test.true in
-    is-part 6 7 _ _ _ (omega arith) (omega arith) (sym c.before.before.part_at.ensures ∙ ap part_says c.start.given.1)
+    let t = c.loop-at-test.true in
+    is-part 6 7 _ _ _ (omega arith) (omega arith) (sym c.part_at.ensures ∙ ap part_says c.in-Part.is)
 
 -- its OBUs
-unit-obus : (c : tie.After-start invariant-loop decreases-loop)
+unit-obus : (c : tie.In-Part invariant-loop decreases-loop)
     → (let s = bytes_of (at-loop c) in
-    let b = c.start.given.0.1.0 in
-    (os : List Obu) × (answer flat (many frame_unit (span s c.start.given.0.0 b)) ≡ accepted os) × (temporal_unit (span s (at-loop c).loop.at (length s)) ≡ item os (span s b (length s))))
+    let b = c.in-Part.unit_end in
+    (os : List Obu) × (answer flat (many frame_unit (span s c.in-Part.start b)) ≡ accepted os) × (temporal_unit (span s (at-loop c).loop-at.at (length s)) ≡ item os (span s b (length s))))
 unit-obus c =
     let l = at-loop c in
-    walk-held _ _ temporal-shrinks _ _ _ _ _ (whole-all (begin l).pre) l.loop.inv.walk c.before.before.before.loop-test.true (omega arith) _ _ (unit-at (got c))
+    walk-held _ _ temporal-shrinks _ _ _ _ _ (whole-all (begin l).requires) l.loop-at.invariant.walk c.loop-at-test.true (omega arith) _ _ (unit-at (got c))
 
-abbrev found_at : tie.After-slice-known3 invariant-loop decreases-loop → tie.After-start invariant-loop decreases-loop
-found_at c = c.before.before.before.before.before
+abbrev found_at : tie.After-slice_known-in-loop-at-1 invariant-loop decreases-loop → tie.In-Part invariant-loop decreases-loop
+found_at c = c.before.before.before.before
 
 -- what fill_unit left
-unit-filled : (c : tie.After-slice-known3 invariant-loop decreases-loop)
+unit-filled : (c : tie.After-slice_known-in-loop-at-1 invariant-loop decreases-loop)
     → (let l = at-loop (found_at c) in
-    Wrote l.loop.out l.loop.w (unit_bytes (unit-obus (found_at c)).0) c.before.before.fill-unit.result c.before.before.fill-unit.new.1.1.1.0)
-unit-filled c = held-is (unit-obus (found_at c)).1 c.before.before.fill-unit.ensures
+    Wrote l.loop.out l.loop.w (unit_bytes (unit-obus (found_at c)).0) c.fill_unit-w.result c.fill_unit-w.new.1.1.1.0)
+unit-filled c = held-is (unit-obus (found_at c)).1 c.fill_unit-w.ensures
 
-small : (c : tie.After-slice-known3 invariant-loop decreases-loop) → c.before.before.fill-unit.result ≤ limit
+small : (c : tie.After-slice_known-in-loop-at-1 invariant-loop decreases-loop) → c.fill_unit-w.result ≤ limit
 small c =
     let f = found_at c in
     let l = at-loop f in
-    omega (arith, (unit-filled c).next, all_small (begin l).pre l.loop.inv _ _ (unit-obus f).2)
+    omega (arith, (unit-filled c).next, all_small (begin l).requires l.loop-at.invariant _ _ (unit-obus f).2)
 
-slot : (c : tie.After-slice-known3 invariant-loop decreases-loop) → (let l = at-loop (found_at c) in l.loop.u < length l.loop.ends)
-slot c = let f = found_at c in let l = at-loop f in all-slot (begin l).pre l.loop.inv _ _ (unit-obus f).2
+slot : (c : tie.After-slice_known-in-loop-at-1 invariant-loop decreases-loop) → (let l = at-loop (found_at c) in l.loop.u < length l.loop.ends)
+slot c = let f = found_at c in let l = at-loop f in all-slot (begin l).requires l.loop-at.invariant _ _ (unit-obus f).2
 
-loop-holds : tie.Need-loop-init invariant-loop decreases-loop
+loop-holds : tie.Need-loop-at-init invariant-loop decreases-loop
 loop-holds c = all_start _ _ _
 
-same_length : tie.Need-same-length invariant-loop decreases-loop
-same_length c = c.before.before.before.before.loop.invariant.walk.kept
+same_length : tie.Need-shape_of-out-in_default invariant-loop decreases-loop
+same_length c = c.loop-at.invariant.walk.kept
 
-same-length-2 : tie.Need-same-length-2 invariant-loop decreases-loop
-same-length-2 c = c.before.before.before.before.loop.invariant.kept
+same-length-2 : tie.Need-shape_of-ends-in_default invariant-loop decreases-loop
+same-length-2 c = c.loop-at.invariant.kept
 
-returns : tie.Need-returns invariant-loop decreases-loop
+returns : tie.Need-returns-in_default invariant-loop decreases-loop
 returns c =
-    let l = c.before.before.before.before in
-    let f = c.before.before.part_at in
-    absurd (walk-stop _ _ temporal-shrinks _ _ _ _ _ (whole-all (begin l).requires) l.loop.invariant.walk c.before.before.before.loop-test.true (omega arith) _ (unit-stop _ (not-part 6 7 _ _ _ f.result c.before.match.keys2 f.ensures)))
+    let l = c.before.before.before in
+    let f = c.part_at in
+    absurd (walk-stop _ _ temporal-shrinks _ _ _ _ _ (whole-all (begin l).requires) l.loop-at.invariant.walk c.loop-at-test.true (omega arith) _ (unit-stop _ (not-part 6 7 _ _ _ f.result c.in_default.in_default-own.keys2 f.ensures)))
 
-fill-unit-requires : tie.Need-fill-unit-requires invariant-loop decreases-loop
+fill-unit-requires : tie.Need-fill_unit-w-requires invariant-loop decreases-loop
 fill-unit-requires c κs =
-    let f = c.before.before in
+    let f = c.before in
     let l = at-loop f in
     let g = got f in
     let h = unit-obus f in
-    ((g.ends, g.within), record { held = h.0; reads = h.1; room = walk-room _ _ temporal-shrinks _ _ _ _ _ (whole-all (begin l).pre) l.loop.inv.walk h.2 })
+    ((g.ends, g.within), record { held = h.0; reads = h.1; room = walk-room _ _ temporal-shrinks _ _ _ _ _ (whole-all (begin l).requires) l.loop-at.invariant.walk h.2 })
 
-cast_ends : tie.Need-overflow-cast-ends invariant-loop decreases-loop
+cast_ends : tie.Need-overflow_cast-ends invariant-loop decreases-loop
 cast_ends c = let s = small c in omega arith
 
-mul-ends : tie.Need-overflow-mul-ends invariant-loop decreases-loop
-mul-ends c = let s = slot c in let i = (at-loop (found_at c)).loop.inv.kept in omega arith
+mul-ends : tie.Need-offset_bounds-ends-u invariant-loop decreases-loop
+mul-ends c = let s = slot c in let i = (at-loop (found_at c)).loop-at.invariant.kept in omega arith
 
-slice-write-ends : tie.Need-slice-write-ends invariant-loop decreases-loop
+slice-write-ends : tie.Need-bounds-ends-u invariant-loop decreases-loop
 slice-write-ends c = slot c
 
-add-u : tie.Need-overflow-add-u invariant-loop decreases-loop
-add-u c = let s = slot c in let i = (at-loop (found_at c)).loop.inv.kept in omega arith
+add-u : tie.Need-overflow_add-u invariant-loop decreases-loop
+add-u c = let s = slot c in let i = (at-loop (found_at c)).loop-at.invariant.kept in omega arith
 
-loop-less : tie.Need-loop-smaller invariant-loop decreases-loop
+loop-less : tie.Need-loop-at-smaller invariant-loop decreases-loop
 loop-less c = let g = got (found_at c) in omega (arith, g.after, g.ends, g.within)
 
-loop-again : tie.Need-loop-preserved invariant-loop decreases-loop
+loop-again : tie.Need-loop-at-preserved invariant-loop decreases-loop
 loop-again c =
     let f = found_at c in
     let l = at-loop f in
-    all-next (begin l).pre l.loop.inv _ _ (unit-obus f).2 (got f).within (unit-filled c)
+    all-next (begin l).requires l.loop-at.invariant _ _ (unit-obus f).2 (got f).within (unit-filled c)
 
-same-length-3 : tie.Need-same-length-3 invariant-loop decreases-loop
-same-length-3 c = c.before.loop.invariant.walk.kept
+same-length-3 : tie.Need-shape_of-out invariant-loop decreases-loop
+same-length-3 c = c.loop-at.invariant.walk.kept
 
-same-length-4 : tie.Need-same-length-4 invariant-loop decreases-loop
-same-length-4 c = c.before.loop.invariant.kept
+same-length-4 : tie.Need-shape_of-ends invariant-loop decreases-loop
+same-length-4 c = c.loop-at.invariant.kept
 
-returns-2 : tie.Need-returns-2 invariant-loop decreases-loop
-returns-2 c = all_end (begin c.before).pre c.before.loop.invariant c.loop-test.false
+returns-2 : tie.Need-returns invariant-loop decreases-loop
+returns-2 c = all_end (begin c.before).requires c.loop-at.invariant c.loop-at-test.false
 
 pub fill_spec : {M : Type 1} → statement M
 fill_spec =

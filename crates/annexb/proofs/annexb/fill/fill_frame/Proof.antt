@@ -13,73 +13,73 @@ use Rattle.annexb.proofs.FillLaws.{Walk, Whole, walk_start, walk-room, walk-next
 use Rattle.annexb.proofs.annexb.fill.fill_frame.Statement.{statement}
 use Rattle.annexb.proofs.annexb.fill.fill_frame.Tie as tie
 
-abbrev invariant-loop : tie.invariant-loop
+abbrev invariant-loop : tie.invariant-loop-at
 invariant-loop «data» start end out₀ place at₀ w₀ out at w = Walk length_obu obu_bytes «data» start end out₀ place at out w
 
-abbrev decreases-loop : tie.decreases-loop
+abbrev decreases-loop : tie.decreases-loop-at
 decreases-loop «data» start end out₀ place at₀ w₀ out at w = end - at
 
-abbrev begin : tie.At-loop invariant-loop decreases-loop → tie.Start invariant-loop decreases-loop
+abbrev begin : tie.At-loop-at invariant-loop decreases-loop → tie.Start invariant-loop decreases-loop
 begin c = c.before.before.before
 
-whole : (c : tie.At-loop invariant-loop decreases-loop)
+whole : (c : tie.At-loop-at invariant-loop decreases-loop)
     → (let a = (begin c).args in
     Whole length_obu obu_bytes a.«data».now a.start a.end a.out.now a.place)
 whole c = whole-frame _ _ _ _ _ (begin c).requires.1
 
-abbrev at-loop : tie.After-o invariant-loop decreases-loop → tie.At-loop invariant-loop decreases-loop
-at-loop c = c.before.before.before.before
+abbrev at-loop : tie.In-Found invariant-loop decreases-loop → tie.At-loop-at invariant-loop decreases-loop
+at-loop c = c.before.before.before
 
 -- the OBU that was found
-got : (c : tie.After-o invariant-loop decreases-loop)
+got : (c : tie.In-Found invariant-loop decreases-loop)
     → (let a = (begin (at-loop c)).args in
-    let o = c.o.given.0.0 in
-    IsObuAt a.«data».now (at-loop c).loop.at a.end o.obu_type (extension_says o.extension) o.start o.end)
+    let o = c.in-Found.o in
+    IsObuAt a.«data».now (at-loop c).loop-at.at a.end o.obu_type (extension_says o.extension) o.start o.end)
 got c =
-    let t = c.before.before.before.loop-test.true in
-    is-obu-at _ _ _ (omega arith) (begin (at-loop c)).pre.0.1 (sym c.before.before.length-obu-at.ensures ∙ ap inner_says c.o.given.1)
+    let t = c.loop-at-test.true in
+    is-obu-at _ _ _ (omega arith) (begin (at-loop c)).requires.0.1 (sym c.length_obu_at.ensures ∙ ap inner_says c.in-Found.is)
 
-loop-holds : tie.Need-loop-init invariant-loop decreases-loop
-loop-holds c = walk_start _ _ length-shrinks _ _ _ _ _ c.before.before.requires.0.0
+loop-holds : tie.Need-loop-at-init invariant-loop decreases-loop
+loop-holds c = walk_start _ _ length-shrinks _ _ _ _ _ c.requires.0.0
 
-same_length : tie.Need-same-length invariant-loop decreases-loop
-same_length c = c.before.before.before.before.loop.invariant.kept
+same_length : tie.Need-shape_of-out-in_default invariant-loop decreases-loop
+same_length c = c.loop-at.invariant.kept
 
-returns : tie.Need-returns invariant-loop decreases-loop
+returns : tie.Need-returns-in_default invariant-loop decreases-loop
 returns c =
-    let l = c.before.before.before.before in
-    let f = c.before.before.length-obu-at in
-    absurd (walk-stop _ _ length-shrinks _ _ _ _ _ (whole l) l.loop.invariant c.before.before.before.loop-test.true (begin l).requires.0.1 _ (not-obu _ _ _ f.result c.before.match.keys2 f.ensures))
+    let l = c.before.before.before in
+    let f = c.length_obu_at in
+    absurd (walk-stop _ _ length-shrinks _ _ _ _ _ (whole l) l.loop-at.invariant c.loop-at-test.true (begin l).requires.0.1 _ (not-obu _ _ _ f.result c.in_default.in_default-own.keys2 f.ensures))
 
-put-inner-requires : tie.Need-put-inner-requires invariant-loop decreases-loop
+put-inner-requires : tie.Need-put_inner-w-requires invariant-loop decreases-loop
 put-inner-requires c κs =
-    let f = c.before.before in
+    let f = c.before in
     let l = at-loop f in
     let g = got f in
-    let p = (begin l).pre.0.1 in
-    let r = walk-room _ _ length-shrinks _ _ _ _ _ (whole l) l.loop.inv g.head in
+    let p = (begin l).requires.0.1 in
+    let r = walk-room _ _ length-shrinks _ _ _ _ _ (whole l) l.loop-at.invariant g.head in
     ((g.ends, omega (arith, g.within)), (rw g.type at g.passing, rw (obu-size g) at r))
 
-loop-less : tie.Need-loop-smaller invariant-loop decreases-loop
-loop-less c = let g = got c.before.before.before.before.before in omega (arith, g.after, g.ends, g.within)
+loop-less : tie.Need-loop-at-smaller invariant-loop decreases-loop
+loop-less c = let g = got c.before.before.before.before in omega (arith, g.after, g.ends, g.within)
 
-loop-again : tie.Need-loop-preserved invariant-loop decreases-loop
+loop-again : tie.Need-loop-at-preserved invariant-loop decreases-loop
 loop-again c =
-    let f = c.before.before.before.before.before in
+    let f = c.before.before.before.before in
     let l = at-loop f in
     let g = got f in
-    walk-next _ _ length-shrinks _ _ _ _ _ (whole l) l.loop.inv g.head g.within (rw (obu-is g) at c.before.before.put-inner.ensures)
+    walk-next _ _ length-shrinks _ _ _ _ _ (whole l) l.loop-at.invariant g.head g.within (rw (obu-is g) at c.put_inner-w.ensures)
 
-same-length-2 : tie.Need-same-length-2 invariant-loop decreases-loop
-same-length-2 c = c.before.loop.invariant.kept
+same-length-2 : tie.Need-shape_of-out invariant-loop decreases-loop
+same-length-2 c = c.loop-at.invariant.kept
 
-returns-2 : tie.Need-returns-2 invariant-loop decreases-loop
+returns-2 : tie.Need-returns invariant-loop decreases-loop
 returns-2 c =
     let l = c.before in
-    frame-held _ _ _ _ _ (whole l) (walk_end _ _ length-shrinks _ _ _ _ _ (whole l) l.loop.invariant c.loop-test.false)
+    frame-held _ _ _ _ _ (whole l) (walk_end _ _ length-shrinks _ _ _ _ _ (whole l) l.loop-at.invariant c.loop-at-test.false)
 
-pub fill-frame-spec : {M : Type 1} → statement M
-fill-frame-spec =
+pub fill_frame_spec : {M : Type 1} → statement M
+fill_frame_spec =
     tie.close
     (tie.spec
     invariant-loop

@@ -7,7 +7,7 @@ use Rattle.annexb.proofs.SpanLaws.{span-length}
 use Rattle.annexb.proofs.annexb.fill.put_inner.Statement.{statement}
 use Rattle.annexb.proofs.annexb.fill.put_inner.Tie as tie
 
-put-measured-requires : tie.Need-put-measured-requires
+put-measured-requires : tie.Need-put_measured-requires
 unfolding span
 put-measured-requires c κs =
     let s = c.before.before.before.before in
@@ -16,11 +16,11 @@ put-measured-requires c κs =
 returns : tie.Need-returns
 unfolding span
 returns c =
-    let w = c.before.before.put-measured.ensures in
-    record { next = w.0 ∙ ap (λ n. c.before.before.before.before.before.before.before.args.w + n) (sym (obu-length _)); out = w.1 }
+    let w = c.put_measured.ensures in
+    record { next = w.0 ∙ ap (λ n. c.args.w + n) (sym (obu-length _)); out = w.1 }
 
-pub put-inner-spec : {M : Type 1} → statement M
-put-inner-spec =
+pub put_inner_spec : {M : Type 1} → statement M
+put_inner_spec =
     tie.close
     (tie.spec
     (λ c. search rules)

@@ -13,16 +13,16 @@ use Rattle.annexb.proofs.MeasureLaws.{UnitsDone, FramesDone, Obus, Left, ended, 
 use Rattle.annexb.proofs.annexb.measure.measure.Statement.{statement}
 use Rattle.annexb.proofs.annexb.measure.measure.Tie as tie
 
-abbrev invariant-loop2 : tie.invariant-loop2
+abbrev invariant-loop2 : tie.invariant-loop-q
 invariant-loop2 «data» len at bytes₀ units fault₀ start unit-end p first frame-end q₀ bytes fault q = Obus «data» at start unit-end p first frame-end q bytes units
 
-abbrev decreases-loop2 : tie.decreases-loop2
+abbrev decreases-loop2 : tie.decreases-loop-q
 decreases-loop2 «data» len at bytes₀ units fault₀ start unit-end p first frame-end q₀ bytes fault q = frame-end - q
 
-abbrev invariant-loop : tie.invariant-loop
+abbrev invariant-loop : tie.invariant-loop-p
 invariant-loop «data» len at bytes₀ units fault₀ start unit-end p₀ bytes fault p = FramesDone «data» at start unit-end p bytes units
 
-abbrev decreases-loop : tie.decreases-loop
+abbrev decreases-loop : tie.decreases-loop-p
 decreases-loop «data» len at bytes₀ units fault₀ start unit-end p₀ bytes fault p = unit-end - p
 
 abbrev invariant-all : tie.invariant-all
@@ -33,71 +33,71 @@ decreases-all «data» len at₀ bytes₀ units₀ fault₀ at bytes units fault
 
 -- the bytes, and what the three loops say, by place
 abbrev bytes_of : tie.At-all invariant-loop2 decreases-loop2 invariant-loop decreases-loop invariant-all decreases-all → List ℕ
-bytes_of c = c.before.before.args.«data».now
+bytes_of c = c.args.«data».now
 
-abbrev at_all : tie.After-unit invariant-loop2 decreases-loop2 invariant-loop decreases-loop invariant-all decreases-all → tie.At-all invariant-loop2 decreases-loop2 invariant-loop decreases-loop invariant-all decreases-all
-at_all c = c.before.before.before.before
+abbrev at_all : tie.In-Part invariant-loop2 decreases-loop2 invariant-loop decreases-loop invariant-all decreases-all → tie.At-all invariant-loop2 decreases-loop2 invariant-loop decreases-loop invariant-all decreases-all
+at_all c = c.before.before.before
 
-abbrev at-loop : tie.After-frame invariant-loop2 decreases-loop2 invariant-loop decreases-loop invariant-all decreases-all → tie.At-loop invariant-loop2 decreases-loop2 invariant-loop decreases-loop invariant-all decreases-all
-at-loop c = c.before.before.before.before
+abbrev at-loop : tie.In-Part-frame invariant-loop2 decreases-loop2 invariant-loop decreases-loop invariant-all decreases-all → tie.At-loop-p invariant-loop2 decreases-loop2 invariant-loop decreases-loop invariant-all decreases-all
+at-loop c = c.before.before.before
 
-abbrev at-loop2 : tie.After-found invariant-loop2 decreases-loop2 invariant-loop decreases-loop invariant-all decreases-all → tie.At-loop2 invariant-loop2 decreases-loop2 invariant-loop decreases-loop invariant-all decreases-all
-at-loop2 c = c.before.before.before.before
+abbrev at-loop2 : tie.In-Found invariant-loop2 decreases-loop2 invariant-loop decreases-loop invariant-all decreases-all → tie.At-loop-q invariant-loop2 decreases-loop2 invariant-loop decreases-loop invariant-all decreases-all
+at-loop2 c = c.before.before.before
 
 -- the unit, the frame unit and the OBU that were found
-unit_got : (c : tie.After-unit invariant-loop2 decreases-loop2 invariant-loop decreases-loop invariant-all decreases-all)
-    → (let s = bytes_of (at_all c) in IsPart 6 7 s (at_all c).all.at (length s) c.unit.given.0.0 c.unit.given.0.1.0)
+unit_got : (c : tie.In-Part invariant-loop2 decreases-loop2 invariant-loop decreases-loop invariant-all decreases-all)
+    → (let s = bytes_of (at_all c) in IsPart 6 7 s (at_all c).all.at (length s) c.in-Part.start c.in-Part.unit_end)
 unit_got c =
-    let t = c.before.before.before.all-test.true in
-    is-part 6 7 _ _ _ (omega arith) (omega arith) (sym c.before.before.part_at.ensures ∙ ap part_says c.unit.given.1)
+    let t = c.all-test.true in
+    is-part 6 7 _ _ _ (omega arith) (omega arith) (sym c.part_at-unit.ensures ∙ ap part_says c.in-Part.is)
 
-frame-got : (c : tie.After-frame invariant-loop2 decreases-loop2 invariant-loop decreases-loop invariant-all decreases-all)
+frame-got : (c : tie.In-Part-frame invariant-loop2 decreases-loop2 invariant-loop decreases-loop invariant-all decreases-all)
     → (let l = at-loop c in
-    let u = l.before.before in
-    IsPart 8 9 (bytes_of (at_all u)) l.loop.p u.unit.given.0.1.0 c.frame.given.0.0 c.frame.given.0.1.0)
+    let u = l.before in
+    IsPart 8 9 (bytes_of (at_all u)) l.loop-p.p u.in-Part.unit_end c.in-Part-frame.first c.in-Part-frame.frame_end)
 frame-got c =
-    let t = c.before.before.before.loop-test.true in
-    let i = (at-loop c).loop.invariant in
-    is-part 8 9 _ _ _ (omega arith) i.part.within (sym c.before.before.part-at2.ensures ∙ ap part_says c.frame.given.1)
+    let t = c.loop-p-test.true in
+    let i = (at-loop c).loop-p.invariant in
+    is-part 8 9 _ _ _ (omega arith) i.part.within (sym c.part_at-frame.ensures ∙ ap part_says c.in-Part-frame.is)
 
-obu-got : (c : tie.After-found invariant-loop2 decreases-loop2 invariant-loop decreases-loop invariant-all decreases-all)
+obu-got : (c : tie.In-Found invariant-loop2 decreases-loop2 invariant-loop decreases-loop invariant-all decreases-all)
     → (let l = at-loop2 c in
-    let f = l.before.before in
-    let o = c.found.given.0.0 in
-    IsObuAt (bytes_of (at_all (at-loop f).before.before)) l.loop2.q f.frame.given.0.1.0 o.obu_type (extension_says o.extension) o.start o.end)
+    let f = l.before in
+    let o = c.in-Found.o in
+    IsObuAt (bytes_of (at_all (at-loop f).before)) l.loop-q.q f.in-Part-frame.frame_end o.obu_type (extension_says o.extension) o.start o.end)
 obu-got c =
-    let t = c.before.before.before.loop2-test.true in
-    let i = (at-loop2 c).loop2.invariant in
-    is-obu-at _ _ _ (omega arith) (last-in i) (sym c.before.before.length-obu-at.ensures ∙ ap inner_says c.found.given.1)
+    let t = c.loop-q-test.true in
+    let i = (at-loop2 c).loop-q.invariant in
+    is-obu-at _ _ _ (omega arith) (last-in i) (sym c.length_obu_at-found.ensures ∙ ap inner_says c.in-Found.is)
 
 -- the OBU that was found, behind the others
-next : (c : tie.After-written-len invariant-loop2 decreases-loop2 invariant-loop decreases-loop invariant-all decreases-all)
-    → (let f = c.before.before in
+next : (c : tie.After-written_len-bytes invariant-loop2 decreases-loop2 invariant-loop decreases-loop invariant-all decreases-all)
+    → (let f = c.before in
     let l = at-loop2 f in
-    let g = l.before.before in
+    let g = l.before in
     let k = at-loop g in
-    let u = k.before.before in
-    Obus (bytes_of (at_all u)) (at_all u).all.at u.unit.given.0.0 u.unit.given.0.1.0 k.loop.p g.frame.given.0.0 g.frame.given.0.1.0 f.found.given.0.0.end (l.loop2.bytes + c.written-len.result) (at_all u).all.units)
+    let u = k.before in
+    Obus (bytes_of (at_all u)) (at_all u).all.at u.in-Part.start u.in-Part.unit_end k.loop-p.p g.in-Part-frame.first g.in-Part-frame.frame_end f.in-Found.o.end (l.loop-q.bytes + c.written_len-bytes.result) (at_all u).all.units)
 next c =
-    let f = c.before.before in
+    let f = c.before in
     let l = at-loop2 f in
-    let u = (at-loop l.before.before).before.before in
-    obus-next l.loop2.inv (at_all u).before.before.pre (obu-got f) c.written-len.ensures
+    let u = (at-loop l.before).before in
+    obus-next l.loop-q.invariant (at_all u).requires (obu-got f) c.written_len-bytes.ensures
 
 -- the loops are left at the end, or with the first fault of a unit, a frame unit or an OBU
-left : (c : tie.Left-all invariant-loop2 decreases-loop2 invariant-loop decreases-loop invariant-all decreases-all) → Left (bytes_of c.before) c.before.all.at c.all-test.bytes c.before.all.units c.all-test.fault
+left : (c : tie.Left-all invariant-loop2 decreases-loop2 invariant-loop decreases-loop invariant-all decreases-all) → Left (bytes_of c.before) c.all.at c.all-test.bytes c.all.units c.all-test.fault
 left c =
     ⊎_elim
-    (λ w. ended w.0.left (rw w.1 c.before.all.invariant))
+    (λ w. ended w.0.left (rw w.1 c.all.invariant))
     (⊎_elim
     (λ w.
-    faulted w.0.taken (units-stop c.before.all.invariant w.0.taken (not-part 6 7 _ _ _ w.1.result w.2.keys2 w.1.ensures) ∙ ap refused (sym (w.6 ∙ w.4.ensures))))
+    faulted w.0.taken (units-stop c.all.invariant w.0.taken (not-part 6 7 _ _ _ w.1.result w.2.keys2 w.1.ensures) ∙ ap refused (sym (w.6 ∙ w.4.ensures))))
     (⊎_elim
     (λ w.
     faulted w.0.taken (frames-stop w.5.inv w.6.taken (not-part 8 9 _ _ _ w.7.result w.8.keys2 w.7.ensures) ∙ ap refused (sym (w.12 ∙ w.10.ensures))))
     (λ w.
     faulted w.0.taken (obus-stop w.11.inv w.12.taken (not-obu _ _ _ w.13.result w.14.keys2 w.13.ensures) ∙ ap refused (sym (w.18 ∙ w.16.ensures))))))
-    c.all-test.branch
+    c.all-test.branch-raw
 
 all-holds : tie.Need-all-init invariant-loop2 decreases-loop2 invariant-loop decreases-loop invariant-all decreases-all
 all-holds c = units-start _
@@ -106,15 +106,15 @@ part-refusal-requires :
     tie.Need-part-refusal-requires invariant-loop2 decreases-loop2 invariant-loop decreases-loop invariant-all decreases-all
 part-refusal-requires c κs = search rules
 
-loop-holds : tie.Need-loop-init invariant-loop2 decreases-loop2 invariant-loop decreases-loop invariant-all decreases-all
-loop-holds c = frames-start (at_all c.before).all.inv (unit_got c.before)
+loop-holds : tie.Need-loop-p-init invariant-loop2 decreases-loop2 invariant-loop decreases-loop invariant-all decreases-all
+loop-holds c = frames-start (at_all c).all.invariant (unit_got c)
 
 part-refusal-requires-2 :
     tie.Need-part-refusal-requires-2 invariant-loop2 decreases-loop2 invariant-loop decreases-loop invariant-all decreases-all
 part-refusal-requires-2 c κs = search rules
 
-loop2-holds : tie.Need-loop2-init invariant-loop2 decreases-loop2 invariant-loop decreases-loop invariant-all decreases-all
-loop2-holds c = obus-start (at-loop c.before).loop.inv (frame-got c.before)
+loop2-holds : tie.Need-loop-q-init invariant-loop2 decreases-loop2 invariant-loop decreases-loop invariant-all decreases-all
+loop2-holds c = obus-start (at-loop c).loop-p.invariant (frame-got c)
 
 length-obu-at-requires :
     tie.Need-length-obu-at-requires invariant-loop2 decreases-loop2 invariant-loop decreases-loop invariant-all decreases-all
@@ -128,32 +128,32 @@ written-len-requires :
     tie.Need-written-len-requires invariant-loop2 decreases-loop2 invariant-loop decreases-loop invariant-all decreases-all
 written-len-requires c κs = (obu-got c.before).ends
 
-add-bytes : tie.Need-overflow-add-bytes invariant-loop2 decreases-loop2 invariant-loop decreases-loop invariant-all decreases-all
+add-bytes : tie.Need-overflow_add-bytes invariant-loop2 decreases-loop2 invariant-loop decreases-loop invariant-all decreases-all
 add-bytes c = let b = next c in omega arith
 
-loop2-less : tie.Need-loop2-smaller invariant-loop2 decreases-loop2 invariant-loop decreases-loop invariant-all decreases-all
-loop2-less c = let g = obu-got c.before.before in omega (arith, g.after, g.ends, g.within)
+loop2-less : tie.Need-loop-q-smaller invariant-loop2 decreases-loop2 invariant-loop decreases-loop invariant-all decreases-all
+loop2-less c = let g = obu-got c.before in omega (arith, g.after, g.ends, g.within)
 
-loop2-again : tie.Need-loop2-preserved invariant-loop2 decreases-loop2 invariant-loop decreases-loop invariant-all decreases-all
+loop2-again : tie.Need-loop-q-preserved invariant-loop2 decreases-loop2 invariant-loop decreases-loop invariant-all decreases-all
 loop2-again c = next c
 
-loop-less : tie.Need-loop-smaller invariant-loop2 decreases-loop2 invariant-loop decreases-loop invariant-all decreases-all
-loop-less c = let g = frame-got c.before.before.before in omega (arith, g.after, g.ends, g.within)
+loop-less : tie.Need-loop-p-smaller invariant-loop2 decreases-loop2 invariant-loop decreases-loop invariant-all decreases-all
+loop-less c = let g = frame-got c.before.before in omega (arith, g.after, g.ends, g.within)
 
-loop-again : tie.Need-loop-preserved invariant-loop2 decreases-loop2 invariant-loop decreases-loop invariant-all decreases-all
-loop-again c = obus-end c.before.loop2.invariant c.loop2-test.false
+loop-again : tie.Need-loop-p-preserved invariant-loop2 decreases-loop2 invariant-loop decreases-loop invariant-all decreases-all
+loop-again c = obus-end c.loop-q.invariant c.loop-q-test.false
 
 all-less : tie.Need-all-smaller invariant-loop2 decreases-loop2 invariant-loop decreases-loop invariant-all decreases-all
-all-less c = let g = unit_got c.before.before.before in omega (arith, g.after, g.ends, g.within)
+all-less c = let g = unit_got c.before.before in omega (arith, g.after, g.ends, g.within)
 
 all-again : tie.Need-all-preserved invariant-loop2 decreases-loop2 invariant-loop decreases-loop invariant-all decreases-all
-all-again c = frames-end c.before.loop.invariant c.loop-test.false
+all-again c = frames-end c.loop-p.invariant c.loop-p-test.false
 
 returns : tie.Need-returns invariant-loop2 decreases-loop2 invariant-loop decreases-loop invariant-all decreases-all
 returns c = c.measured.ensures ∙ left-answer (left c.before)
 
-pub measure-spec : {M : Type 1} → statement M
-measure-spec =
+pub measure_spec : {M : Type 1} → statement M
+measure_spec =
     tie.close
     (tie.spec
     invariant-loop2

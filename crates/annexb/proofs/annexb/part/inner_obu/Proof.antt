@@ -4,37 +4,37 @@ use Rattle.annexb.proofs.PartLaws.{inner-empty, inner-forbidden, inner-plain, in
 use Rattle.annexb.proofs.annexb.part.inner_obu.Statement.{statement}
 use Rattle.annexb.proofs.annexb.part.inner_obu.Tie as tie
 
-returns : tie.Need-returns
-returns c = inner-empty _ _ c.before.before.requires.1 _ c.if1.true
+returns : tie.Need-returns-then-start-end
+returns c = inner-empty _ _ c.requires.1 _ c.if-start-end.true
 
-returns-2 : tie.Need-returns-2
+returns-2 : tie.Need-returns-then-h-eq1
 returns-2 c =
     let k = c.before.before in
-    inner-forbidden _ _ k.before.before.requires.1 _ k.if1.false c.if2.true
+    inner-forbidden _ _ k.requires.1 _ k.if-start-end.false c.if-h-eq1.true
 
-returns-3 : tie.Need-returns-3
+returns-3 : tie.Need-returns-then-p-end
 returns-3 c =
     let e = c.before.before in
     let k = e.before.before in
-    inner-short _ _ k.before.before.requires.1 _ k.if1.false e.if2.false c.before.if3.true c.if4.true
+    inner-short _ _ k.requires.1 _ k.if-start-end.false e.if-h-eq1.false c.if-h-eq1-2.true c.if-p-end.true
 
-returns-4 : tie.Need-returns-4
+returns-4 : tie.Need-returns-then-h-eq1-2
 returns-4 c =
     let f = c.before.before in
     let e = f.before.before in
     let k = e.before.before in
-    let m = k.before.before.requires.1 in
-    c.typed-obu.ensures ∙ inner-ext _ _ m _ k.if1.false e.if2.false f.before.if3.true f.if4.false
+    let m = k.requires.1 in
+    c.typed_obu.ensures ∙ inner-ext _ _ m _ k.if-start-end.false e.if-h-eq1.false f.if-h-eq1-2.true f.if-p-end.false
 
-returns-5 : tie.Need-returns-5
+returns-5 : tie.Need-returns
 returns-5 c =
     let e = c.before.before in
     let k = e.before.before in
-    let m = k.before.before.requires.1 in
-    c.typed-obu2.ensures ∙ inner-plain _ _ m _ k.if1.false e.if2.false c.before.if3.false
+    let m = k.requires.1 in
+    c.typed_obu-2.ensures ∙ inner-plain _ _ m _ k.if-start-end.false e.if-h-eq1.false c.if-h-eq1-2.false
 
-pub inner-obu-spec : {M : Type 1} → statement M
-inner-obu-spec =
+pub inner_obu_spec : {M : Type 1} → statement M
+inner_obu_spec =
     tie.close
     (tie.spec
     returns

@@ -8,68 +8,68 @@ use Rattle.annexb.proofs.JoinLaws.{Putted, putted-start, putted-good, putted-uni
 use Rattle.annexb.proofs.annexb.write.put_units.Statement.{statement}
 use Rattle.annexb.proofs.annexb.write.put_units.Tie as tie
 
-abbrev invariant-loop : tie.invariant-loop
+abbrev invariant-loop : tie.invariant-loop-i
 invariant-loop units unit_ends out₀ at₀ i₀ w₀ out at i w = Putted units unit_ends out₀ at i out w
 
-abbrev decreases-loop : tie.decreases-loop
+abbrev decreases-loop : tie.decreases-loop-i
 decreases-loop units unit_ends out₀ at₀ i₀ w₀ out at i w = length unit_ends - i
 
-abbrev begin : tie.At-loop invariant-loop decreases-loop → tie.Start invariant-loop decreases-loop
+abbrev begin : tie.At-loop-i invariant-loop decreases-loop → tie.Start invariant-loop decreases-loop
 begin c = c.before.before.before.before
 
-abbrev end_of : tie.At-loop invariant-loop decreases-loop → ℕ
-end_of l = get_or (begin l).args.unit_ends.now l.loop.i 0
+abbrev end_of : tie.At-loop-i invariant-loop decreases-loop → ℕ
+end_of l = get_or (begin l).args.unit_ends.now l.loop-i.i 0
 
 -- the unit lies within the bytes
-good : (c : tie.In-loop invariant-loop decreases-loop) → (c.before.loop.at ≤ end_of c.before) × (end_of c.before ≤ length (begin c.before).args.units.now)
-good c = putted-good (begin c.before).pre.1 c.before.loop.invariant c.loop-test.true
+good : (c : tie.In-loop-i invariant-loop decreases-loop) → (c.loop-i.at ≤ end_of c.before) × (end_of c.before ≤ length (begin c.before).args.units.now)
+good c = putted-good (begin c.before).requires.1 c.loop-i.invariant c.loop-i-test.true
 
-abbrev turn : tie.After-slice-known2 invariant-loop decreases-loop → tie.In-loop invariant-loop decreases-loop
+abbrev turn : tie.After-slice_known-in-loop-i-1 invariant-loop decreases-loop → tie.In-loop-i invariant-loop decreases-loop
 turn c = c.before.before.before.before.before.before
 
-loop-holds : tie.Need-loop-init invariant-loop decreases-loop
+loop-holds : tie.Need-loop-i-init invariant-loop decreases-loop
 loop-holds c = putted-start _ _ _
 
-cast-end : tie.Need-overflow-cast-end invariant-loop decreases-loop
-cast-end c = omega (arith, c.shared-slice-known3.given c.before.before.loop.i)
+cast-end : tie.Need-overflow_cast-end invariant-loop decreases-loop
+cast-end c = omega (arith, c.shared_slice_known-in-loop-i-1.given c.loop-i.i)
 
-sub-put-unit : tie.Need-overflow-sub-put-unit invariant-loop decreases-loop
+sub-put-unit : tie.Need-slice_bounds-put_unit-count invariant-loop decreases-loop
 sub-put-unit c = let g = good c.before in omega arith
 
-part-put-unit-start : tie.Need-slice-bounds-put-unit-start invariant-loop decreases-loop
+part-put-unit-start : tie.Need-slice_bounds-put_unit-start invariant-loop decreases-loop
 part-put-unit-start c = let g = good c.before in omega arith
 
-part-put-unit-end : tie.Need-slice-bounds-put-unit-end invariant-loop decreases-loop
+part-put-unit-end : tie.Need-slice_bounds-put_unit-end invariant-loop decreases-loop
 part-put-unit-end c = let g = good c.before in omega arith
 
-put-unit-requires : tie.Need-put-unit-requires invariant-loop decreases-loop
+put-unit-requires : tie.Need-put_unit-w-requires invariant-loop decreases-loop
 unfolding span
 put-unit-requires c κs =
     let t = c.before.before.before in
     let l = t.before in
     let g = good t in
-    (omega (arith, span-length (begin l).args.units.now l.loop.at (end_of l) g.1, (begin l).requires.0), putted-unit (begin l).requires.1 l.loop.invariant t.loop-test.true)
+    (omega (arith, span-length (begin l).args.units.now l.loop-i.at (end_of l) g.1, (begin l).requires.0), putted-unit (begin l).requires.1 l.loop-i.invariant t.loop-i-test.true)
 
-add-i : tie.Need-overflow-add-i invariant-loop decreases-loop
-add-i c = let t = turn c in omega (arith, t.loop-test.taken, (begin t.before).good)
+add-i : tie.Need-overflow_add-i invariant-loop decreases-loop
+add-i c = let t = turn c in omega (arith, t.loop-i-test.true, (begin t.before).well_formed)
 
-loop-less : tie.Need-loop-smaller invariant-loop decreases-loop
-loop-less c = let t = turn c in omega (arith, t.loop-test.taken)
+loop-less : tie.Need-loop-i-smaller invariant-loop decreases-loop
+loop-less c = let t = turn c in omega (arith, t.loop-i-test.true)
 
-loop-again : tie.Need-loop-preserved invariant-loop decreases-loop
+loop-again : tie.Need-loop-i-preserved invariant-loop decreases-loop
 unfolding span
 loop-again c =
     let t = turn c in
-    putted-next (begin t.before).pre.1 t.before.loop.inv t.loop-test.taken c.before.before.put-unit.ensures
+    putted-next (begin t.before).requires.1 t.loop-i.invariant t.loop-i-test.true c.put_unit-w.ensures
 
-same_length : tie.Need-same-length invariant-loop decreases-loop
-same_length c = c.before.loop.invariant.kept
+same_length : tie.Need-shape_of-out invariant-loop decreases-loop
+same_length c = c.loop-i.invariant.kept
 
 returns : tie.Need-returns invariant-loop decreases-loop
-returns c = putted-end (begin c.before).pre.1 c.before.loop.invariant c.loop-test.false
+returns c = putted-end (begin c.before).requires.1 c.loop-i.invariant c.loop-i-test.false
 
-pub put-units-spec : {M : Type 1} → statement M
-put-units-spec =
+pub put_units_spec : {M : Type 1} → statement M
+put_units_spec =
     tie.close
     (tie.spec
     invariant-loop

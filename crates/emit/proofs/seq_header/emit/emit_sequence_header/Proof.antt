@@ -11,50 +11,48 @@ use Rattle.emit.proofs.seq_header.emit.emit_sequence_header.Statement.{statement
 use Rattle.emit.proofs.seq_header.emit.emit_sequence_header.Tie as tie
 
 -- the fields, some payload reads as them
-abbrev fields : tie.Else1 → Sequence
-fields c = let a = c.before.before.before.args in sequence_of a.h a.points
+abbrev fields : tie.Else-not-is_emittable → Sequence
+fields c = let a = c.args in sequence_of a.h a.points
 
-readable : (c : tie.Else1) → emittable (fields c) ≡ true
-readable c = sym c.before.is-emittable.ensures ∙ not-false _ c.if1.false
+readable : (c : tie.Else-not-is_emittable) → emittable (fields c) ≡ true
+readable c = sym c.is_emittable.ensures ∙ not-false _ c.if-not-is_emittable.false-raw
 
-returns : tie.Need-returns
+returns : tie.Need-returns-then-not-is_emittable
 returns c =
-    let e = sym c.before.is-emittable.ensures ∙ not-true _ c.if1.true in
+    let e = sym c.is_emittable.ensures ∙ not-true _ c.if-not-is_emittable.true-raw in
     (unreadable-says _ _ _ e, unreadable-lent _ _ _ e)
 
-put-sequence-requires : tie.Need-put-sequence-requires
+put-sequence-requires : tie.Need-put_sequence-n-requires
 put-sequence-requires c κs = (readable c.before, search rules)
 
-returns-2 : tie.Need-returns-2
+returns-2 : tie.Need-returns-then-len-at
 returns-2 c =
     let p = c.before.before in
     let y = readable p.before.before in
-    let e = p.put-sequence.ensures.0 in
+    let e = p.put_sequence-n.ensures.0 in
     (full-says _ _ _ y e (omega arith), full-lent _ _ _ y e (omega arith))
 
-returns-3 : tie.Need-returns-3
+returns-3 : tie.Need-returns-then-len-at-2
 returns-3 c =
     let p = c.before.before.before in
     let y = readable p.before.before in
-    let e = p.put-sequence.ensures.0 in
+    let e = p.put_sequence-n.ensures.0 in
     (full-says _ _ _ y e (omega arith), full-lent _ _ _ y e (omega arith))
 
-part-put-bytes-end : tie.Need-slice-bounds-put-bytes-end
+part-put-bytes-end : tie.Need-slice_bounds-put_bytes-end
 part-put-bytes-end c =
-    let p = c.before.before.before.before.before in
-    omega (arith, p.put-sequence.ensures.0, payload-length _ (readable p.before.before))
+    omega (arith, c.put_sequence-n.ensures.0, payload-length _ (readable c.before.before.before.before.before.before))
 
-returns-4 : tie.Need-returns-4
+returns-4 : tie.Need-returns
 returns-4 c =
     let b = c.before.before in
-    let p = b.before.before.before.before.before.before.before in
-    let y = readable p.before.before in
-    let e = p.put-sequence.ensures in
+    let y = readable b.before.before.before.before.before.before.before.before in
+    let e = b.put_sequence-n.ensures in
     let is = payload-part _ _ e.0 e.1 in
-    (next-says _ _ _ y e.0 (omega arith) is b.put-bytes.ensures.0, next-lent _ _ _ y e.0 (omega arith) is b.put-bytes.ensures.1)
+    (next-says _ _ _ y e.0 (omega arith) is b.put_bytes.ensures.0, next-lent _ _ _ y e.0 (omega arith) is b.put_bytes.ensures.1)
 
-pub emit-sequence-header-spec : {M : Type 1} → statement M
-emit-sequence-header-spec =
+pub emit_sequence_header_spec : {M : Type 1} → statement M
+emit_sequence_header_spec =
     tie.close
     (tie.spec
     (λ c κs. search rules)

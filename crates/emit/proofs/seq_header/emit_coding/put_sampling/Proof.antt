@@ -6,48 +6,48 @@ use Rattle.emit.proofs.WroteLaws.{Run, wrote_then, wrote_as}
 use Rattle.emit.proofs.seq_header.emit_coding.put_sampling.Statement.{statement}
 use Rattle.emit.proofs.seq_header.emit_coding.put_sampling.Tie as tie
 
-abbrev r1 : tie.After-put-flag-or → Run
-r1 c = (_, _, _, _, _, _, c.put-flag-or.ensures)
+abbrev r1 : tie.After-put_flag_or-w → Run
+r1 c = (_, _, _, _, _, _, c.put_flag_or-w.ensures)
 
-abbrev r2 : tie.After-put-flag-or2 → Run
-r2 c = (_, _, _, _, _, _, wrote_then (r1 c.before.before.before.before).6 c.put-flag-or2.ensures)
+abbrev r2 : tie.After-put_flag_or-w-2 → Run
+r2 c = (_, _, _, _, _, _, wrote_then (r1 c.before.before.before.before).6 c.put_flag_or-w-2.ensures)
 
-abbrev r3 : tie.After-put-flag-or3 → Run
-r3 c = (_, _, _, _, _, _, wrote_then (r2 c.before.before.before.before.before).6 c.put-flag-or3.ensures)
+abbrev r3 : tie.After-put_flag_or-w-3 → Run
+r3 c = (_, _, _, _, _, _, wrote_then (r2 c.before.before.before.before.before).6 c.put_flag_or-w-3.ensures)
 
-abbrev r4 : tie.After-put-bits-or → Run
-r4 c = (_, _, _, _, _, _, wrote_then (r3 c.before.before.before.before.before.before).6 c.put-bits-or.ensures)
+abbrev r4 : tie.After-put_bits_or-w → Run
+r4 c = (_, _, _, _, _, _, wrote_then (r3 c.before.before.before.before.before.before).6 c.put_bits_or-w.ensures)
 
-abbrev r5 : tie.After-put-flag → Run
-r5 c = (_, _, _, _, _, _, wrote_then (r4 c.before.before.before.before).6 c.put-flag.ensures)
+abbrev r5 : tie.After-put_flag → Run
+r5 c = (_, _, _, _, _, _, wrote_then (r4 c.before.before.before.before).6 c.put_flag.ensures)
 
-put-flag-or-requires-3 : tie.Need-put-flag-or-requires-3
+put-flag-or-requires-3 : tie.Need-put_flag_or-w-requires-3
 put-flag-or-requires-3 c κs =
-    let p = c.before.before.before.before.before.before.before.before.before.before.before.before.before.before.before.before.before.requires in
+    let p = c.requires in
     let w = (r2 c.before.before.before.before).6 in
     omega (arith, p, w.near, w.len)
 
-put-bits-or-requires : tie.Need-put-bits-or-requires
+put-bits-or-requires : tie.Need-put_bits_or-w-requires
 put-bits-or-requires c κs =
-    let p = c.before.before.before.before.before.before.before.before.before.before.before.before.before.before.before.before.before.before.before.before.before.before.before.requires in
+    let p = c.requires in
     let w = (r3 c.before.before.before.before.before).6 in
     omega (arith, p, w.near, w.len)
 
-put-flag-requires : tie.Need-put-flag-requires
+put-flag-requires : tie.Need-put_flag-requires
 put-flag-requires c κs =
-    let p = c.before.before.before.before.before.before.before.before.before.before.before.before.before.before.before.before.before.before.before.before.before.before.before.before.before.before.before.requires in
+    let p = c.requires in
     let w = (r4 c.before.before.before).6 in
     omega (arith, p, w.near, w.len)
 
-same_length : tie.Need-same-length
+same_length : tie.Need-shape_of-out
 same_length c = (r5 c.before.before).6.len
 
 returns : tie.Need-returns
 unfolding put_sampling
 returns c = wrote_as 6 (omega arith) (λ l. refl) (r5 c.before.before).6
 
-pub put-sampling-spec : {M : Type 1} → statement M
-put-sampling-spec =
+pub put_sampling_spec : {M : Type 1} → statement M
+put_sampling_spec =
     tie.close
     (tie.spec
     (λ c κs. search rules)

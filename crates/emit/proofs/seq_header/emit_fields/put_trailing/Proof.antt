@@ -5,14 +5,14 @@ use Rattle.emit.proofs.WroteLaws.{never-full-trailing, wrote-trailing}
 use mathlib.Core.Path.{sym, ap, ◌∙◌}
 use Rattle.bitio.specs.Write.{bit_put_says}
 
-returns : tie.Need-returns
-returns c = absurd (never-full-trailing _ _ c.before.before.before.before.before.before.before.requires (sym (ap bit_put_says c.enum_told.given.1) ∙ c.before.before.before.before.trailing-bits.ensures.0))
+returns : tie.Need-returns-in_default
+returns c = absurd (never-full-trailing _ _ c.requires (sym (ap bit_put_says c.in_default.is) ∙ c.trailing_bits.ensures.0))
 
-returns-2 : tie.Need-returns-2
-returns-2 c = wrote-trailing _ _ c.before.before.before.before.before.before.before.before.requires (sym (ap bit_put_says c.before.next.given.1) ∙ c.before.before.before.before.before.trailing-bits.ensures.0) c.before.before.before.before.before.trailing-bits.ensures.1
+returns-2 : tie.Need-returns
+returns-2 c = wrote-trailing _ _ c.requires (sym (ap bit_put_says c.in-Next.is) ∙ c.trailing_bits.ensures.0) c.trailing_bits.ensures.1
 
-pub put-trailing-spec : {M : Type 1} → statement M
-put-trailing-spec =
+pub put_trailing_spec : {M : Type 1} → statement M
+put_trailing_spec =
     tie.close
     (tie.spec
     (λ c κs. search rules)

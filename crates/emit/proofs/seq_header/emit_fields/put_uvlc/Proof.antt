@@ -5,14 +5,14 @@ use Rattle.emit.proofs.WroteLaws.{never-full-uvlc, wrote-uvlc}
 use mathlib.Core.Path.{sym, ap, ◌∙◌}
 use Rattle.bitio.specs.Write.{bit_put_says}
 
-returns : tie.Need-returns
-returns c = absurd (never-full-uvlc _ _ _ c.before.before.before.before.before.before.before.requires.0 (sym (ap bit_put_says c.enum_told.given.1) ∙ c.before.before.before.before.uvlc.ensures.0))
+returns : tie.Need-returns-in_default
+returns c = absurd (never-full-uvlc _ _ _ c.requires.0 (sym (ap bit_put_says c.in_default.is) ∙ c.uvlc.ensures.0))
 
-returns-2 : tie.Need-returns-2
-returns-2 c = wrote-uvlc _ _ _ c.before.before.before.before.before.before.before.before.requires.0 (sym (ap bit_put_says c.before.next.given.1) ∙ c.before.before.before.before.before.uvlc.ensures.0) c.before.before.before.before.before.uvlc.ensures.1
+returns-2 : tie.Need-returns
+returns-2 c = wrote-uvlc _ _ _ c.requires.0 (sym (ap bit_put_says c.in-Next.is) ∙ c.uvlc.ensures.0) c.uvlc.ensures.1
 
-pub put-uvlc-spec : {M : Type 1} → statement M
-put-uvlc-spec =
+pub put_uvlc_spec : {M : Type 1} → statement M
+put_uvlc_spec =
     tie.close
     (tie.spec
     (λ c. search rules)

@@ -6,60 +6,60 @@ use Rattle.emit.proofs.WroteLaws.{Run, wrote_then, wrote_as}
 use Rattle.emit.proofs.seq_header.emit_opening.put_opening.Statement.{statement}
 use Rattle.emit.proofs.seq_header.emit_opening.put_opening.Tie as tie
 
-abbrev r1 : tie.After-put-bits → Run
-r1 c = (_, _, _, _, _, _, c.put-bits.ensures)
+abbrev r1 : tie.After-put_bits-w → Run
+r1 c = (_, _, _, _, _, _, c.put_bits-w.ensures)
 
-abbrev r2 : tie.After-put-flag → Run
-r2 c = (_, _, _, _, _, _, wrote_then (r1 c.before.before.before.before).6 c.put-flag.ensures)
+abbrev r2 : tie.After-put_flag-w → Run
+r2 c = (_, _, _, _, _, _, wrote_then (r1 c.before.before.before.before).6 c.put_flag-w.ensures)
 
-abbrev r3 : tie.After-put-flag2 → Run
-r3 c = (_, _, _, _, _, _, wrote_then (r2 c.before.before.before.before).6 c.put-flag2.ensures)
+abbrev r3 : tie.After-put_flag-w-2 → Run
+r3 c = (_, _, _, _, _, _, wrote_then (r2 c.before.before.before.before).6 c.put_flag-w-2.ensures)
 
-abbrev r4 : tie.After-put-timing → Run
-r4 c = (_, _, _, _, _, _, wrote_then (r3 c.before.before.before.before).6 c.put-timing.ensures)
+abbrev r4 : tie.After-put_timing-w → Run
+r4 c = (_, _, _, _, _, _, wrote_then (r3 c.before.before.before.before.before).6 c.put_timing-w.ensures)
 
-abbrev r5 : tie.After-put-model → Run
-r5 c = (_, _, _, _, _, _, wrote_then (r4 c.before.before.before.before).6 c.put-model.ensures)
+abbrev r5 : tie.After-put_model-w → Run
+r5 c = (_, _, _, _, _, _, wrote_then (r4 c.before.before.before.before.before).6 c.put_model-w.ensures)
 
-abbrev r6 : tie.After-put-flag-or → Run
-r6 c = (_, _, _, _, _, _, wrote_then (r5 c.before.before.before.before).6 c.put-flag-or.ensures)
+abbrev r6 : tie.After-put_flag_or-w → Run
+r6 c = (_, _, _, _, _, _, wrote_then (r5 c.before.before.before.before).6 c.put_flag_or-w.ensures)
 
-abbrev r7 : tie.After-put-bits-or → Run
-r7 c = (_, _, _, _, _, _, wrote_then (r6 c.before.before.before.before).6 c.put-bits-or.ensures)
+abbrev r7 : tie.After-put_bits_or → Run
+r7 c = (_, _, _, _, _, _, wrote_then (r6 c.before.before.before.before).6 c.put_bits_or.ensures)
 
-put-flag-requires-2 : tie.Need-put-flag-requires-2
+put-flag-requires-2 : tie.Need-put_flag-w-requires-2
 put-flag-requires-2 c κs =
-    let p = c.before.before.before.before.before.before.before.before.before.before.before.requires in
+    let p = c.requires in
     let w = (r2 c.before.before.before).6 in
     omega (arith, p.0, p.1, w.near, w.len)
 
-put-model-requires : tie.Need-put-model-requires
+put-model-requires : tie.Need-put_model-w-requires
 put-model-requires c κs =
-    let p = c.before.before.before.before.before.before.before.before.before.before.before.before.before.before.before.before.before.before.before.requires in
-    let w = (r4 c.before.before.before).6 in
+    let p = c.requires in
+    let w = (r4 c.before.before.before.before).6 in
     omega (arith, p.0, p.1, w.near, w.len)
 
-put-flag-or-requires : tie.Need-put-flag-or-requires
+put-flag-or-requires : tie.Need-put_flag_or-w-requires
 put-flag-or-requires c κs =
-    let p = c.before.before.before.before.before.before.before.before.before.before.before.before.before.before.before.before.before.before.before.before.before.before.before.requires in
+    let p = c.requires in
     let w = (r5 c.before.before.before).6 in
     omega (arith, p.0, p.1, w.near, w.len)
 
-put-bits-or-requires : tie.Need-put-bits-or-requires
+put-bits-or-requires : tie.Need-put_bits_or-requires
 put-bits-or-requires c κs =
-    let p = c.before.before.before.before.before.before.before.before.before.before.before.before.before.before.before.before.before.before.before.before.before.before.before.before.before.before.before.requires in
+    let p = c.requires in
     let w = (r6 c.before.before.before).6 in
     omega (arith, p.0, p.1, w.near, w.len)
 
-same_length : tie.Need-same-length
+same_length : tie.Need-shape_of-out
 same_length c = (r7 c.before.before).6.len
 
 returns : tie.Need-returns
 unfolding put_opening
-returns c = wrote_as 190 (omega (arith, c.before.before.before.before.before.before.before.before.before.before.before.before.before.before.before.before.before.before.before.before.before.before.before.before.before.before.before.before.before.before.requires.1)) (λ l. refl) (r7 c.before.before).6
+returns c = wrote_as 190 (omega (arith, c.requires.1)) (λ l. refl) (r7 c.before.before).6
 
-pub put-opening-spec : {M : Type 1} → statement M
-put-opening-spec =
+pub put_opening_spec : {M : Type 1} → statement M
+put_opening_spec =
     tie.close
     (tie.spec
     (λ c κs. search rules)

@@ -10,35 +10,35 @@ use Rattle.packets.proofs.PacketListLaws.{listed-length, none_yet, empty-more}
 use Rattle.packets.proofs.packets.lists.first_full.Statement.{statement}
 use Rattle.packets.proofs.packets.lists.first_full.Tie as tie
 
-abbrev invariant-loop : tie.invariant-loop
+abbrev invariant-loop : tie.invariant-loop-i
 invariant-loop packets ends a b i₀ i = (a ≤ i) × (i ≤ b) × Every Empty (slice a i (listed packets ends))
 
-abbrev decreases-loop : tie.decreases-loop
+abbrev decreases-loop : tie.decreases-loop-i
 decreases-loop packets ends a b i₀ i = b - i
 
-loop-holds : tie.Need-loop-init invariant-loop decreases-loop
-loop-holds c = (omega arith, omega (arith, c.before.before.requires), none_yet Empty (listed c.before.before.args.packets.now c.before.before.args.ends.now) c.before.before.args.a)
+loop-holds : tie.Need-loop-i-init invariant-loop decreases-loop
+loop-holds c = (omega arith, omega (arith, c.requires), none_yet Empty (listed c.args.packets.now c.args.ends.now) c.args.a)
 
-returns : tie.Need-returns invariant-loop decreases-loop
+returns : tie.Need-returns-then-u-gt0 invariant-loop decreases-loop
 returns c =
-    let l = c.before.before.before.loop in
+    let l = c.loop-i in
     record {
       order = l.invariant.0;
       within = l.invariant.1;
       empty = l.invariant.2;
-      full = λ _. omega (arith, ap length c.before.packet.ensures);
+      full = λ _. omega (arith, ap length c.packet-u.ensures);
     }
 
-loop-again : tie.Need-loop-preserved invariant-loop decreases-loop
+loop-again : tie.Need-loop-i-preserved invariant-loop decreases-loop
 loop-again c =
-    let l = c.before.before.before.loop in
+    let l = c.loop-i in
     let s = c.before.before.before.before.before.before in
     let n = listed-length 0 s.args.packets.now s.args.ends.now in
-    (omega (arith, l.invariant.0), omega arith, empty-more (listed s.args.packets.now s.args.ends.now) s.args.a l.i l.invariant.0 (omega (arith, s.requires)) l.invariant.2 (omega (arith, ap length c.before.packet.ensures)))
+    (omega (arith, l.invariant.0), omega arith, empty-more (listed s.args.packets.now s.args.ends.now) s.args.a l.i l.invariant.0 (omega (arith, s.requires)) l.invariant.2 (omega (arith, ap length c.packet-u.ensures)))
 
-returns-2 : tie.Need-returns-2 invariant-loop decreases-loop
+returns-2 : tie.Need-returns invariant-loop decreases-loop
 returns-2 c =
-    let l = c.before.loop in
+    let l = c.loop-i in
     record {
       order = l.invariant.0;
       within = l.invariant.1;
@@ -46,8 +46,8 @@ returns-2 c =
       full = λ h. absurd (omega arith);
     }
 
-pub first-full-spec : {M : Type 1} → statement M
-first-full-spec =
+pub first_full_spec : {M : Type 1} → statement M
+first_full_spec =
     tie.close
     (tie.spec
     invariant-loop

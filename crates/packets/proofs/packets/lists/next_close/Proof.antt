@@ -10,37 +10,37 @@ use Rattle.packets.proofs.PacketListLaws.{listed-length, none_yet, wait-more}
 use Rattle.packets.proofs.packets.lists.next_close.Statement.{statement}
 use Rattle.packets.proofs.packets.lists.next_close.Tie as tie
 
-abbrev invariant-loop : tie.invariant-loop
+abbrev invariant-loop : tie.invariant-loop-i
 invariant-loop packets ends a i₀ i = (a ≤ i) × (i ≤ length ends) × Every Waits (slice a i (listed packets ends))
 
-abbrev decreases-loop : tie.decreases-loop
+abbrev decreases-loop : tie.decreases-loop-i
 decreases-loop packets ends a i₀ i = length ends - i
 
-loop-holds : tie.Need-loop-init invariant-loop decreases-loop
-loop-holds c = (omega arith, omega (arith, c.before.before.requires), none_yet Waits (listed c.before.before.args.packets.now c.before.before.args.ends.now) c.before.before.args.a)
+loop-holds : tie.Need-loop-i-init invariant-loop decreases-loop
+loop-holds c = (omega arith, omega (arith, c.requires), none_yet Waits (listed c.args.packets.now c.args.ends.now) c.args.a)
 
-returns : tie.Need-returns invariant-loop decreases-loop
+returns : tie.Need-returns-then-closes invariant-loop decreases-loop
 returns c =
-    let l = c.before.before.before.before.loop in
-    let a = c.before.before.before.before.before.before.before.args in
+    let l = c.loop-i in
+    let a = c.args in
     record {
       order = omega (arith, l.invariant.0);
       within = omega (arith, listed-length 0 a.packets.now a.ends.now);
       wait = l.invariant.2;
-      close = λ _. ap closes (sym c.before.before.packet.ensures) ∙ sym c.before.closes.ensures ∙ c.if1.true;
+      close = λ _. ap closes (sym c.packet.ensures) ∙ sym c.closes.ensures ∙ c.if-closes.true;
     }
 
-loop-again : tie.Need-loop-preserved invariant-loop decreases-loop
+loop-again : tie.Need-loop-i-preserved invariant-loop decreases-loop
 loop-again c =
-    let l = c.before.before.before.before.loop in
-    let a = c.before.before.before.before.before.before.before.args in
+    let l = c.loop-i in
+    let a = c.args in
     let n = listed-length 0 a.packets.now a.ends.now in
-    (omega (arith, l.invariant.0), omega arith, wait-more (listed a.packets.now a.ends.now) a.a l.i l.invariant.0 (omega arith) l.invariant.2 (ap closes (sym c.before.before.packet.ensures) ∙ sym c.before.closes.ensures ∙ c.if1.false))
+    (omega (arith, l.invariant.0), omega arith, wait-more (listed a.packets.now a.ends.now) a.a l.i l.invariant.0 (omega arith) l.invariant.2 (ap closes (sym c.packet.ensures) ∙ sym c.closes.ensures ∙ c.if-closes.false))
 
-returns-2 : tie.Need-returns-2 invariant-loop decreases-loop
+returns-2 : tie.Need-returns invariant-loop decreases-loop
 returns-2 c =
-    let l = c.before.loop in
-    let a = c.before.before.before.before.args in
+    let l = c.loop-i in
+    let a = c.args in
     let n = listed-length 0 a.packets.now a.ends.now in
     record {
       order = l.invariant.0;
@@ -49,8 +49,8 @@ returns-2 c =
       close = λ h. absurd (omega arith);
     }
 
-pub next-close-spec : {M : Type 1} → statement M
-next-close-spec =
+pub next_close_spec : {M : Type 1} → statement M
+next_close_spec =
     tie.close
     (tie.spec
     invariant-loop

@@ -7,23 +7,23 @@ use Rattle.packets.proofs.PacketListLaws.{listed-first, listed_at, listed-out}
 use Rattle.packets.proofs.packets.lists.packet.Statement.{statement}
 use Rattle.packets.proofs.packets.lists.packet.Tie as tie
 
-returns : tie.Need-returns
+returns : tie.Need-returns-then-i-ends
 returns c = c.payload.ensures ∙ part_none _ ∙ sym (listed-out _ _ _ (omega arith))
 
-cast-end : tie.Need-overflow-cast-end
-cast-end c = omega (arith, c.shared-slice-known3.given c.before.before.before.before.args.i)
+cast-end : tie.Need-overflow_cast-end
+cast-end c = omega (arith, c.shared_slice_known-3-1.given c.args.i)
 
-returns-2 : tie.Need-returns-2
-returns-2 c = c.payload2.ensures ∙ listed-first _ _ _ (omega arith) (omega arith)
+returns-2 : tie.Need-returns-then-i-eq0
+returns-2 c = c.payload-then-i-eq0.ensures ∙ listed-first _ _ _ (omega arith) (omega arith)
 
-cast-start : tie.Need-overflow-cast-start
-cast-start c = omega (arith, c.shared-slice-known4.given (c.before.before.before.before.before.before.args.i - 1))
+cast-start : tie.Need-overflow_cast-start
+cast-start c = omega (arith, c.shared_slice_known-4-1.given (c.args.i - 1))
 
-returns-3 : tie.Need-returns-3
-returns-3 c = c.payload3.ensures ∙ listed_at _ _ _ (omega arith) (omega arith)
+returns-3 : tie.Need-returns
+returns-3 c = c.payload-2.ensures ∙ listed_at _ _ _ (omega arith) (omega arith)
 
-pub packet-spec : {M : Type 1} → statement M
-packet-spec =
+pub packet_spec : {M : Type 1} → statement M
+packet_spec =
     tie.close
     (tie.spec
     (λ c κs. search rules)

@@ -12,82 +12,82 @@ use Rattle.packets.proofs.packets.merge.merge_none.Statement.{statement}
 use Rattle.packets.proofs.packets.merge.merge_none.Tie as tie
 
 -- a packet has bytes
-some : (c : tie.Else1) → c.before.first-full.result < length c.before.before.before.before.before.before.before.before.args.times.now
+some : (c : tie.Else-i-n) → c.first_full-i.result < length c.args.times.now
 some c = omega arith
 
-totals : (c : tie.After-run-len) → (let a = c.before.before.before.before.before.before.before.before.before.args in Totals a.packets.now a.ends.now a.times.now c.run_len.result 1)
+totals : (c : tie.After-run_len-len) → (let a = c.args in Totals a.packets.now a.ends.now a.times.now c.run_len-len.result 1)
 totals c =
     let s = c.before.before.before.before.before.before.before.before.before in
     let a = s.args in
-    one-totals a.packets.now a.ends.now a.times.now s.requires _ c.before.before.first-full.ensures (some c.before) c.run_len.ensures
+    one-totals a.packets.now a.ends.now a.times.now s.requires _ c.first_full-i.ensures (some c.before) c.run_len-len.ensures
 
 -- it has room
-one-fits : (c : tie.Else2) → (let a = c.before.before.before.before.before.before.before.before.before.before.before.args in fits_packets c.before.before.run_len.result 1 (lent_room a.out.now a.out-ends.now a.out-times.now) ≡ true)
-one-fits c = sym c.before.has-packet-room.ensures ∙ not-false _ c.if2.false
+one-fits : (c : tie.Else-not-has_packet_room) → (let a = c.args in fits_packets c.run_len-len.result 1 (lent_room a.out.now a.out_ends.now a.out_times.now) ≡ true)
+one-fits c = sym c.has_packet_room.ensures ∙ not-false _ c.if-not-has_packet_room.false-raw
 
-room : (c : tie.Else2) → (let a = c.before.before.before.before.before.before.before.before.before.before.before.args in MergeRoom a.packets.now a.ends.now a.times.now a.out.now a.out-ends.now a.out-times.now)
+room : (c : tie.Else-not-has_packet_room) → (let a = c.args in MergeRoom a.packets.now a.ends.now a.times.now a.out.now a.out_ends.now a.out_times.now)
 room c =
     let s = c.before.before.before.before.before.before.before.before.before.before.before in
     let a = s.args in
-    out-room a.packets.now a.ends.now a.times.now a.out.now a.out-ends.now a.out-times.now s.requires.given _ _ (totals c.before.before) (one-fits c)
+    out-room a.packets.now a.ends.now a.times.now a.out.now a.out_ends.now a.out_times.now s.requires.given _ _ (totals c.before.before) (one-fits c)
 
-first-full-requires : tie.Need-first-full-requires
+first-full-requires : tie.Need-first_full-i-requires
 first-full-requires c κs = let s = c.before.before.before.before.before.before in (omega arith, omega (arith, s.requires.given.match))
 
-returns : tie.Need-returns
+returns : tie.Need-returns-then-i-n
 returns c =
     let s = c.before.before.before.before.before.before.before.before in
     let a = s.args in
-    out_none a.packets.now a.ends.now a.times.now s.requires _ c.before.first-full.ensures (omega arith) a.out.now a.out-ends.now a.out-times.now
+    out_none a.packets.now a.ends.now a.times.now s.requires _ c.first_full-i.ensures (omega arith) a.out.now a.out_ends.now a.out_times.now
 
-run-len-requires : tie.Need-run-len-requires
+run-len-requires : tie.Need-run_len-len-requires
 run-len-requires c κs = let s = c.before.before.before.before.before.before.before.before in let a = s.args in none-run a.packets.now a.ends.now a.times.now s.requires
 
-returns-2 : tie.Need-returns-2
+returns-2 : tie.Need-returns-then-not-has_packet_room
 returns-2 c =
     let s = c.before.before.before.before.before.before.before.before.before.before.before in
     let a = s.args in
-    out-full a.packets.now a.ends.now a.times.now a.out.now a.out-ends.now a.out-times.now s.requires.given _ _ (totals c.before.before) (sym c.before.has-packet-room.ensures ∙ not-true _ c.if2.true)
+    out-full a.packets.now a.ends.now a.times.now a.out.now a.out_ends.now a.out_times.now s.requires.given _ _ (totals c.before.before) (sym c.has_packet_room.ensures ∙ not-true _ c.if-not-has_packet_room.true-raw)
 
-put-run-requires : tie.Need-put-run-requires
+put-run-requires : tie.Need-put_run-requires
 put-run-requires c κs =
     let k = c.before in
     let s = k.before.before.before.before.before.before.before.before.before.before.before in
     let a = s.args in
-    one-room a.packets.now a.ends.now a.times.now s.requires _ k.before.before.before.before.first-full.ensures (some k.before.before.before) (room k)
+    one-room a.packets.now a.ends.now a.times.now s.requires _ k.first_full-i.ensures (some k.before.before.before) (room k)
 
-cast-out-ends : tie.Need-overflow-cast-out-ends
+cast-out-ends : tie.Need-overflow_cast-out_ends
 cast-out-ends c =
     let k = c.before.before.before.before in
     let s = k.before.before.before.before.before.before.before.before.before.before.before in
     let a = s.args in
-    omega (arith, (room k).small, out-size a.packets.now a.ends.now a.times.now a.out.now a.out-ends.now a.out-times.now s.requires.given _ _ (totals k.before.before) (one-fits k))
+    omega (arith, (room k).small, out-size a.packets.now a.ends.now a.times.now a.out.now a.out_ends.now a.out_times.now s.requires.given _ _ (totals k.before.before) (one-fits k))
 
-slice-write-out-ends : tie.Need-slice-write-out-ends
+slice-write-out-ends : tie.Need-bounds-out_ends-0
 slice-write-out-ends c =
     let k = c.before.before.before.before in
     let s = k.before.before.before.before.before.before.before.before.before.before.before in
     let a = s.args in
-    omega (arith, one-slots a.packets.now a.ends.now a.times.now s.requires _ k.before.before.before.before.first-full.ensures (some k.before.before.before) (room k))
+    omega (arith, one-slots a.packets.now a.ends.now a.times.now s.requires _ k.first_full-i.ensures (some k.before.before.before) (room k))
 
-slice-write-out-times : tie.Need-slice-write-out-times
+slice-write-out-times : tie.Need-bounds-out_times-0
 slice-write-out-times c =
     let k = c.before.before.before.before.before in
     let s = k.before.before.before.before.before.before.before.before.before.before.before in
     let a = s.args in
-    omega (arith, one-slots a.packets.now a.ends.now a.times.now s.requires _ k.before.before.before.before.first-full.ensures (some k.before.before.before) (room k))
+    omega (arith, one-slots a.packets.now a.ends.now a.times.now s.requires _ k.first_full-i.ensures (some k.before.before.before) (room k))
 
-returns-3 : tie.Need-returns-3
+returns-3 : tie.Need-returns
 returns-3 c =
     let k = c.before.before.before.before.before in
     let s = k.before.before.before.before.before.before.before.before.before.before.before in
     let a = s.args in
     let z = totals k.before.before in
-    out-there a.packets.now a.ends.now a.times.now a.out.now a.out-ends.now a.out-times.now s.requires.given _ _ z (one-fits k)
-    (one_written a.packets.now a.ends.now a.times.now s.requires _ k.before.before.before.before.first-full.ensures (some k.before.before.before) (room k) (out-size a.packets.now a.ends.now a.times.now a.out.now a.out-ends.now a.out-times.now s.requires.given _ _ z (one-fits k)) c.before.before.before.put-run.ensures)
+    out-there a.packets.now a.ends.now a.times.now a.out.now a.out_ends.now a.out_times.now s.requires.given _ _ z (one-fits k)
+    (one_written a.packets.now a.ends.now a.times.now s.requires _ k.first_full-i.ensures (some k.before.before.before) (room k) (out-size a.packets.now a.ends.now a.times.now a.out.now a.out_ends.now a.out_times.now s.requires.given _ _ z (one-fits k)) c.put_run.ensures)
 
-pub merge-none-spec : {M : Type 1} → statement M
-merge-none-spec =
+pub merge_none_spec : {M : Type 1} → statement M
+merge_none_spec =
     tie.close
     (tie.spec
     first-full-requires

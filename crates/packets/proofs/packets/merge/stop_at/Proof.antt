@@ -4,14 +4,14 @@ use Rattle.packets.proofs.PacketMergeLaws.{stop-more, stop-last}
 use Rattle.packets.proofs.packets.merge.stop_at.Statement.{statement}
 use Rattle.packets.proofs.packets.merge.stop_at.Tie as tie
 
-add-result : tie.Need-overflow-add-result
+add-result : tie.Need-overflow_add-result
 add-result c = search rules
 
-returns : tie.Need-returns
-returns c = let a = c.before.args in stop-more a.c a.next a.n (omega arith)
+returns : tie.Need-returns-then-next-n
+returns c = let a = c.args in stop-more a.c a.next a.n (omega arith)
 
-returns-2 : tie.Need-returns-2
-returns-2 c = let a = c.before.args in stop-last a.c a.next a.n (omega arith)
+returns-2 : tie.Need-returns
+returns-2 c = let a = c.args in stop-last a.c a.next a.n (omega arith)
 
-pub stop-at-spec : {M : Type 1} → statement M
-stop-at-spec = tie.close (tie.spec add-result returns returns-2)
+pub stop_at_spec : {M : Type 1} → statement M
+stop_at_spec = tie.close (tie.spec add-result returns returns-2)

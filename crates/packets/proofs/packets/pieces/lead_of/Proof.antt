@@ -5,32 +5,32 @@ use Rattle.packets.proofs.PacketPieceLaws.{front-run, back-run, lead-yes, lead-n
 use Rattle.packets.proofs.packets.pieces.lead_of.Statement.{statement}
 use Rattle.packets.proofs.packets.pieces.lead_of.Tie as tie
 
-head-of-requires : tie.Need-head-of-requires
-head-of-requires c κs = front-run c.before.before.requires.all
+head-of-requires : tie.Need-head_of-i-requires
+head-of-requires c κs = front-run c.requires.all
 
-returns : tie.Need-returns
-returns c = waiting c.before.before.before.head_of.ensures (lead-yes c.before.before.packet.ensures c.before.lead-end.ensures (omega arith))
+returns : tie.Need-returns-then-lead_end-gt0
+returns c = waiting c.head_of-i.ensures (lead-yes c.packet.ensures c.lead_end.ensures (omega arith))
 
-returns-2 : tie.Need-returns-2
+returns-2 : tie.Need-returns-then-lead_end-gt0-2
 returns-2 c =
     let f = c.before.before.before in
-    closing f.before.before.before.head_of.ensures (lead-no f.before.before.packet.ensures f.before.lead-end.ensures (omega arith))
-    (lead-yes c.before.before.packet2.ensures c.before.lead-end2.ensures (omega arith))
+    closing f.head_of-i.ensures (lead-no f.packet.ensures f.lead_end.ensures (omega arith))
+    (lead-yes c.packet-2.ensures c.lead_end-2.ensures (omega arith))
 
-add-head-of : tie.Need-overflow-add-head-of
-add-head-of c = let p = c.before.before.before.before.before.before.before.before.before.requires.all in omega (arith, p.after, p.within)
+add-head-of : tie.Need-overflow_add-c
+add-head-of c = let p = c.requires.all in omega (arith, p.after, p.within)
 
-head-of-requires-2 : tie.Need-head-of-requires-2
-head-of-requires-2 c κs = back-run c.before.before.before.before.before.before.before.before.before.requires.all
+head-of-requires-2 : tie.Need-head_of-requires
+head-of-requires-2 c κs = back-run c.requires.all
 
-returns-3 : tie.Need-returns-3
+returns-3 : tie.Need-returns
 returns-3 c =
     let f = c.before.before.before.before in
-    behind f.before.before.before.head_of.ensures (lead-no f.before.before.packet.ensures f.before.lead-end.ensures (omega arith))
-    (lead-no c.before.before.before.packet2.ensures c.before.before.lead-end2.ensures (omega arith)) c.head-of2.ensures
+    behind f.head_of-i.ensures (lead-no f.packet.ensures f.lead_end.ensures (omega arith))
+    (lead-no c.packet-2.ensures c.lead_end-2.ensures (omega arith)) c.head_of.ensures
 
-pub lead-of-spec : {M : Type 1} → statement M
-lead-of-spec =
+pub lead_of_spec : {M : Type 1} → statement M
+lead_of_spec =
     tie.close
     (tie.spec
     head-of-requires

@@ -7,28 +7,28 @@ use Rattle.packets.proofs.PacketPieceLaws.{parses-is, parses-not, front-run, bac
 use Rattle.packets.proofs.packets.pieces.piece_len.Statement.{statement}
 use Rattle.packets.proofs.packets.pieces.piece_len.Tie as tie
 
-joined-len-requires : tie.Need-joined-len-requires
-joined-len-requires c κs = record { all = c.before.before.before.before.before.requires; mid = parses-is _ (ap parses_unit (sym c.before.before.packet.ensures) ∙ sym c.before.parses.ensures ∙ c.if1.true) }
+joined-len-requires : tie.Need-joined_len-requires
+joined-len-requires c κs = record { all = c.requires; mid = parses-is _ (ap parses_unit (sym c.packet-u.ensures) ∙ sym c.parses.ensures ∙ c.if-parses.true) }
 
-run-len-requires : tie.Need-run-len-requires
-run-len-requires c κs = front-run c.before.before.before.before.before.requires
+run-len-requires : tie.Need-run_len-requires
+run-len-requires c κs = front-run c.requires
 
-add-run-len : tie.Need-overflow-add-run-len
-add-run-len c = let p = c.before.before.before.before.before.before.before.requires in omega (arith, p.after, p.within)
+add-run-len : tie.Need-overflow_add-c
+add-run-len c = let p = c.requires in omega (arith, p.after, p.within)
 
-run-len-requires-2 : tie.Need-run-len-requires-2
-run-len-requires-2 c κs = back-run c.before.before.before.before.before.before.before.requires
+run-len-requires-2 : tie.Need-run_len-requires-2
+run-len-requires-2 c κs = back-run c.requires
 
-returns-2 : tie.Need-returns-2
+returns-2 : tie.Need-returns
 returns-2 c =
     let e = c.before.before.before.before in
     let s = e.before.before.before.before.before in
     let a = s.args in
-    let n = parses-not _ (ap parses_unit (sym e.before.before.packet.ensures) ∙ sym e.before.parses.ensures ∙ e.if1.false) in
-    apart-size a.packets.now a.ends.now a.a a.c a.b s.requires n.0 n.1 c.before.before.before.run_len.ensures (ap length e.before.before.packet.ensures) c.before.before.plus.ensures c.before.run-len2.ensures c.plus2.ensures
+    let n = parses-not _ (ap parses_unit (sym e.packet-u.ensures) ∙ sym e.parses.ensures ∙ e.if-parses.false) in
+    apart-size a.packets.now a.ends.now a.a a.c a.b s.requires n.0 n.1 c.run_len.ensures (ap length e.packet-u.ensures) c.plus-front.ensures c.run_len-2.ensures c.plus.ensures
 
-pub piece-len-spec : {M : Type 1} → statement M
-piece-len-spec =
+pub piece_len_spec : {M : Type 1} → statement M
+piece_len_spec =
     tie.close
     (tie.spec
     (λ c κs. search rules)
