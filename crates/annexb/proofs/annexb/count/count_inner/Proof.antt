@@ -31,7 +31,7 @@ found_at c = c.before.before.before
 -- the OBU counted behind the others
 next : (c : tie.After-framed_len-n invariant-loop decreases-loop)
     → (let f = found_at c in
-    Counting (at-loop f).args.u.now f.found-1.given.0.0.end ((at-loop f).loop-at.n + c.framed_len-n.result))
+    Counting (at-loop f).args.u.now f.in-Found.o.end ((at-loop f).loop-at.n + c.framed_len-n.result))
 next c =
     let f = found_at c in
     counting-next (at-loop f).loop-at.invariant (at-loop f).requires (got f) (c.framed_len-n.ensures ∙ ap framed_length c.inner_len.ensures)

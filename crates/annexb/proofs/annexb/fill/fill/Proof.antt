@@ -55,7 +55,7 @@ found_at c = c.before.before.before.before
 -- what fill_unit left
 unit-filled : (c : tie.After-slice_known-in-loop-at-1 invariant-loop decreases-loop)
     → (let l = at-loop (found_at c) in
-    Wrote l.loop.out l.loop.w (unit_bytes (unit-obus (found_at c)).0) c.fill_unit-w.result c.fill_unit-w.new.1.1.1.0)
+    Wrote l.loop-at.out l.loop-at.w (unit_bytes (unit-obus (found_at c)).0) c.fill_unit-w.result c.fill_unit-w.new.1.1.1.0)
 unit-filled c = held-is (unit-obus (found_at c)).1 c.fill_unit-w.ensures
 
 small : (c : tie.After-slice_known-in-loop-at-1 invariant-loop decreases-loop) → c.fill_unit-w.result ≤ limit
@@ -64,7 +64,7 @@ small c =
     let l = at-loop f in
     omega (arith, (unit-filled c).next, all_small (begin l).requires l.loop-at.invariant _ _ (unit-obus f).2)
 
-slot : (c : tie.After-slice_known-in-loop-at-1 invariant-loop decreases-loop) → (let l = at-loop (found_at c) in l.loop.u < length l.loop.ends)
+slot : (c : tie.After-slice_known-in-loop-at-1 invariant-loop decreases-loop) → (let l = at-loop (found_at c) in l.loop-at.u < length l.loop-at.ends)
 slot c = let f = found_at c in let l = at-loop f in all-slot (begin l).requires l.loop-at.invariant _ _ (unit-obus f).2
 
 loop-holds : tie.Need-loop-at-init invariant-loop decreases-loop

@@ -103,30 +103,30 @@ all-holds : tie.Need-all-init invariant-loop2 decreases-loop2 invariant-loop dec
 all-holds c = units-start _
 
 part-refusal-requires :
-    tie.Need-part-refusal-requires invariant-loop2 decreases-loop2 invariant-loop decreases-loop invariant-all decreases-all
+    tie.Need-part_refusal-fault-requires invariant-loop2 decreases-loop2 invariant-loop decreases-loop invariant-all decreases-all
 part-refusal-requires c κs = search rules
 
 loop-holds : tie.Need-loop-p-init invariant-loop2 decreases-loop2 invariant-loop decreases-loop invariant-all decreases-all
 loop-holds c = frames-start (at_all c).all.invariant (unit_got c)
 
 part-refusal-requires-2 :
-    tie.Need-part-refusal-requires-2 invariant-loop2 decreases-loop2 invariant-loop decreases-loop invariant-all decreases-all
+    tie.Need-part_refusal-fault-requires-in_default-frame invariant-loop2 decreases-loop2 invariant-loop decreases-loop invariant-all decreases-all
 part-refusal-requires-2 c κs = search rules
 
 loop2-holds : tie.Need-loop-q-init invariant-loop2 decreases-loop2 invariant-loop decreases-loop invariant-all decreases-all
 loop2-holds c = obus-start (at-loop c).loop-p.invariant (frame-got c)
 
 length-obu-at-requires :
-    tie.Need-length-obu-at-requires invariant-loop2 decreases-loop2 invariant-loop decreases-loop invariant-all decreases-all
+    tie.Need-length_obu_at-found-requires invariant-loop2 decreases-loop2 invariant-loop decreases-loop invariant-all decreases-all
 length-obu-at-requires c κs = search rules
 
 inner-refusal-requires :
-    tie.Need-inner-refusal-requires invariant-loop2 decreases-loop2 invariant-loop decreases-loop invariant-all decreases-all
+    tie.Need-inner_refusal-fault-requires invariant-loop2 decreases-loop2 invariant-loop decreases-loop invariant-all decreases-all
 inner-refusal-requires c κs = search rules
 
 written-len-requires :
-    tie.Need-written-len-requires invariant-loop2 decreases-loop2 invariant-loop decreases-loop invariant-all decreases-all
-written-len-requires c κs = (obu-got c.before).ends
+    tie.Need-written_len-bytes-requires invariant-loop2 decreases-loop2 invariant-loop decreases-loop invariant-all decreases-all
+written-len-requires c κs = (obu-got c).ends
 
 add-bytes : tie.Need-overflow_add-bytes invariant-loop2 decreases-loop2 invariant-loop decreases-loop invariant-all decreases-all
 add-bytes c = let b = next c in omega arith
