@@ -1,14 +1,12 @@
 -- Laws of what an answer tells in lent memory.
-use mathlib.Core.Path.{◌≡◌, refl, ap₂, ◌∙◌}
-use mathlib.Core.List.{List, [], ◌∷◌, ◌++◌, append-nil}
-use Prim.Native.Nat.{ℕ, ◌+◌, ◌-◌, ◌≤◌, ◌<◌}
-use native.Mathlib.Omega.{arith}
+use mathlib.Core.Path.{◌≡◌, refl}
+use mathlib.Core.List.{List, [], ◌∷◌, ◌++◌}
+use Prim.Native.Nat.{ℕ, ◌+◌, ◌≤◌, ◌<◌}
 use native.Mathlib.Numerals.{add-one}
-use lib.ListN.{length, get_or, take, drop, length-drop, drop_of_length-le}
-use lib.Seq.{drop-cons, take_all, length-take-le}
-use borrow.Rule.Slice.PartMut.{put_mid, Post-is}
+use lib.ListN.{length, get_or, drop, drop_of_length-le}
+use lib.Seq.{drop-cons}
 use borrow.Author.Tests.{lt-ltb, le-ltb, le-leb, lt-leb}
-use Rattle.bitio.specs.Lent.{pasted, has_room}
+use Rattle.bitio.specs.Lent.{has_room}
 use Rattle.protocol.specs.Answers.{Numbered, stored_number, with_number, with_numbers, Parted, stored_part, with_part, with_parts}
 
 -- ---- numbers
@@ -61,15 +59,3 @@ module _ (t : Parted) (xs : List ℕ) where
   pub part-bytes-full : t.answer.ends < length t.ends → length t.bytes < t.answer.bytes + length xs → with_parts t (xs ∷ []) ≡ t
   unfolding has_room with_part with_parts
   part-bytes-full h k = rw (lt-ltb t.answer.ends (length t.ends) h, lt-leb (t.answer.bytes + length xs) (length t.bytes) k)
-
--- a copy of all of xs into a part of d that is as long is pasted there
-pub copied-into : (d xs : List ℕ) (at : ℕ) {ys : List ℕ} → at + length xs ≤ length d
-    → ys ≡ take (length xs) xs ++ drop (length xs) (take (at + length xs - at) (drop at d))
-    → put_mid at (at + length xs - at) d ys ≡ pasted d at xs
-unfolding pasted
-copied-into d xs at {ys} h e =
-    let n : length (take (at + length xs - at) (drop at d)) ≤ length xs =
-    omega (arith, length-take-le (at + length xs - at) (drop at d) (omega (arith, length-drop at d))) in
-    let k : ys ≡ xs =
-    e ∙ ap₂ ◌++◌ (take_all (length xs) xs (omega arith)) (drop_of_length-le _ {i = length xs} n) ∙ append-nil xs in
-    rw (k, Post-is at (at + length xs) d (omega arith))

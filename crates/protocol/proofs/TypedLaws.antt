@@ -19,7 +19,7 @@ use Rattle.protocol.specs.Typed.{Typed, typing, next_place, typed, places_in, de
 pub typed-more : (t : Typed) (a b : List ℕ) → typed (typed t a) b ≡ typed t (a ++ b)
 unfolding typed
 typed-more t [] b = refl
-typed-more t (c ∷ a) b = typed-more _ a b
+typed-more t (c ∷ a) b = typed-more (typing (next_place t.at + 1) (set t.out (next_place t.at) c)) a b
 
 -- the same of two calls, one behind the other
 pub typed-both : (t : Typed) (a b : List ℕ) {c : List ℕ} {u v : Typed} → u ≡ typed t a → v ≡ typed u b → a ++ b ≡ c → v ≡ typed t c

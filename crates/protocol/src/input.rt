@@ -3,6 +3,7 @@ ghost use Rattle.std.specs.Prelude.{◌≡◌, cond as pick, List, ℕ, ◌+◌,
 ghost use Rattle.protocol.specs.Lines.{start_input, is_line, Kept};
 
 use crate::output::Buffer;
+use std::io::Read;
 
 // How far the input has been read.
 #[derive(Clone, Copy)]
@@ -38,17 +39,18 @@ impl Input {
     }
 }
 
-fn read_piece(piece: &mut [u8], input: Input) -> Input
+// What is there now, by one read: it need not fill `piece`. A read that fails ends the input, as one that gives nothing.
+fn read_piece(rt: &impl std::io::Input, piece: &mut [u8], input: Input) -> Input
     ensures { result.len ≡ input.len }
 {
     let mut next = input;
-    let got = libc::read(0, piece);
-    if got <= 0 {
+    let got = rt.reader().read(piece).unwrap_or(0);
+    if got == 0 {
         next.is_over = true;
         return next;
     }
     next.from = 0;
-    next.to = io::count(got, piece);
+    next.to = got;
     next
 }
 
@@ -82,21 +84,25 @@ fn take(piece: &[u8], line: &mut [u8], input: Input) -> Input
 }
 
 // One more character, or piece.
-fn advance(piece: &mut [u8], line: &mut [u8], input: Input) -> Input
+fn advance(rt: &impl std::io::Input, piece: &mut [u8], line: &mut [u8], input: Input) -> Input
     ensures { (d : List ℕ) → Kept d line.old input.len → Kept d line.new result.len }
 {
     if input.from < input.to {
         return take(piece, line, input);
     }
-    read_piece(piece, input)
+    read_piece(rt, piece, input)
 }
 
 // The next line. Nothing says that one ends, so the turns are counted down from a number that no run uses up. Nor does the
-// contract of `libc::read` say what it puts into `piece`. So this contract leaves open which characters the line has, how
-// many, and where the input then stands; tests hold that. It says what is so whatever came: `piece` has its length, at most
-// one character more is counted than `line` has room for, none of those kept is a line end, and behind them `line` is as it
-// was.
-pub fn read_line(piece: &mut Buffer, line: &mut Buffer, so_far: Input) -> Input
+// contract of `read` say what it puts into `piece`. So this contract leaves open which characters the line has, how many,
+// and where the input then stands; tests hold that. It says what is so whatever came: `piece` has its length, at most one
+// character more is counted than `line` has room for, none of those kept is a line end, and behind them `line` is as it was.
+pub fn read_line(
+    rt: &impl std::io::Input,
+    piece: &mut Buffer,
+    line: &mut Buffer,
+    so_far: Input,
+) -> Input
     ensures kept { Kept line.old line.new result.len }
     ensures piece_len_unchanged { length piece.new ≡ length piece.old }
 {
@@ -105,7 +111,7 @@ pub fn read_line(piece: &mut Buffer, line: &mut Buffer, so_far: Input) -> Input
     input.is_whole = false;
     let mut turns = u64::MAX;
     while turns > 0 && !(input.is_whole | input.is_over) {
-        input = advance(piece, line, input);
+        input = advance(rt, piece, line, input);
         turns -= 1;
     }
     input

@@ -101,6 +101,7 @@ struct Progress {
 
 // Answers the next line.
 fn advance(
+    rt: &impl std::io::Input,
     piece: &mut Buffer,
     line: &mut Buffer,
     decoded: &mut [u8],
@@ -112,7 +113,7 @@ fn advance(
     out: &mut Buffer,
     so_far: Progress,
 ) -> Progress {
-    let input = read_line(piece, line, so_far.input);
+    let input = read_line(rt, piece, line, so_far.input);
     let request = read_request(input, line, decoded, ends, numbers);
     let at = answer_request(
         request,
@@ -130,6 +131,7 @@ fn advance(
 
 // Answers all lines. Nothing says that the input ends, so the turns are counted down from a number that no run uses up.
 fn serve(
+    rt: &impl std::io::Input,
     piece: &mut Buffer,
     line: &mut Buffer,
     decoded: &mut [u8],
@@ -145,6 +147,7 @@ fn serve(
     let mut turns = u64::MAX;
     while turns > 0 && !progress.input.is_over {
         progress = advance(
+            rt,
             piece,
             line,
             decoded,
@@ -161,7 +164,7 @@ fn serve(
     flush(out, progress.at);
 }
 
-fn main() {
+fn main(rt: HostRuntime) {
     let mut piece = io::large_buffer();
     let mut line = io::large_buffer();
     let mut decoded = io::large_buffer();
@@ -173,6 +176,7 @@ fn main() {
     let mut out = io::large_buffer();
     let input = input::start();
     serve(
+        &rt,
         &mut piece,
         &mut line,
         &mut decoded,

@@ -24,9 +24,9 @@ loop-again c =
     let s = c.args.line.now in
     let r = c.read_field-fields in (
       omega arith,
-      r.auto.1.0 ∙ l.invariant.1,
-      r.auto.1.1.0 ∙ l.invariant.2,
-      r.auto.1.1.1.0 ∙ l.invariant.3,
+      r.auto.decoded ∙ l.invariant.1,
+      r.auto.ends ∙ l.invariant.2,
+      r.auto.numbers ∙ l.invariant.3,
       l.invariant.4 ∙ fields-more (length s) l.i s _ (omega arith) ∙ ap (λ (t : FieldsRead). fields_in (length s - (l.i + 1)) s t) (sym r.ensures),
     )
 

@@ -13,8 +13,8 @@ use Rattle.protocol.proofs.output.put_hex_part.Tie as tie
 
 returns : tie.Need-returns
 returns c =
-    let a = c.before.before.before.before.before.before.before.before.args in
-    let x = c.encode_hex in
+    let a = c.args in
+    let x = c.encode_hex-n in
     let s = a.s.now in
     c.put_text.ensures
     ∙ ap (λ (l : List ℕ). typed (typing a.at a.out.now) l) (ap (λ (d : List ℕ). take (x.result - 0) (drop 0 d)) x.ensures.1 ∙ pasted-front _ (hex_text s) (x.result - 0) (omega (arith, x.ensures.0, text-length s)))

@@ -11,7 +11,7 @@ returns : tie.Need-returns
 returns c =
     let a = c.args in
     let d = c.decimal-n.ensures in
-    c.put_text.ensures ∙ ap (λ (l : List ℕ). typed (typing a.at a.out.now) l) (d.1.1 ∙ decimal-is a.v _ c.ranges.v.fits d.1.0)
+    c.put_text.ensures ∙ ap (λ (l : List ℕ). typed (typing a.at a.out.now) l) (d.1.1.0 ∙ decimal-is a.v _ c.ranges.v.fits d.1.0)
 
 pub put_number_spec : {M : Type 1} → statement M
 put_number_spec =

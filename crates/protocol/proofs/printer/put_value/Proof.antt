@@ -18,26 +18,23 @@ returns-2 c =
 
 returns-3 : tie.Need-returns-then-kind-eq-NEGATIVE
 returns-3 c =
-    let k = c.before.before.before.before.before in
-    let a = k.args in
-    typed-both (typing a.at a.out.now) (45 ∷ []) (decimal_text a.v) c.put_text-to-then-kind-eq-NEGATIVE.ensures c.put_number-then-kind-eq-NEGATIVE.ensures (printed-negative a.kind a.v k.if-kind-v.false k.if-kind-eq-NEGATIVE.true)
+    let a = c.args in
+    typed-both (typing a.at a.out.now) (45 ∷ []) (decimal_text a.v) c.put_text-to-then-kind-eq-NEGATIVE.ensures c.put_number-then-kind-eq-NEGATIVE.ensures (printed-negative a.kind a.v c.if-kind-v.false c.if-kind-eq-NEGATIVE.true)
 
 returns-4 : tie.Need-returns-then-kind-eq-SLOTS
 returns-4 c =
-    let k = c.before.before.before in
-    let a = k.args in
-    c.put_text-then-kind-eq-SLOTS.ensures ∙ ap (λ (l : List ℕ). typed (typing a.at a.out.now) l) (printed-slots a.kind a.v k.if-kind-v.false k.if-kind-eq-SLOTS.true)
+    let a = c.args in
+    c.put_text-then-kind-eq-SLOTS.ensures ∙ ap (λ (l : List ℕ). typed (typing a.at a.out.now) l) (printed-slots a.kind a.v c.if-kind-v.false c.if-kind-eq-SLOTS.true)
 
 returns-5 : tie.Need-returns
 returns-5 c =
-    let k = c.before.before in
-    let a = k.args in
-    c.put_number-2.ensures ∙ ap (λ (l : List ℕ). typed (typing a.at a.out.now) l) (printed-plain a.kind a.v k.if-kind-v.false k.if-kind-eq-REFUSED.false k.if-kind-eq-NEGATIVE.false k.if-kind-eq-SLOTS.false)
+    let a = c.args in
+    c.put_number-2.ensures ∙ ap (λ (l : List ℕ). typed (typing a.at a.out.now) l) (printed-plain a.kind a.v c.if-kind-v.false c.if-kind-eq-REFUSED.false c.if-kind-eq-NEGATIVE.false c.if-kind-eq-SLOTS.false)
 
 pub put_value_spec : {M : Type 1} → statement M
 put_value_spec =
     tie.close
-    (
+    (tie.spec
     (λ c κs. search rules)
     returns
     (λ c κs. search rules)

@@ -3,7 +3,6 @@ use mathlib.Core.Path.{sym, ◌∙◌}
 use Prim.Native.Nat.{◌/◌}
 use native.Mathlib.Omega.{arith}
 use lib.ListN.{length}
-use borrow.Author.Tests.{not-true, not-false}
 use borrow.Author.Rules.{rules}
 use Rattle.protocol.specs.Text.{byte_string, hex_bytes}
 use Rattle.protocol.proofs.TextLaws.{bytes-length, string-none, string-dash, string-one, string-pairs, pairs-odd, pairs-bad, pairs-good}

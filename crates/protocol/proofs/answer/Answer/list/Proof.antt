@@ -21,7 +21,7 @@ loop-again c =
     let list = c.args.list.now in
     let n = c.number-answer in (
       omega arith,
-      omega (arith, n.auto.1.1.0),
+      omega (arith, n.auto.numbers),
       l.invariant.2 ∙ numbers-next _ list l.i (omega arith) ∙ ap (λ (t : Numbered). with_numbers t (drop (l.i + 1) list)) (sym n.ensures),
     )
 

@@ -5,7 +5,8 @@ use Prim.Native.Nat.{ℕ, ◌+◌, ◌≤◌}
 use native.Mathlib.Omega.{arith}
 use lib.ListN.{length}
 use Rattle.protocol.specs.Answers.{parted, stored_part}
-use Rattle.protocol.proofs.AnswerLaws.{part_room, part-ends-full, part-bytes-full, copied-into}
+use Rattle.protocol.proofs.AnswerLaws.{part_room, part-ends-full, part-bytes-full}
+use Rattle.obu.proofs.WriteLaws.{copied-there}
 use Rattle.protocol.proofs.answer.Answer.part.Statement.{statement}
 use Rattle.protocol.proofs.answer.Answer.part.Tie as tie
 
@@ -32,7 +33,7 @@ returns-4 c =
     let es = a.ends.now in
     let xs = a.src.now in
     let k : x.bytes + length xs ≤ length m = omega arith in
-    ap (λ (d : List ℕ). parted (stored_part x m es xs).answer d (stored_part x m es xs).ends) (copied-into m xs x.bytes k c.copy.ensures.1)
+    ap (λ (d : List ℕ). parted (stored_part x m es xs).answer d (stored_part x m es xs).ends) (copied-there m xs x.bytes c.copy_from_slice.ensures.1)
     ∙ sym (part_room (parted x m es) xs (omega arith) k)
 
 pub part_spec : {M : Type 1} → statement M
