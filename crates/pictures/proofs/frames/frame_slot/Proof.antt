@@ -5,36 +5,36 @@ use Rattle.pictures.proofs.FrameLaws.{key-refused, key-hidden, golden-refused, g
 use Rattle.pictures.proofs.frames.frame_slot.Statement.{statement}
 use Rattle.pictures.proofs.frames.frame_slot.Tie as tie
 
-returns : tie.Need-returns
+returns : tie.Need-returns-then-not-is_shown_key
 returns c =
     let k = c.before in
-    let y = k.before.before in
-    key-hidden _ _ _ _ (sym y.before.before.unit-frame.ensures ∙ ap frame_says y.shown.given.1) k.is-shown-key.result k.is-shown-key.ensures c.if1.true
+    let y = k.before in
+    key-hidden _ _ _ _ (sym y.unit_frame.ensures ∙ ap frame_says y.in-Header.is) k.is_shown_key.result k.is_shown_key.ensures c.if-not-is_shown_key.true-raw
 
-returns-2 : tie.Need-returns-2
-returns-2 c = let k = c.before in key-refused _ _ _ _ (sym k.before.before.unit-frame.ensures ∙ ap frame_says k.k.given.1)
+returns-2 : tie.Need-returns-in-Refused
+returns-2 c = let k = c in key-refused _ _ _ _ (sym k.unit_frame.ensures ∙ ap frame_says k.in-Refused.is)
 
-returns-3 : tie.Need-returns-3
+returns-3 : tie.Need-returns-in-Refused-unit_frame
 returns-3 c =
-    let z = c.before in
-    let g = z.before.before in
+    let z = c in
+    let g = z.before in
     let k = g.before.before in
-    let y = k.before.before in
-    golden-refused _ _ _ _ (sym y.before.before.unit-frame.ensures ∙ ap frame_says y.shown.given.1) k.is-shown-key.result k.is-shown-key.ensures g.before.if1.false _
-    (sym g.unit-frame2.ensures ∙ ap frame_says z.k2.given.1)
+    let y = k.before in
+    golden-refused _ _ _ _ (sym y.unit_frame.ensures ∙ ap frame_says y.in-Header.is) k.is_shown_key.result k.is_shown_key.ensures g.if-not-is_shown_key.false-raw _
+    (sym g.unit_frame-in-Header.ensures ∙ ap frame_says z.in-Refused-unit_frame.is)
 
-returns-4 : tie.Need-returns-4
+returns-4 : tie.Need-returns-in-Header-unit_frame
 returns-4 c =
-    let z = c.before.before in
-    let g = z.before.before in
+    let z = c.before in
+    let g = z.before in
     let k = g.before.before in
-    let y = k.before.before in
-    c.refreshed-slot.ensures
-    ∙ golden-judged _ _ _ _ (sym y.before.before.unit-frame.ensures ∙ ap frame_says y.shown.given.1) k.is-shown-key.result k.is-shown-key.ensures g.before.if1.false _
-    (sym g.unit-frame2.ensures ∙ ap frame_says z.info.given.1)
+    let y = k.before in
+    c.refreshed_slot.ensures
+    ∙ golden-judged _ _ _ _ (sym y.unit_frame.ensures ∙ ap frame_says y.in-Header.is) k.is_shown_key.result k.is_shown_key.ensures g.if-not-is_shown_key.false-raw _
+    (sym g.unit_frame-in-Header.ensures ∙ ap frame_says z.in-Header-unit_frame.is)
 
-pub frame-slot-spec : {M : Type 1} → statement M
-frame-slot-spec =
+pub frame_slot_spec : {M : Type 1} → statement M
+frame_slot_spec =
     tie.close
     (tie.spec
     (λ c κs. search rules)

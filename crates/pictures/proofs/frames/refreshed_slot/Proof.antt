@@ -4,31 +4,31 @@ use Rattle.pictures.proofs.FrameLaws.{golden-hidden, golden-key, golden-idle, go
 use Rattle.pictures.proofs.frames.refreshed_slot.Statement.{statement}
 use Rattle.pictures.proofs.frames.refreshed_slot.Tie as tie
 
-returns : tie.Need-returns
-returns c = golden-hidden c.before.before.before.info.given.1 c.if1.true
+returns : tie.Need-returns-then-not-f
+returns c = golden-hidden c.in-Frame.is c.if-not-f.true
 
-returns-2 : tie.Need-returns-2
-returns-2 c = let e = c.before.before in golden-key e.before.before.before.info.given.1 e.if1.false c.if2.true
+returns-2 : tie.Need-returns-then-f-eq-KEY_FRAME
+returns-2 c = let e = c.before.before in golden-key e.in-Frame.is e.if-not-f.false c.if-f-eq-KEY_FRAME.true
 
-returns-3 : tie.Need-returns-3
+returns-3 : tie.Need-returns-then-f-eq0
 returns-3 c =
     let k = c.before.before in
     let e = k.before.before in
-    golden-idle e.before.before.before.info.given.1 e.if1.false k.if2.false c.if3.true
+    golden-idle e.in-Frame.is e.if-not-f.false k.if-f-eq-KEY_FRAME.false c.if-f-eq0.true
 
-returns-4 : tie.Need-returns-4
+returns-4 : tie.Need-returns-in-Existing
 unfolding and_next
-returns-4 c = rw c.enum_told.given.1
+returns-4 c = rw c.in-Existing.is
 
-returns-5 : tie.Need-returns-5
+returns-5 : tie.Need-returns-else-f-eq0
 returns-5 c =
     let i = c.before in
     let k = i.before.before in
     let e = k.before.before in
-    golden-slot e.before.before.before.info.given.1 e.if1.false k.if2.false i.if3.false _ c.lowest-refreshed-slot.ensures
+    golden-slot e.in-Frame.is e.if-not-f.false k.if-f-eq-KEY_FRAME.false i.if-f-eq0.false _ c.lowest_refreshed_slot.ensures
 
-pub refreshed-slot-spec : {M : Type 1} → statement M
-refreshed-slot-spec =
+pub refreshed_slot_spec : {M : Type 1} → statement M
+refreshed_slot_spec =
     tie.close
     (tie.spec
     (λ c. search rules)

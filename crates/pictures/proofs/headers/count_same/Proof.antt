@@ -5,30 +5,30 @@ use Rattle.pictures.proofs.SameLaws.{last-refused, last-missing, last-other, las
 use Rattle.pictures.proofs.headers.count_same.Statement.{statement}
 use Rattle.pictures.proofs.headers.count_same.Tie as tie
 
-returns : tie.Need-returns
+returns : tie.Need-returns-then-n-eq0
 returns c =
-    let n = c.before.before in
-    last-missing _ _ _ (sym (ap counted_says n.n.given.1) ∙ n.before.before.count-obus.ensures) c.if1.true
+    let n = c.before in
+    last-missing _ _ _ (sym (ap counted_says n.in-Count.is) ∙ n.count_obus.ensures) c.if-n-eq0.true
 
-returns-2 : tie.Need-returns-2
+returns-2 : tie.Need-returns-then-not-same_bytes
 returns-2 c =
     let b = c.before in
     let e = b.before.before in
-    let n = e.before.before in
-    last-other _ _ _ (sym (ap counted_says n.n.given.1) ∙ n.before.before.count-obus.ensures) e.if1.false b.same_bytes.result _ b.same_bytes.ensures b.before.last-payload.ensures c.if2.true
+    let n = e.before in
+    last-other _ _ _ (sym (ap counted_says n.in-Count.is) ∙ n.count_obus.ensures) e.if-n-eq0.false b.same_bytes.result _ b.same_bytes.ensures b.last_payload.ensures c.if-not-same_bytes.true-raw
 
-returns-3 : tie.Need-returns-3
-returns-3 c = let k = c.before in last-refused _ _ _ (sym (ap counted_says k.k.given.1) ∙ k.before.before.count-obus.ensures)
+returns-3 : tie.Need-returns-in-Refused
+returns-3 c = let k = c in last-refused _ _ _ (sym (ap counted_says k.in-Refused.is) ∙ k.count_obus.ensures)
 
-returns-4 : tie.Need-returns-4
+returns-4 : tie.Need-returns-else-not-same_bytes
 returns-4 c =
     let b = c.before in
     let e = b.before.before in
-    let n = e.before.before in
-    last-same _ _ _ (sym (ap counted_says n.n.given.1) ∙ n.before.before.count-obus.ensures) e.if1.false b.same_bytes.result _ b.same_bytes.ensures b.before.last-payload.ensures c.if2.false
+    let n = e.before in
+    last-same _ _ _ (sym (ap counted_says n.in-Count.is) ∙ n.count_obus.ensures) e.if-n-eq0.false b.same_bytes.result _ b.same_bytes.ensures b.last_payload.ensures c.if-not-same_bytes.false-raw
 
-pub count-same-spec : {M : Type 1} → statement M
-count-same-spec =
+pub count_same_spec : {M : Type 1} → statement M
+count_same_spec =
     tie.close
     (tie.spec
     (λ c κs. search rules)

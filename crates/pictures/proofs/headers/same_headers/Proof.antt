@@ -9,31 +9,31 @@ use Rattle.blocks.specs.Numbers.{segment_count}
 use Rattle.pictures.proofs.headers.same_headers.Statement.{statement}
 use Rattle.pictures.proofs.headers.same_headers.Tie as tie
 
-abbrev invariant-loop : tie.invariant-loop
+abbrev invariant-loop : tie.invariant-loop-i
 invariant-loop picture segments first count i₀ i = Agree first picture segments i
 
-abbrev decreases-loop : tie.decreases-loop
+abbrev decreases-loop : tie.decreases-loop-i
 decreases-loop picture segments first count i₀ i = segment_count segments - i
 
-loop-holds : tie.Need-loop-init invariant-loop decreases-loop
+loop-holds : tie.Need-loop-i-init invariant-loop decreases-loop
 loop-holds c = agree-start _ _ _
 
-returns : tie.Need-returns invariant-loop decreases-loop
+returns : tie.Need-returns-in-Refused invariant-loop decreases-loop
 returns c =
-    let k = c.before in
-    let r = k.before.before in
-    agree-refused r.before.before.before.loop.invariant (omega arith) _ r.before.key_of.ensures _ (compared_is _ _ ∙ ap verdict (sym r.count_same.ensures) ∙ ap (λ y. verdict (counted_says y)) k.k.given.1)
+    let k = c in
+    let r = k.before in
+    agree-refused r.loop-i.invariant (omega arith) _ r.key_of-key.ensures _ (compared_is _ _ ∙ ap verdict (sym r.count_same.ensures) ∙ ap (λ y. verdict (counted_says y)) k.in-Refused.is)
 
-loop-again : tie.Need-loop-preserved invariant-loop decreases-loop
+loop-again : tie.Need-loop-i-preserved invariant-loop decreases-loop
 loop-again c =
-    let r = c.before.before in
-    agree-turn r.before.before.before.loop.invariant (omega arith) _ r.before.key_of.ensures (compared_is _ _ ∙ ap verdict (sym r.count_same.ensures) ∙ ap (λ y. verdict (counted_says y)) c.enum_told.given.1)
+    let r = c.before in
+    agree-turn r.loop-i.invariant (omega arith) _ r.key_of-key.ensures (compared_is _ _ ∙ ap verdict (sym r.count_same.ensures) ∙ ap (λ y. verdict (counted_says y)) c.in-Count.is)
 
-returns-2 : tie.Need-returns-2 invariant-loop decreases-loop
-returns-2 c = agree-end c.before.loop.invariant (omega arith)
+returns-2 : tie.Need-returns invariant-loop decreases-loop
+returns-2 c = agree-end c.loop-i.invariant (omega arith)
 
-pub same-headers-spec : {M : Type 1} → statement M
-same-headers-spec =
+pub same_headers_spec : {M : Type 1} → statement M
+same_headers_spec =
     tie.close
     (tie.spec
     invariant-loop

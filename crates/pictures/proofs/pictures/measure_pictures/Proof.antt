@@ -7,26 +7,26 @@ use Rattle.pictures.proofs.MeasureLaws.{Measuring, measure-start, measure-stop, 
 use Rattle.pictures.proofs.pictures.measure_pictures.Statement.{statement}
 use Rattle.pictures.proofs.pictures.measure_pictures.Tie as tie
 
-abbrev invariant-loop : tie.invariant-loop
+abbrev invariant-loop : tie.invariant-loop-i
 invariant-loop picture segments header points new rewriting count i₀ sum₀ i sum = Measuring (sequence_of header points) rewriting new picture segments i sum
 
-abbrev decreases-loop : tie.decreases-loop
+abbrev decreases-loop : tie.decreases-loop-i
 decreases-loop picture segments header points new rewriting count i₀ sum₀ i sum = segment_count segments - i
 
-loop-holds : tie.Need-loop-init invariant-loop decreases-loop
+loop-holds : tie.Need-loop-i-init invariant-loop decreases-loop
 loop-holds c = measure-start _ _ _ _ _
 
-returns : tie.Need-returns invariant-loop decreases-loop
-returns c = measure-stop c.before.before.before.before.before.before.loop.invariant (omega arith) _ _ _ c.before.before.before.before.key_of.ensures c.before.before.before.golden-of.ensures c.before.before.measure-units.ensures _ _ c.enum_told.given.1
+returns : tie.Need-returns-in_default invariant-loop decreases-loop
+returns c = measure-stop c.loop-i.invariant (omega arith) _ _ _ c.key_of-key.ensures c.golden_of-golden.ensures c.measure_units-units.ensures _ _ c.in_default.is
 
-loop-again : tie.Need-loop-preserved invariant-loop decreases-loop
-loop-again c = measure-turn c.before.before.before.before.before.before.before.before.loop.invariant (omega arith) _ _ _ c.before.before.before.before.before.before.key_of.ensures c.before.before.before.before.before.golden-of.ensures c.before.before.before.before.measure-units.ensures _ _ c.before.before.units.given.1 c.plus.ensures
+loop-again : tie.Need-loop-i-preserved invariant-loop decreases-loop
+loop-again c = measure-turn c.loop-i.invariant (omega arith) _ _ _ c.key_of-key.ensures c.golden_of-golden.ensures c.measure_units-units.ensures _ _ c.in-Bytes.is c.plus-sum.ensures
 
-returns-2 : tie.Need-returns-2 invariant-loop decreases-loop
-returns-2 c = measure-end c.before.loop.invariant (omega arith)
+returns-2 : tie.Need-returns invariant-loop decreases-loop
+returns-2 c = measure-end c.loop-i.invariant (omega arith)
 
-pub measure-pictures-spec : {M : Type 1} → statement M
-measure-pictures-spec =
+pub measure_pictures_spec : {M : Type 1} → statement M
+measure_pictures_spec =
     tie.close
     (tie.spec
     invariant-loop

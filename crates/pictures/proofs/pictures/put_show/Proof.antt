@@ -5,23 +5,23 @@ use Rattle.pictures.proofs.ShowLaws.{five-stores}
 use Rattle.pictures.proofs.pictures.put_show.Statement.{statement}
 use Rattle.pictures.proofs.pictures.put_show.Tie as tie
 
-slice-write-shows-2 : tie.Need-slice-write-shows-2
+slice-write-shows-2 : tie.Need-bounds-shows-at-2
 slice-write-shows-2 c = simp length-set (omega (arith, c.requires.0))
 
-slice-write-shows-3 : tie.Need-slice-write-shows-3
+slice-write-shows-3 : tie.Need-bounds-shows-at-3
 slice-write-shows-3 c = simp length-set (omega (arith, c.requires.0))
 
-slice-write-shows-4 : tie.Need-slice-write-shows-4
+slice-write-shows-4 : tie.Need-bounds-shows-at-4
 slice-write-shows-4 c = simp length-set (omega (arith, c.requires.0))
 
-slice-write-shows-5 : tie.Need-slice-write-shows-5
+slice-write-shows-5 : tie.Need-bounds-shows-at-5
 slice-write-shows-5 c = simp length-set (omega (arith, c.requires.0))
 
 returns : tie.Need-returns
 returns c = five-stores c.args.shows.now c.args.at c.args.slot c.requires.0
 
-pub put-show-spec : {M : Type 1} → statement M
-put-show-spec =
+pub put_show_spec : {M : Type 1} → statement M
+put_show_spec =
     tie.close
     (tie.spec
     (λ c. search rules)

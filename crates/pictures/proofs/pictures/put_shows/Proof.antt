@@ -8,36 +8,36 @@ use Rattle.blocks.specs.Numbers.{segment_count}
 use Rattle.pictures.proofs.pictures.put_shows.Statement.{statement}
 use Rattle.pictures.proofs.pictures.put_shows.Tie as tie
 
-abbrev invariant-loop : tie.invariant-loop
+abbrev invariant-loop : tie.invariant-loop-i
 invariant-loop shows₀ picture segments header points rewriting count i₀ shows i = Showing (sequence_of header points) rewriting picture segments shows₀ shows i
 
-abbrev decreases-loop : tie.decreases-loop
+abbrev decreases-loop : tie.decreases-loop-i
 decreases-loop shows₀ picture segments header points rewriting count i₀ shows i = segment_count segments - i
 
-loop-holds : tie.Need-loop-init invariant-loop decreases-loop
+loop-holds : tie.Need-loop-i-init invariant-loop decreases-loop
 loop-holds c = show-start _ _ _ _ _
 
-put-show-requires : tie.Need-put-show-requires invariant-loop decreases-loop
+put-show-requires : tie.Need-put_show-requires invariant-loop decreases-loop
 put-show-requires c κs =
     let l = c.before.before.before.before.before in
-    let g = l.before.before.before.before.before.requires in
-    (show-room l.loop.invariant (omega arith) g, subst (λ (n : ℕ). n < 8) (sym c.before.slot-or-zero.ensures) (slot_small _ _ _ _))
+    let g = l.requires in
+    (show-room l.loop-i.invariant (omega arith) g, subst (λ (n : ℕ). n < 8) (sym c.slot_or_zero-slot.ensures) (slot_small _ _ _ _))
 
-loop-again : tie.Need-loop-preserved invariant-loop decreases-loop
+loop-again : tie.Need-loop-i-preserved invariant-loop decreases-loop
 loop-again c =
     let b = c.before.before in
     let l = b.before.before.before.before.before.before in
-    let g = l.before.before.before.before.before.requires in
-    show-turn l.loop.invariant (omega arith) g _ _ _ _ b.before.before.before.before.key_of.ensures b.before.before.before.golden-of.ensures b.before.before.slot-or-zero.ensures b.put-show.ensures
+    let g = l.requires in
+    show-turn l.loop-i.invariant (omega arith) g _ _ _ _ b.key_of.ensures b.golden_of.ensures b.slot_or_zero-slot.ensures b.put_show.ensures
 
-same_length : tie.Need-same-length invariant-loop decreases-loop
-same_length c = c.before.loop.invariant.len
+same_length : tie.Need-shape_of-shows invariant-loop decreases-loop
+same_length c = c.loop-i.invariant.len
 
 returns : tie.Need-returns invariant-loop decreases-loop
-returns c = show-end c.before.loop.invariant (omega arith)
+returns c = show-end c.loop-i.invariant (omega arith)
 
-pub put-shows-spec : {M : Type 1} → statement M
-put-shows-spec =
+pub put_shows_spec : {M : Type 1} → statement M
+put_shows_spec =
     tie.close
     (tie.spec
     invariant-loop

@@ -16,27 +16,27 @@ use Rattle.pictures.proofs.rewrite.renewed_len.Tie as tie
 abbrev there : tie.Start → Obu
 there a = obu_in a.args.unit.now a.args.o
 
-returns : tie.Need-returns
+returns : tie.Need-returns-then-is_type
 returns c =
     let k = c.before.before in
     let a = k.before.before.before in
     let new = a.args.new.now in
-    let t : is_sequence (there a) ≡ true = sym k.is-type.ensures ∙ c.before.if1.true in
+    let t : is_sequence (there a) ≡ true = sym k.is_type.ensures ∙ c.if-is_type.true in
     let n = ap (λ x. length (obu_bytes x)) (renewed-some new (there a) t) in
-    omega (arith, c.obu-len.ensures, n, obu-length (obu (there a).type (there a).ext new))
+    omega (arith, c.obu_len.ensures, n, obu-length (obu (there a).type (there a).ext new))
 
-returns-2 : tie.Need-returns-2
+returns-2 : tie.Need-returns
 returns-2 c =
     let p = c.before in
     let k = p.before.before in
     let a = k.before.before.before in
-    let t : is_sequence (there a) ≡ false = sym k.is-type.ensures ∙ p.before.if1.false in
+    let t : is_sequence (there a) ≡ false = sym k.is_type.ensures ∙ p.if-is_type.false in
     let n = ap (λ x. length (obu_bytes x)) (renewed-none a.args.new.now (there a) t) in
-    let e = rw p.payload.ensures at c.obu-len2.ensures in
+    let e = rw p.payload.ensures at c.obu_len-2.ensures in
     omega (arith, e, n, obu-length (there a))
 
-pub renewed-len-spec : {M : Type 1} → statement M
-renewed-len-spec =
+pub renewed_len_spec : {M : Type 1} → statement M
+renewed_len_spec =
     tie.close
     (tie.spec
     (λ c κs. search rules)

@@ -13,39 +13,39 @@ use Rattle.pictures.proofs.rewrite.sent_len.Statement.{statement}
 use Rattle.pictures.proofs.rewrite.sent_len.Tie as tie
 
 -- as many sequence headers as were counted
-counted : (c : tie.After-n) → answer (count is_sequence) (obus c.before.before.before.before.before.before.args.unit.now) ≡ accepted c.n.given.0.0
-counted c = sym c.before.before.count-obus.ensures ∙ ap counted_says c.n.given.1
+counted : (c : tie.In-Count) → answer (count is_sequence) (obus c.args.unit.now) ≡ accepted c.in-Count.n
+counted c = sym c.count_obus.ensures ∙ ap counted_says c.in-Count.is
 
-returns : tie.Need-returns
+returns : tie.Need-returns-then-not-rewriting
 returns c =
-    let a = c.before.before.before.args in
-    let e = sent-plain a.new.now a.unit.now a.rewriting c.if1.true in
+    let a = c.args in
+    let e = sent-plain a.new.now a.unit.now a.rewriting c.if-not-rewriting.true-raw in
     omega (arith, ap length e)
 
-returns-2 : tie.Need-returns-2
+returns-2 : tie.Need-returns-in_default
 returns-2 c =
-    let k = c.before.before in
-    let a = k.before.before.before.before.args in
-    let e = sent-refused a.new.now a.unit.now a.rewriting k.before.if1.false _ (sym k.count-obus.ensures ∙ ap counted_says c.enum_told.given.1) in
+    let k = c.before in
+    let a = k.args in
+    let e = sent-refused a.new.now a.unit.now a.rewriting k.if-not-rewriting.false-raw _ (sym k.count_obus.ensures ∙ ap counted_says c.in_default.is) in
     ap (λ (l : List ℕ). capped (length l)) (sym e)
 
-returns-3 : tie.Need-returns-3
+returns-3 : tie.Need-returns-then-n-eq0
 returns-3 c =
-    let n = c.before.before in
-    let a = n.before.before.before.before.before.before.args in
-    let e = sent-copied a.new.now a.unit.now a.rewriting n.before.before.before.if1.false _ c.if2.true (counted n) in
+    let n = c.before in
+    let a = n.args in
+    let e = sent-copied a.new.now a.unit.now a.rewriting n.if-not-rewriting.false-raw _ c.if-n-eq0.true (counted n) in
     omega (arith, ap length e)
 
-returns-4 : tie.Need-returns-4
+returns-4 : tie.Need-returns
 returns-4 c =
     let k = c.before in
-    let n = k.before.before in
-    let a = n.before.before.before.before.before.before.args in
-    let e = (sent-rewritten a.new.now a.unit.now a.rewriting n.before.before.before.if1.false _ k.if2.false (counted n)).0 in
-    c.rewritten-len.ensures ∙ ap (λ (l : List ℕ). capped (length l)) (sym e)
+    let n = k.before in
+    let a = n.args in
+    let e = (sent-rewritten a.new.now a.unit.now a.rewriting n.if-not-rewriting.false-raw _ k.if-n-eq0.false (counted n)).0 in
+    c.rewritten_len.ensures ∙ ap (λ (l : List ℕ). capped (length l)) (sym e)
 
-pub sent-len-spec : {M : Type 1} → statement M
-sent-len-spec =
+pub sent_len_spec : {M : Type 1} → statement M
+sent_len_spec =
     tie.close
     (tie.spec
     returns

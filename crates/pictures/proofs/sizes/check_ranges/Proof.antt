@@ -8,29 +8,29 @@ use Rattle.blocks.specs.Numbers.{segment_count}
 use Rattle.pictures.proofs.sizes.check_ranges.Statement.{statement}
 use Rattle.pictures.proofs.sizes.check_ranges.Tie as tie
 
-abbrev invariant-loop : tie.invariant-loop
+abbrev invariant-loop : tie.invariant-loop-i
 invariant-loop picture segments count i₀ i = Ranging picture segments i
 
-abbrev decreases-loop : tie.decreases-loop
+abbrev decreases-loop : tie.decreases-loop-i
 decreases-loop picture segments count i₀ i = segment_count segments - i
 
-returns : tie.Need-returns invariant-loop decreases-loop
-returns c = let a = c.before.before.before.before.args in not-whole a.picture.now a.segments.now (sym c.before.is_whole.ensures ∙ not-true _ c.if1.true)
+returns : tie.Need-returns-then-not-is_whole invariant-loop decreases-loop
+returns c = let a = c.args in not-whole a.picture.now a.segments.now (sym c.is_whole.ensures ∙ not-true _ c.if-not-is_whole.true-raw)
 
-loop-holds : tie.Need-loop-init invariant-loop decreases-loop
-loop-holds c = let a = c.before.before.before.before.before.args in range-start a.picture.now a.segments.now (sym c.before.before.is_whole.ensures ∙ not-false _ c.before.if1.false)
+loop-holds : tie.Need-loop-i-init invariant-loop decreases-loop
+loop-holds c = let a = c.args in range-start a.picture.now a.segments.now (sym c.is_whole.ensures ∙ not-false _ c.if-not-is_whole.false-raw)
 
-returns-2 : tie.Need-returns-2 invariant-loop decreases-loop
-returns-2 c = range-unfit c.before.before.before.loop.invariant (omega arith) (sym c.before.is_within.ensures ∙ not-true _ c.if2.true)
+returns-2 : tie.Need-returns-then-not-is_within invariant-loop decreases-loop
+returns-2 c = range-unfit c.loop-i.invariant (omega arith) (sym c.is_within.ensures ∙ not-true _ c.if-not-is_within.true-raw)
 
-loop-again : tie.Need-loop-preserved invariant-loop decreases-loop
-loop-again c = range-turn c.before.before.before.loop.invariant (omega arith) (sym c.before.is_within.ensures ∙ not-false _ c.if2.false)
+loop-again : tie.Need-loop-i-preserved invariant-loop decreases-loop
+loop-again c = range-turn c.loop-i.invariant (omega arith) (sym c.is_within.ensures ∙ not-false _ c.if-not-is_within.false-raw)
 
-returns-3 : tie.Need-returns-3 invariant-loop decreases-loop
-returns-3 c = range-end c.before.loop.invariant (omega arith)
+returns-3 : tie.Need-returns invariant-loop decreases-loop
+returns-3 c = range-end c.loop-i.invariant (omega arith)
 
-pub check-ranges-spec : {M : Type 1} → statement M
-check-ranges-spec =
+pub check_ranges_spec : {M : Type 1} → statement M
+check_ranges_spec =
     tie.close
     (tie.spec
     invariant-loop

@@ -7,26 +7,26 @@ use Rattle.blocks.specs.Numbers.{segment_count}
 use Rattle.pictures.proofs.sizes.first_empty.Statement.{statement}
 use Rattle.pictures.proofs.sizes.first_empty.Tie as tie
 
-abbrev invariant-loop : tie.invariant-loop
+abbrev invariant-loop : tie.invariant-loop-i
 invariant-loop segments count i₀ i = Seeking segments i
 
-abbrev decreases-loop : tie.decreases-loop
+abbrev decreases-loop : tie.decreases-loop-i
 decreases-loop segments count i₀ i = segment_count segments - i
 
-loop-holds : tie.Need-loop-init invariant-loop decreases-loop
+loop-holds : tie.Need-loop-i-init invariant-loop decreases-loop
 loop-holds c = seek-start _
 
-returns : tie.Need-returns invariant-loop decreases-loop
-returns c = seek_found c.before.before.before.loop.invariant (omega arith) (sym c.before.frames-of.ensures ∙ c.if1.true)
+returns : tie.Need-returns-then-frames_of-eq0 invariant-loop decreases-loop
+returns c = seek_found c.loop-i.invariant (omega arith) (sym c.frames_of.ensures ∙ c.if-frames_of-eq0.true)
 
-loop-again : tie.Need-loop-preserved invariant-loop decreases-loop
-loop-again c = seek-turn c.before.before.before.loop.invariant (omega arith) (λ e. c.if1.false (c.before.frames-of.ensures ∙ e))
+loop-again : tie.Need-loop-i-preserved invariant-loop decreases-loop
+loop-again c = seek-turn c.loop-i.invariant (omega arith) (λ e. c.if-frames_of-eq0.false (c.frames_of.ensures ∙ e))
 
-returns-2 : tie.Need-returns-2 invariant-loop decreases-loop
-returns-2 c = seek-none c.before.loop.invariant (omega arith)
+returns-2 : tie.Need-returns invariant-loop decreases-loop
+returns-2 c = seek-none c.loop-i.invariant (omega arith)
 
-pub first-empty-spec : {M : Type 1} → statement M
-first-empty-spec =
+pub first_empty_spec : {M : Type 1} → statement M
+first_empty_spec =
     tie.close
     (tie.spec
     invariant-loop

@@ -9,5 +9,5 @@ returns : tie.Need-returns
 unfolding slot_of
 returns c = search looked-up
 
-pub lowest-refreshed-slot-spec : {M : Type 1} → statement M
-lowest-refreshed-slot-spec = tie.close (tie.spec (λ c. search rules) (λ c. search rules) (λ c. search rules) returns)
+pub lowest_refreshed_slot_spec : {M : Type 1} → statement M
+lowest_refreshed_slot_spec = tie.close (tie.spec (λ c. search rules) (λ c. search rules) (λ c. search rules) returns)

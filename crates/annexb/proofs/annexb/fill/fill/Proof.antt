@@ -55,7 +55,7 @@ found_at c = c.before.before.before.before
 -- what fill_unit left
 unit-filled : (c : tie.After-slice_known-in-loop-at-1 invariant-loop decreases-loop)
     → (let l = at-loop (found_at c) in
-    Wrote l.loop-at.out l.loop-at.w (unit_bytes (unit-obus (found_at c)).0) c.fill_unit-w.result c.fill_unit-w.new.1.1.1.0)
+    Wrote l.loop-at.out l.loop-at.w (unit_bytes (unit-obus (found_at c)).0) c.fill_unit-w.result c.fill_unit-w.new.out)
 unit-filled c = held-is (unit-obus (found_at c)).1 c.fill_unit-w.ensures
 
 small : (c : tie.After-slice_known-in-loop-at-1 invariant-loop decreases-loop) → c.fill_unit-w.result ≤ limit

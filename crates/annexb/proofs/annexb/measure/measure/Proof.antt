@@ -88,15 +88,15 @@ next c =
 left : (c : tie.Left-all invariant-loop2 decreases-loop2 invariant-loop decreases-loop invariant-all decreases-all) → Left (bytes_of c.before) c.all.at c.all-test.bytes c.all.units c.all-test.fault
 left c =
     ⊎_elim
-    (λ w. ended w.0.left (rw w.1 c.all.invariant))
+    (λ w. ended w.all-test.false (rw w.bytes-is c.all.invariant))
     (⊎_elim
     (λ w.
-    faulted w.0.taken (units-stop c.all.invariant w.0.taken (not-part 6 7 _ _ _ w.1.result w.2.keys2 w.1.ensures) ∙ ap refused (sym (w.6 ∙ w.4.ensures))))
+    faulted w.all-test.true (units-stop c.all.invariant w.all-test.true (not-part 6 7 _ _ _ w.part_at-unit.result w.in_default.in_default-own.keys2 w.part_at-unit.ensures) ∙ ap refused (sym (w.fault-is ∙ w.part_refusal-fault.ensures))))
     (⊎_elim
     (λ w.
-    faulted w.0.taken (frames-stop w.5.inv w.6.taken (not-part 8 9 _ _ _ w.7.result w.8.keys2 w.7.ensures) ∙ ap refused (sym (w.12 ∙ w.10.ensures))))
+    faulted w.all-test.true (frames-stop w.loop-p.invariant w.loop-p-test.true (not-part 8 9 _ _ _ w.part_at-frame.result w.in_default-frame.in_default-frame-own.keys2 w.part_at-frame.ensures) ∙ ap refused (sym (w.fault-is ∙ w.part_refusal-fault-in_default-frame.ensures))))
     (λ w.
-    faulted w.0.taken (obus-stop w.11.inv w.12.taken (not-obu _ _ _ w.13.result w.14.keys2 w.13.ensures) ∙ ap refused (sym (w.18 ∙ w.16.ensures))))))
+    faulted w.all-test.true (obus-stop w.loop-q.invariant w.loop-q-test.true (not-obu _ _ _ w.length_obu_at-found.result w.in_default-found.in_default-found-own.keys2 w.length_obu_at-found.ensures) ∙ ap refused (sym (w.fault-is ∙ w.inner_refusal-fault.ensures))))))
     c.all-test.branch-raw
 
 all-holds : tie.Need-all-init invariant-loop2 decreases-loop2 invariant-loop decreases-loop invariant-all decreases-all
