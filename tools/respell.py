@@ -26,7 +26,7 @@ LEMMAS = {
     "crates/playback/proofs/GatherLaws.antt": {"has_room": "has_room_lem"},
     "crates/playback/proofs/WayLaws.antt": {"has_room": "has_room_lem"},
 }
-WORD = re.compile(r'"(?:[^"\\\n]|\\.)*"|[A-Za-z_][A-Za-z0-9_]*')
+WORD = re.compile(r'"(?:[^"\\\n]|\\.)*"|(?<![A-Za-z0-9_])[A-Za-z_][A-Za-z0-9_]*')
 CAMEL = re.compile(r"[a-z][a-z0-9_]*[A-Z][A-Za-z0-9_]*\Z")
 
 

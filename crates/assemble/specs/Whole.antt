@@ -1,7 +1,6 @@
 -- The whole of assembly, answered: its counts, and its outcome into lent slices.
 use Rattle.std.specs.Prelude.{ℕ, ◌+◌, ◌*◌, ◌%◌, ◌≡◌, List, length}
 use Rattle.std.proofs.Math.Option.{none, some}
-use Rattle.std.specs.Borrow.{Bor}
 use denote.Triple.Both.{Both}
 use Rattle.bitio.specs.Lent.{pasted}
 use Rattle.pictures.specs.declared.settings.Settings.{Settings}
@@ -46,9 +45,9 @@ pub record Lent : Type 0 where
   pub shows : List ℕ
   pub header : List ℕ
 
-abbrev pub six : (list cues pictures ends shows header : Bor (List ℕ)) → Lent
+abbrev pub six : (list cues pictures ends shows header : List ℕ) → Lent
 six list cues pictures ends shows header =
-    record { list = list.now; cues = cues.now; pictures = pictures.now; ends = ends.now; shows = shows.now; header = header.now }
+    record { list = list; cues = cues; pictures = pictures; ends = ends; shows = shows; header = header }
 
 -- the room that these have
 abbrev pub output_room : Lent → OutputRoom

@@ -155,8 +155,8 @@ pub fn assemble_multi(
     header: &mut [u8],
 ) -> Assembled
     ensures { Handed (outcome picture.now segments.now settings) result (record {
-      entry = six list.entry cues.entry pictures.entry ends.entry shows.entry header.entry;
-      exit = six list.exit cues.exit pictures.exit ends.exit shows.exit header.exit;
+      entry = six list.old cues.old pictures.old ends.old shows.old header.old;
+      exit = six list.new cues.new pictures.new ends.new shows.new header.new;
     }) }
 {
     let plan = plan_multi(picture, segments, settings);

@@ -58,8 +58,8 @@ fn assemble_copied(
     header: &mut [u8],
 ) -> Assembled
     ensures handed { Handed (copied_outcome picture.now count numbers.old settings) result (record {
-      entry = six list.entry cues.entry pictures.entry ends.entry shows.entry header.entry;
-      exit = six list.exit cues.exit pictures.exit ends.exit shows.exit header.exit;
+      entry = six list.old cues.old pictures.old ends.old shows.old header.old;
+      exit = six list.new cues.new pictures.new ends.new shows.new header.new;
     }) }
     ensures numbers { numbers.new ≡ numbers.old }
 {
@@ -97,8 +97,8 @@ pub fn assemble_segments(
     header: &mut [u8],
 ) -> Assembled
     ensures handed { Handed (records_outcome picture.now segments.now numbers.old settings) result (record {
-      entry = six list.entry cues.entry pictures.entry ends.entry shows.entry header.entry;
-      exit = six list.exit cues.exit pictures.exit ends.exit shows.exit header.exit;
+      entry = six list.old cues.old pictures.old ends.old shows.old header.old;
+      exit = six list.new cues.new pictures.new ends.new shows.new header.new;
     }) }
     ensures numbers { numbers.new ≡ numbers_after segments.now numbers.old }
 {

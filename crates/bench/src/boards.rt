@@ -51,8 +51,8 @@ fn assemble_boards(
 ) -> Assembled
     requires { count ≤ 64 }
     ensures handed { Handed (records_outcome picture.now (take count boards) numbers.old settings) result (record {
-      entry = six list.entry cues.entry pictures.entry ends.entry shows.entry header.entry;
-      exit = six list.exit cues.exit pictures.exit ends.exit shows.exit header.exit;
+      entry = six list.old cues.old pictures.old ends.old shows.old header.old;
+      exit = six list.new cues.new pictures.new ends.new shows.new header.new;
     }) }
     ensures numbers { numbers.new ≡ numbers_after (take count boards) numbers.old }
 {
@@ -83,8 +83,8 @@ pub fn assemble_numbers(
     header: &mut [u8],
 ) -> Assembled
     ensures { Handed (boards_outcome picture.now segments.now settings) result (record {
-      entry = six list.entry cues.entry pictures.entry ends.entry shows.entry header.entry;
-      exit = six list.exit cues.exit pictures.exit ends.exit shows.exit header.exit;
+      entry = six list.old cues.old pictures.old ends.old shows.old header.old;
+      exit = six list.new cues.new pictures.new ends.new shows.new header.new;
     }) }
 {
     let count = segment_count(segments);

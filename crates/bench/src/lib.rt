@@ -130,8 +130,8 @@ pub extern "C" fn bench_assemble_segments(
     header: &mut [u8],
 ) -> u64
     ensures { Told (boards_outcome picture.now segments.now (record { gop = gop_size; fps = fps; den = fps_den })) result (record {
-      entry = six list.entry cues.entry pictures.entry ends.entry shows.entry header.entry;
-      exit = six list.exit cues.exit pictures.exit ends.exit shows.exit header.exit;
+      entry = six list.old cues.old pictures.old ends.old shows.old header.old;
+      exit = six list.new cues.new pictures.new ends.new shows.new header.new;
     }) }
 {
     match assemble_numbers(

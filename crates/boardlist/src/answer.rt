@@ -54,8 +54,8 @@ fn put_assembly(
 ) -> Put
     requires { LayoutFits layout file.now numbers.now }
     ensures { Prints (outcome (span file.now layout.start layout.end) (span numbers.now 0 (width * layout.segments)) (settings_of layout)) result (record { entry = out.old; exit = out.new }) (record {
-      entry = six list.entry cues.entry pictures.entry ends.entry shows.entry header.entry;
-      exit = six list.exit cues.exit pictures.exit ends.exit shows.exit header.exit;
+      entry = six list.old cues.old pictures.old ends.old shows.old header.old;
+      exit = six list.new cues.new pictures.new ends.new shows.new header.new;
     }) }
 {
     let start = layout.start;
@@ -96,8 +96,8 @@ pub(crate) fn answer(
     out: &mut [u8],
 ) -> Put
     ensures { Answers file.now result (record { entry = out.old; exit = out.new }) (record { entry = numbers.old; exit = numbers.new }) (record {
-      entry = six list.entry cues.entry pictures.entry ends.entry shows.entry header.entry;
-      exit = six list.exit cues.exit pictures.exit ends.exit shows.exit header.exit;
+      entry = six list.old cues.old pictures.old ends.old shows.old header.old;
+      exit = six list.new cues.new pictures.new ends.new shows.new header.new;
     }) }
 {
     match read_file(file, numbers) {

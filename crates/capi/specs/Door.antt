@@ -1,6 +1,5 @@
 -- An answer as numbers for C.
 use Rattle.std.specs.Prelude.{ℕ, ◌≡◌, List}
-use Rattle.std.specs.Borrow.{Bor}
 use denote.Triple.Both.{Both}
 use Rattle.bitio.specs.Parse.{Answer, refused, accepted}
 use Rattle.container.specs.Limits.{Room, room_in}
@@ -30,7 +29,7 @@ pub record StreamLent : Type 0 where
   pub bytes : ℕ
   pub units : ℕ
 
-abbrev pub four : (out ends : Bor (List ℕ)) (bytes units : Bor ℕ) → StreamLent
+abbrev pub four : (out ends : List ℕ) (bytes units : ℕ) → StreamLent
 four out ends bytes units = record { out = out.now; ends = ends.now; bytes = bytes.now; units = units.now }
 
 -- what it holds afterwards
@@ -58,7 +57,7 @@ abbrev pub counts_after : Outcome Counts → Numbers → Numbers
 counts_after (made c) n = record { units = c.units; cues = c.cues; picture = c.picture; header = c.header; slot = c.golden_slot }
 counts_after (stopped k i) n = n
 
-abbrev pub five : (units cues picture header slot : Bor ℕ) → Numbers
+abbrev pub five : (units cues picture header slot : ℕ) → Numbers
 five units cues picture header slot = record { units = units.now; cues = cues.now; picture = picture.now; header = header.now; slot = slot.now }
 
 -- the code, and the lent slices and numbers at exit

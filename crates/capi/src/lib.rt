@@ -20,8 +20,8 @@ pub extern "C" fn magbelo_split_obu_stream(
     units: &mut usize,
 ) -> u32
     ensures { UnitsRead (λ room. read stream room «data».now) result (record {
-      entry = four out.entry ends.entry bytes.entry units.entry;
-      exit = four out.exit ends.exit bytes.exit units.exit;
+      entry = four out.old ends.old bytes.old units.old;
+      exit = four out.new ends.new bytes.new units.new;
     }) }
 {
     match container::stream::split_obu_stream(data, out, ends) {
@@ -57,11 +57,11 @@ pub extern "C" fn magbelo_assemble(
     golden_slot: &mut u64,
 ) -> u64
     ensures { Called (outcome picture.now segments.now (record { gop = gop_size; fps = fps; den = fps_den })) result (record {
-      entry = six list.entry cues.entry pictures.entry ends.entry shows.entry header.entry;
-      exit = six list.exit cues.exit pictures.exit ends.exit shows.exit header.exit;
+      entry = six list.old cues.old pictures.old ends.old shows.old header.old;
+      exit = six list.new cues.new pictures.new ends.new shows.new header.new;
     }) (record {
-      entry = five units.entry cue_count.entry picture_len.entry header_len.entry golden_slot.entry;
-      exit = five units.exit cue_count.exit picture_len.exit header_len.exit golden_slot.exit;
+      entry = five units.old cue_count.old picture_len.old header_len.old golden_slot.old;
+      exit = five units.new cue_count.new picture_len.new header_len.new golden_slot.new;
     }) }
 {
     match assemble_multi(

@@ -39,7 +39,7 @@ framed_by f = 0x12 ∷ 0x00 ∷ 0x32 ∷ length f ∷ f
 
 -- K, and the timed K, without their frame
 abbrev frameless : List ℕ
-frameless = 0x12 ∷ 0x00 ∷ 0x0_a ∷ 0x09 ∷ payload_k
+frameless = 0x12 ∷ 0x00 ∷ 0x0A ∷ 0x09 ∷ payload_k
 
 abbrev timed_frameless : List ℕ
 timed_frameless = (0x12 ∷ 0x00 ∷ []) ++ timed_header
@@ -50,10 +50,10 @@ with_golden g = assembled_at 3 (ordered unit_k unit_g 4 ∷ ordered unit_k g 1 �
 
 -- K with an extension byte in its sequence header OBU, and the same timed
 abbrev extended_k : List ℕ
-extended_k = 0x12 ∷ 0x00 ∷ 0x0_e ∷ 0x20 ∷ 0x09 ∷ (payload_k ++ (0x32 ∷ 0x01 ∷ 0x10 ∷ []))
+extended_k = 0x12 ∷ 0x00 ∷ 0x0E ∷ 0x20 ∷ 0x09 ∷ (payload_k ++ (0x32 ∷ 0x01 ∷ 0x10 ∷ []))
 
 abbrev extended_timed_k : List ℕ
-extended_timed_k = (0x12 ∷ 0x00 ∷ 0x0_e ∷ 0x20 ∷ 0x11 ∷ timed_payload) ++ (0x32 ∷ 0x01 ∷ 0x10 ∷ [])
+extended_timed_k = (0x12 ∷ 0x00 ∷ 0x0E ∷ 0x20 ∷ 0x11 ∷ timed_payload) ++ (0x32 ∷ 0x01 ∷ 0x10 ∷ [])
 
 abbrev extended_made : List ℕ → Answer (List (List ℕ))
 extended_made header = accepted ((0 ∷ 1 ∷ []) ∷ (1 ∷ []) ∷ (extended_timed_k ++ unit_g) ∷ (25 ∷ 31 ∷ []) ∷ show_unit 3 ∷ header ∷ (3 ∷ []) ∷ [])
@@ -108,7 +108,7 @@ assembly_rows =
     ∷ (with_golden (framed_by (0x38 ∷ 0x00 ∷ [])), refused 2033)
     -- a rewritten unit keeps its extension byte; the header OBU handed out has none when it is new, and its own when not
     ∷ (assembled_at 3 (ordered extended_k unit_g 2 ∷ []), extended_made timed_header)
-    ∷ (assembled_at 3 (ordered extended_timed_k unit_g 2 ∷ []), extended_made (0x0_e ∷ 0x20 ∷ 0x11 ∷ timed_payload))
+    ∷ (assembled_at 3 (ordered extended_timed_k unit_g 2 ∷ []), extended_made (0x0E ∷ 0x20 ∷ 0x11 ∷ timed_payload))
     -- the kinds of 1 to 5 frames at gop_size 2
     ∷ (
       accepted (map (λ n. map code (kinds 2 n)) (1 ∷ 2 ∷ 3 ∷ 4 ∷ 5 ∷ [])),

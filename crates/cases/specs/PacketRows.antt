@@ -22,21 +22,21 @@ clean n u = answer (λ bs. bs ∷ []) (canonical_at (bytes_room n) u)
 abbrev pub packet_rows : List Row
 packet_rows =
     -- `2A 00`, `12 00`, `32 00`: what waits is put end to end, under the later packet's time
-    (merged room (0x2_a ∷ 0x00 ∷ 0x12 ∷ 0x00 ∷ 0x32 ∷ 0x00 ∷ []) (2 ∷ 4 ∷ 6 ∷ []) (7 ∷ 8 ∷ 9 ∷ []), accepted ((9 ∷ 0x2_a ∷ 0x00 ∷ 0x32 ∷ 0x00 ∷ []) ∷ []))
+    (merged room (0x2A ∷ 0x00 ∷ 0x12 ∷ 0x00 ∷ 0x32 ∷ 0x00 ∷ []) (2 ∷ 4 ∷ 6 ∷ []) (7 ∷ 8 ∷ 9 ∷ []), accepted ((9 ∷ 0x2A ∷ 0x00 ∷ 0x32 ∷ 0x00 ∷ []) ∷ []))
     -- `12 00 2A 00`, `12 00 32 00`: the delimiter at the head of what waits is kept
-    ∷ (merged room (0x12 ∷ 0x00 ∷ 0x2_a ∷ 0x00 ∷ 0x12 ∷ 0x00 ∷ 0x32 ∷ 0x00 ∷ []) (4 ∷ 8 ∷ []) (7 ∷ 8 ∷ []), accepted ((8 ∷ 0x12 ∷ 0x00 ∷ 0x2_a ∷ 0x00 ∷ 0x32 ∷ 0x00 ∷ []) ∷ []))
+    ∷ (merged room (0x12 ∷ 0x00 ∷ 0x2A ∷ 0x00 ∷ 0x12 ∷ 0x00 ∷ 0x32 ∷ 0x00 ∷ []) (4 ∷ 8 ∷ []) (7 ∷ 8 ∷ []), accepted ((8 ∷ 0x12 ∷ 0x00 ∷ 0x2A ∷ 0x00 ∷ 0x32 ∷ 0x00 ∷ []) ∷ []))
     -- `2A 00`, `12 00 32 00`: else that at the head of the packet with the frame moves to the front
-    ∷ (merged room (0x2_a ∷ 0x00 ∷ 0x12 ∷ 0x00 ∷ 0x32 ∷ 0x00 ∷ []) (2 ∷ 6 ∷ []) (7 ∷ 8 ∷ []), accepted ((8 ∷ 0x12 ∷ 0x00 ∷ 0x2_a ∷ 0x00 ∷ 0x32 ∷ 0x00 ∷ []) ∷ []))
+    ∷ (merged room (0x2A ∷ 0x00 ∷ 0x12 ∷ 0x00 ∷ 0x32 ∷ 0x00 ∷ []) (2 ∷ 6 ∷ []) (7 ∷ 8 ∷ []), accepted ((8 ∷ 0x12 ∷ 0x00 ∷ 0x2A ∷ 0x00 ∷ 0x32 ∷ 0x00 ∷ []) ∷ []))
     -- `32 00`, `12 00 2A 00`: a frameless tail takes the last packet's time, and its delimiter moves to the front
-    ∷ (merged room (0x32 ∷ 0x00 ∷ 0x12 ∷ 0x00 ∷ 0x2_a ∷ 0x00 ∷ []) (2 ∷ 6 ∷ []) (7 ∷ 8 ∷ []), accepted ((7 ∷ 0x12 ∷ 0x00 ∷ 0x32 ∷ 0x00 ∷ 0x2_a ∷ 0x00 ∷ []) ∷ []))
+    ∷ (merged room (0x32 ∷ 0x00 ∷ 0x12 ∷ 0x00 ∷ 0x2A ∷ 0x00 ∷ []) (2 ∷ 6 ∷ []) (7 ∷ 8 ∷ []), accepted ((7 ∷ 0x12 ∷ 0x00 ∷ 0x32 ∷ 0x00 ∷ 0x2A ∷ 0x00 ∷ []) ∷ []))
     -- empty packets vanish
     ∷ (merged room (0x32 ∷ 0x00 ∷ 0x32 ∷ 0x00 ∷ []) (0 ∷ 2 ∷ 2 ∷ 4 ∷ 4 ∷ []) (5 ∷ 6 ∷ 7 ∷ 8 ∷ 9 ∷ []), accepted ((6 ∷ 0x32 ∷ 0x00 ∷ []) ∷ (8 ∷ 0x32 ∷ 0x00 ∷ []) ∷ []))
     -- `12 00`, `4A 00`, `12 00`: what cannot be read is not changed, what waits goes before it, a tail behind
-    ∷ (merged room (0x12 ∷ 0x00 ∷ 0x4_a ∷ 0x00 ∷ 0x12 ∷ 0x00 ∷ []) (2 ∷ 4 ∷ 6 ∷ []) (7 ∷ 8 ∷ 9 ∷ []), accepted ((8 ∷ 0x12 ∷ 0x00 ∷ 0x4_a ∷ 0x00 ∷ 0x12 ∷ 0x00 ∷ []) ∷ []))
+    ∷ (merged room (0x12 ∷ 0x00 ∷ 0x4A ∷ 0x00 ∷ 0x12 ∷ 0x00 ∷ []) (2 ∷ 4 ∷ 6 ∷ []) (7 ∷ 8 ∷ 9 ∷ []), accepted ((8 ∷ 0x12 ∷ 0x00 ∷ 0x4A ∷ 0x00 ∷ 0x12 ∷ 0x00 ∷ []) ∷ []))
     -- `28`, `30`: an OBU without a size ends with its packet
-    ∷ (merged room (0x28 ∷ 0x30 ∷ []) (1 ∷ 2 ∷ []) (7 ∷ 8 ∷ []), accepted ((8 ∷ 0x2_a ∷ 0x00 ∷ 0x32 ∷ 0x00 ∷ []) ∷ []))
+    ∷ (merged room (0x28 ∷ 0x30 ∷ []) (1 ∷ 2 ∷ []) (7 ∷ 8 ∷ []), accepted ((8 ∷ 0x2A ∷ 0x00 ∷ 0x32 ∷ 0x00 ∷ []) ∷ []))
     -- an empty packet, `12 00 2A 00`, `12 00`: frameless packets alone have the time of the first with bytes, delimiters untouched
-    ∷ (merged room (0x12 ∷ 0x00 ∷ 0x2_a ∷ 0x00 ∷ 0x12 ∷ 0x00 ∷ []) (0 ∷ 4 ∷ 6 ∷ []) (7 ∷ 8 ∷ 9 ∷ []), accepted ((8 ∷ 0x12 ∷ 0x00 ∷ 0x2_a ∷ 0x00 ∷ 0x12 ∷ 0x00 ∷ []) ∷ []))
+    ∷ (merged room (0x12 ∷ 0x00 ∷ 0x2A ∷ 0x00 ∷ 0x12 ∷ 0x00 ∷ []) (0 ∷ 4 ∷ 6 ∷ []) (7 ∷ 8 ∷ 9 ∷ []), accepted ((8 ∷ 0x12 ∷ 0x00 ∷ 0x2A ∷ 0x00 ∷ 0x12 ∷ 0x00 ∷ []) ∷ []))
     -- no packets; empty packets only
     ∷ (merged room [] [] [], accepted [])
     ∷ (merged room [] (0 ∷ 0 ∷ []) (7 ∷ 8 ∷ []), accepted [])
@@ -49,12 +49,12 @@ packet_rows =
     ∷ (merged (record { bytes = 1; ends = 1; times = 1 }) (0x32 ∷ 0x00 ∷ []) (2 ∷ []) (7 ∷ []), refused 35)
     ∷ (merged (record { bytes = 2; ends = 1; times = 0 }) (0x32 ∷ 0x00 ∷ []) (2 ∷ []) (7 ∷ []), refused 35)
     -- `12 00 2A 00 12 00`: the delimiter behind the first place goes
-    ∷ (clean 9 (0x12 ∷ 0x00 ∷ 0x2_a ∷ 0x00 ∷ 0x12 ∷ 0x00 ∷ []), accepted ((0x12 ∷ 0x00 ∷ 0x2_a ∷ 0x00 ∷ []) ∷ []))
+    ∷ (clean 9 (0x12 ∷ 0x00 ∷ 0x2A ∷ 0x00 ∷ 0x12 ∷ 0x00 ∷ []), accepted ((0x12 ∷ 0x00 ∷ 0x2A ∷ 0x00 ∷ []) ∷ []))
     -- `13 00 12 00 28`: with a stray delimiter all is written anew, the reserved bit clear and every OBU sized
-    ∷ (clean 9 (0x13 ∷ 0x00 ∷ 0x12 ∷ 0x00 ∷ 0x28 ∷ []), accepted ((0x12 ∷ 0x00 ∷ 0x2_a ∷ 0x00 ∷ []) ∷ []))
+    ∷ (clean 9 (0x13 ∷ 0x00 ∷ 0x12 ∷ 0x00 ∷ 0x28 ∷ []), accepted ((0x12 ∷ 0x00 ∷ 0x2A ∷ 0x00 ∷ []) ∷ []))
     -- without one, and where a unit does not parse, every byte stays
     ∷ (clean 9 (0x13 ∷ 0x00 ∷ 0x28 ∷ []), accepted ((0x13 ∷ 0x00 ∷ 0x28 ∷ []) ∷ []))
-    ∷ (clean 9 (0x12 ∷ 0x00 ∷ 0x12 ∷ 0x00 ∷ 0x4_a ∷ 0x00 ∷ []), accepted ((0x12 ∷ 0x00 ∷ 0x12 ∷ 0x00 ∷ 0x4_a ∷ 0x00 ∷ []) ∷ []))
+    ∷ (clean 9 (0x12 ∷ 0x00 ∷ 0x12 ∷ 0x00 ∷ 0x4A ∷ 0x00 ∷ []), accepted ((0x12 ∷ 0x00 ∷ 0x12 ∷ 0x00 ∷ 0x4A ∷ 0x00 ∷ []) ∷ []))
     -- 35: no room for the last byte
-    ∷ (clean 3 (0x12 ∷ 0x00 ∷ 0x2_a ∷ 0x00 ∷ []), refused 35)
+    ∷ (clean 3 (0x12 ∷ 0x00 ∷ 0x2A ∷ 0x00 ∷ []), refused 35)
     ∷ []

@@ -23,7 +23,7 @@ played_as st p u = answer (λ r. shown_list r.shown ∷ map slot_numbers r.state
 
 -- K's sequence header; a shown key; a shown frame that refreshes slot 3
 abbrev header_obu_bytes : List ℕ
-header_obu_bytes = 0x0_a ∷ 0x09 ∷ payload_k
+header_obu_bytes = 0x0A ∷ 0x09 ∷ payload_k
 
 abbrev key_obu_bytes : List ℕ
 key_obu_bytes = 0x32 ∷ 0x01 ∷ 0x10 ∷ []
@@ -40,7 +40,7 @@ hidden = 0x32 ∷ 0x03 ∷ 0x20 ∷ 0x00 ∷ 0x40 ∷ []
 
 -- a frame header of one byte, that shows a slot again
 abbrev shown_again : ℕ → List ℕ
-shown_again b = 0x1_a ∷ 0x01 ∷ b ∷ []
+shown_again b = 0x1A ∷ 0x01 ∷ b ∷ []
 
 -- after a key under 1, and then a golden under 2
 abbrev keyed : State
@@ -64,22 +64,22 @@ player_rows =
     ∷ (played_as start 1 (key_obu_bytes ++ header_obu_bytes), accepted ((1 ∷ []) ∷ replicate 8 of_key))
     -- a golden fills its slot; a show unit shows it and changes nothing
     ∷ (played_as keyed 2 golden_obu_bytes, accepted ((2 ∷ []) ∷ of_both))
-    ∷ (played_as boarded 3 (shown_again 0x_b8), accepted ((2 ∷ []) ∷ of_both))
+    ∷ (played_as boarded 3 (shown_again 0xB8), accepted ((2 ∷ []) ∷ of_both))
     -- a hidden key is not shown, and fills slot 1; shown again it fills all eight, its marks kept
     ∷ (played_as start 5 (header_obu_bytes ++ hidden_key), accepted ([] ∷ [] ∷ (5 ∷ 1 ∷ 1 ∷ []) ∷ replicate 6 []))
     ∷ (played_as (state_after start 5 (header_obu_bytes ++ hidden_key)) 6 (shown_again 0x98), accepted ((5 ∷ []) ∷ replicate 8 (5 ∷ 1 ∷ 1 ∷ [])))
     -- a refused unit changes nothing
     ∷ (played_as boarded 9 (shown_again 0x80 ++ shown_again 0x80), refused 39)
-    ∷ (played_as (state_after boarded 9 (shown_again 0x80 ++ shown_again 0x80)) 3 (shown_again 0x_b8), accepted ((2 ∷ []) ∷ of_both))
+    ∷ (played_as (state_after boarded 9 (shown_again 0x80 ++ shown_again 0x80)) 3 (shown_again 0xB8), accepted ((2 ∷ []) ∷ of_both))
     -- the forbidden bit; a sequence header cut short, and a reduced one; no header; no frame; two frames; a frame cut short
     ∷ (played_as start 1 (header_obu_bytes ++ (0x80 ∷ [])), refused 1)
-    ∷ (played_as start 1 ((0x0_a ∷ 0x01 ∷ 0x00 ∷ []) ++ key_obu_bytes), refused 14)
-    ∷ (played_as start 1 ((0x0_a ∷ 0x06 ∷ 0x19 ∷ 0x4_c ∷ 0x_ff ∷ 0x_f3 ∷ 0x18 ∷ 0x80 ∷ []) ++ key_obu_bytes), refused 17)
+    ∷ (played_as start 1 ((0x0A ∷ 0x01 ∷ 0x00 ∷ []) ++ key_obu_bytes), refused 14)
+    ∷ (played_as start 1 ((0x0A ∷ 0x06 ∷ 0x19 ∷ 0x4C ∷ 0xFF ∷ 0xF3 ∷ 0x18 ∷ 0x80 ∷ []) ++ key_obu_bytes), refused 17)
     ∷ (played_as start 1 (key_obu_bytes ++ key_obu_bytes), refused 26)
     ∷ (played_as start 1 header_obu_bytes, refused 28)
     ∷ (played_as start 1 (header_obu_bytes ++ key_obu_bytes ++ key_obu_bytes), refused 39)
     ∷ (played_as start 1 (header_obu_bytes ++ (0x32 ∷ 0x00 ∷ [])), refused 14)
     -- an empty slot; one that is not showable
-    ∷ (played_as start 1 (header_obu_bytes ++ shown_again 0x_b8), refused 37)
+    ∷ (played_as start 1 (header_obu_bytes ++ shown_again 0xB8), refused 37)
     ∷ (played_as (state_after start 5 (header_obu_bytes ++ hidden)) 6 (shown_again 0x98), refused 38)
     ∷ []

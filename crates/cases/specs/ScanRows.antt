@@ -53,11 +53,11 @@ scans s fs = accepted (scans_from s empty_slots fs)
 -- ---- frames under K's header, and what they give: 16 by 16, or nothing by nothing, with no delta
 
 abbrev key_frame : List ℕ
-key_frame = 0x19 ∷ 0 ∷ 0 ∷ 0x_aa ∷ []
+key_frame = 0x19 ∷ 0 ∷ 0 ∷ 0xAA ∷ []
 
 -- the first reference has its size
 abbrev found_frame : List ℕ
-found_frame = 0x33 ∷ 0x_c2 ∷ 0 ∷ 0 ∷ 1 ∷ 0x48 ∷ 0 ∷ 0 ∷ 0 ∷ []
+found_frame = 0x33 ∷ 0xC2 ∷ 0 ∷ 0 ∷ 1 ∷ 0x48 ∷ 0 ∷ 0 ∷ 0 ∷ []
 
 -- the same with tile sizes of its own
 abbrev tiled_frame : List ℕ
@@ -77,7 +77,7 @@ slots_with side key third = replicate 3 (slot_with side key) ++ (slot_with side 
 
 -- K's header with order hints of one bit
 abbrev hinted_header : List ℕ
-hinted_header = 0 ∷ 0 ∷ 0 ∷ 1 ∷ 0x9_f ∷ 0x_f8 ∷ 4 ∷ 0 ∷ 0 ∷ 0x80 ∷ []
+hinted_header = 0 ∷ 0 ∷ 0 ∷ 1 ∷ 0x9F ∷ 0xF8 ∷ 4 ∷ 0 ∷ 0 ∷ 0x80 ∷ []
 
 abbrev pub scan_rows : List Row
 scan_rows =
@@ -100,8 +100,8 @@ scan_rows =
     ∷ (scans payload_k [], accepted (slots_with 0 0 0))
     -- the sequence header: cut, reduced, film grain, film grain and frame ids, frame ids
     ∷ (scans [] (key_frame ∷ []), accepted ((14 ∷ []) ∷ slots_with 0 0 0))
-    ∷ (scans (0x18 ∷ 0x0_c ∷ 0x_ff ∷ 0x_c0 ∷ 0x44 ∷ []) (key_frame ∷ []), accepted ((17 ∷ []) ∷ slots_with 0 0 0))
-    ∷ (scans (0 ∷ 0 ∷ 0 ∷ 1 ∷ 0x9_f ∷ 0x_f8 ∷ 0 ∷ 8 ∷ 0x80 ∷ []) (key_frame ∷ []), accepted ((20 ∷ []) ∷ slots_with 0 0 0))
-    ∷ (scans (0 ∷ 0 ∷ 0 ∷ 1 ∷ 0x9_f ∷ 0x_fc ∷ 0 ∷ 0 ∷ 0x11 ∷ []) (key_frame ∷ []), accepted ((20 ∷ []) ∷ slots_with 0 0 0))
-    ∷ (scans (0 ∷ 0 ∷ 0 ∷ 1 ∷ 0x9_f ∷ 0x_fc ∷ 0 ∷ 0 ∷ 0x10 ∷ 0 ∷ []) (key_frame ∷ []), accepted ((18 ∷ []) ∷ slots_with 0 0 0))
+    ∷ (scans (0x18 ∷ 0x0C ∷ 0xFF ∷ 0xC0 ∷ 0x44 ∷ []) (key_frame ∷ []), accepted ((17 ∷ []) ∷ slots_with 0 0 0))
+    ∷ (scans (0 ∷ 0 ∷ 0 ∷ 1 ∷ 0x9F ∷ 0xF8 ∷ 0 ∷ 8 ∷ 0x80 ∷ []) (key_frame ∷ []), accepted ((20 ∷ []) ∷ slots_with 0 0 0))
+    ∷ (scans (0 ∷ 0 ∷ 0 ∷ 1 ∷ 0x9F ∷ 0xFC ∷ 0 ∷ 0 ∷ 0x11 ∷ []) (key_frame ∷ []), accepted ((20 ∷ []) ∷ slots_with 0 0 0))
+    ∷ (scans (0 ∷ 0 ∷ 0 ∷ 1 ∷ 0x9F ∷ 0xFC ∷ 0 ∷ 0 ∷ 0x10 ∷ 0 ∷ []) (key_frame ∷ []), accepted ((18 ∷ []) ∷ slots_with 0 0 0))
     ∷ []

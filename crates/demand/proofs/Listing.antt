@@ -176,11 +176,11 @@ all-formed : (Formed segments_kg) × (Formed segments_two) × (Formed segments_t
 unfolding many many_f leb_read read_leb sized leb_write leb_bytes framed passes head_obu_of obus_of obu_bytes unit_bytes flat_map is_type first_payload
 all-formed =
     let golden : (s : List ℕ) → Premise s unit_g = λ s. golden-formed s (0x38 ∷ 0x10 ∷ []) unit_g (record { reads = refl; bytes = refl }) in
-    let other : (s : List ℕ) → Premise s other_g = λ s. golden-formed s (0x39 ∷ 0x40 ∷ 0x_cd ∷ []) other_g (record { reads = refl; bytes = refl }) in
+    let other : (s : List ℕ) → Premise s other_g = λ s. golden-formed s (0x39 ∷ 0x40 ∷ 0xCD ∷ []) other_g (record { reads = refl; bytes = refl }) in
     let key = key-formed payload_k (0x10 ∷ []) unit_k (record { reads = refl; bytes = refl }) in
-    let more = key-formed payload_k (0x10 ∷ 0x_ab ∷ []) other_k (record { reads = refl; bytes = refl }) in
+    let more = key-formed payload_k (0x10 ∷ 0xAB ∷ []) other_k (record { reads = refl; bytes = refl }) in
     let timed = key-formed timed_payload (0x10 ∷ []) timed_k (record { reads = refl; bytes = refl }) in
-    let most = key-formed timed_payload (0x10 ∷ 0x_ab ∷ []) timed_other_k (record { reads = refl; bytes = refl }) in (
+    let most = key-formed timed_payload (0x10 ∷ 0xAB ∷ []) timed_other_k (record { reads = refl; bytes = refl }) in (
       formed payload_k unit_k unit_g unit_k unit_g 4 1 refl key (golden payload_k) key (golden payload_k),
       formed payload_k unit_k unit_g other_k other_g 4 3 refl key (golden payload_k) more (other payload_k),
       formed timed_payload timed_k unit_g timed_other_k other_g 4 3 refl timed (golden timed_payload) most (other timed_payload),

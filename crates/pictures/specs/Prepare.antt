@@ -95,4 +95,4 @@ prepare q new x =
 
 -- a delimiter, and a frame header OBU of one byte
 abbrev pub show_unit : ℕ → List ℕ
-show_unit slot = 0x12 ∷ 0x00 ∷ 0x1_a ∷ 0x01 ∷ show_byte slot ∷ []
+show_unit slot = 0x12 ∷ 0x00 ∷ 0x1A ∷ 0x01 ∷ show_byte slot ∷ []

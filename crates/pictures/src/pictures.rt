@@ -146,7 +146,7 @@ fn put_show(shows: &mut [u8], at: usize, slot: u64)
 {
     shows[at] = 0x12;
     shows[at + 1] = 0x00;
-    shows[at + 2] = 0x1_a;
+    shows[at + 2] = 0x1A;
     shows[at + 3] = 0x01;
     shows[at + 4] = 128 + 16 * slot as u8 + 8;
 }

@@ -1,6 +1,5 @@
 -- Lent memory at a function's entry and exit, and what each stage of the way does with its own.
 use Rattle.std.specs.Prelude.{ℕ, ◌≡◌, List, length}
-use Rattle.std.specs.Borrow.{Bor}
 use denote.Triple.Both.{Both}
 use Rattle.bitio.specs.Parse.{Answer}
 use Rattle.container.specs.Limits.{Room, room_in}
@@ -32,7 +31,7 @@ abbrev pub store_after : Answer (List (List ℕ)) → Store → Store
 store_after x d = record { bytes = bytes_after x d.bytes; ends = ends_after x d.ends }
 
 -- what two lent slices hold, at one moment
-abbrev pub store : (bytes ends : Bor (List ℕ)) → Store
+abbrev pub store : (bytes ends : List ℕ) → Store
 store bytes ends = record { bytes = bytes.now; ends = ends.now }
 
 abbrev pub Stores : (Room → Answer (List (List ℕ))) → Split → Both Store Store → Type 0

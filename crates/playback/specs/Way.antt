@@ -1,7 +1,6 @@
 -- The way of a list's units: gathered, written in a container, read back, and played from a cue.
 -- Of lent memory only the lengths count. 35: a stage has no room; 34 and all others are the operations' own.
 use Rattle.std.specs.Prelude.{ℕ, List, length}
-use Rattle.std.specs.Borrow.{Bor}
 use denote.Triple.Both.{Both}
 use Rattle.bitio.specs.Parse.{Answer, and_next}
 use Rattle.container.specs.Limits.{bytes_room}
@@ -35,13 +34,13 @@ pub record PlayLent : Type 0 where
   pub shown : List ℕ
 
 -- and what their lent slices hold, at one moment
-abbrev pub write_lent : (units unit_ends out : Bor (List ℕ)) → WriteLent
+abbrev pub write_lent : (units unit_ends out : List ℕ) → WriteLent
 write_lent units unit_ends out = record { units = store units unit_ends; out = out.now }
 
-abbrev pub carry_lent : (units unit_ends out back back-ends : Bor (List ℕ)) → CarryLent
+abbrev pub carry_lent : (units unit_ends out back back-ends : List ℕ) → CarryLent
 carry_lent units unit_ends out back back-ends = record { written = write_lent units unit_ends out; back = store back back-ends }
 
-abbrev pub play_lent : (units unit_ends out back back-ends shown : Bor (List ℕ)) → PlayLent
+abbrev pub play_lent : (units unit_ends out back back-ends shown : List ℕ) → PlayLent
 play_lent units unit_ends out back back-ends shown = record { carried = carry_lent units unit_ends out back back-ends; shown = shown.now }
 
 -- ---- what each stage answers, and what it leaves

@@ -61,8 +61,8 @@ pub fn gather_units<'a>(
     shows: &'a [u8],
 ) -> Split
     ensures { Stores (gathered (units_named list.now pictures.now ends.now shows.now)) result (record {
-      entry = store units.entry unit_ends.entry;
-      exit = store units.exit unit_ends.exit;
+      entry = store units.old unit_ends.old;
+      exit = store units.new unit_ends.new;
     }) }
 {
     let count = list.len();

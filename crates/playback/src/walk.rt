@@ -52,11 +52,11 @@ pub fn walk(
     shown: &mut [u64],
 ) -> Walked
     ensures { Walks (form_says form) cue (outcome picture.now segments.now settings) result (record {
-      entry = six list.entry cues.entry pictures.entry ends.entry shows.entry header.entry;
-      exit = six list.exit cues.exit pictures.exit ends.exit shows.exit header.exit;
+      entry = six list.old cues.old pictures.old ends.old shows.old header.old;
+      exit = six list.new cues.new pictures.new ends.new shows.new header.new;
     }) (record {
-      entry = play_lent units.entry unit_ends.entry out.entry back.entry back_ends.entry shown.entry;
-      exit = play_lent units.exit unit_ends.exit out.exit back.exit back_ends.exit shown.exit;
+      entry = play_lent units.old unit_ends.old out.old back.old back_ends.old shown.old;
+      exit = play_lent units.new unit_ends.new out.new back.new back_ends.new shown.new;
     }) }
 {
     match assemble_multi(

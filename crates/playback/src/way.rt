@@ -34,8 +34,8 @@ fn write_in(form: Form, units: &[u8], unit_ends: &[u32], out: &mut [u8]) -> Byte
 // A container's units.
 fn read_in(form: Form, data: &[u8], out: &mut [u8], ends: &mut [u32]) -> Split
     ensures { Stores (λ room. read (form_says form) room «data».now) result (record {
-      entry = store out.entry ends.entry;
-      exit = store out.exit ends.exit;
+      entry = store out.old ends.old;
+      exit = store out.new ends.new;
     }) }
 {
     match form {
@@ -56,8 +56,8 @@ pub fn write_list<'a>(
     out: &mut [u8],
 ) -> ByteCount
     ensures { Writes (form_says form) (units_named list.now pictures.now ends.now shows.now) result (record {
-      entry = write_lent units.entry unit_ends.entry out.entry;
-      exit = write_lent units.exit unit_ends.exit out.exit;
+      entry = write_lent units.old unit_ends.old out.old;
+      exit = write_lent units.new unit_ends.new out.new;
     }) }
 {
     match gather_units(units, unit_ends, list, pictures, ends, shows) {
@@ -80,8 +80,8 @@ pub fn carry_list<'a>(
     back_ends: &mut [u32],
 ) -> Split
     ensures { Carries (form_says form) (units_named list.now pictures.now ends.now shows.now) result (record {
-      entry = carry_lent units.entry unit_ends.entry out.entry back.entry back_ends.entry;
-      exit = carry_lent units.exit unit_ends.exit out.exit back.exit back_ends.exit;
+      entry = carry_lent units.old unit_ends.old out.old back.old back_ends.old;
+      exit = carry_lent units.new unit_ends.new out.new back.new back_ends.new;
     }) }
 {
     match write_list(form, list, pictures, ends, shows, units, unit_ends, out) {
@@ -106,8 +106,8 @@ pub fn play_list<'a>(
     shown: &mut [u64],
 ) -> Shows
     ensures { Plays (form_says form) (units_named list.now pictures.now ends.now shows.now) cue result (record {
-      entry = play_lent units.entry unit_ends.entry out.entry back.entry back_ends.entry shown.entry;
-      exit = play_lent units.exit unit_ends.exit out.exit back.exit back_ends.exit shown.exit;
+      entry = play_lent units.old unit_ends.old out.old back.old back_ends.old shown.old;
+      exit = play_lent units.new unit_ends.new out.new back.new back_ends.new shown.new;
     }) }
 {
     match carry_list(

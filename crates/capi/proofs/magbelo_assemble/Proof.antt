@@ -13,7 +13,7 @@ returns c =
     let a = u.before.before.before.before.before.before.before.before.before.before.before.before.before.before.before.args in
     let w = u.assemble-multi.ensures in
     let e = sym (ap assembled_says c.before.k.given.1) ∙ w.answer in
-    record { code = ap assembled_code e; lent = w.lent; numbers = ap (λ (y : Outcome Counts). counts_after y (five a.units a.cue-count a.picture-len a.header-len a.golden-slot)) e }
+    record { code = ap assembled_code e; lent = w.lent; numbers = ap (λ (y : Outcome Counts). counts_after y (five a.units.now a.cue-count.now a.picture-len.now a.header-len.now a.golden-slot.now)) e }
 
 returns-2 : tie.Need-returns-2
 returns-2 c =
@@ -21,7 +21,7 @@ returns-2 c =
     let a = u.before.before.before.before.before.before.before.before.before.before.before.before.before.before.before.args in
     let w = u.assemble-multi.ensures in
     let e = sym (ap assembled_says c.before.k2.given.1) ∙ w.answer in
-    record { code = ap assembled_code e; lent = w.lent; numbers = ap (λ (y : Outcome Counts). counts_after y (five a.units a.cue-count a.picture-len a.header-len a.golden-slot)) e }
+    record { code = ap assembled_code e; lent = w.lent; numbers = ap (λ (y : Outcome Counts). counts_after y (five a.units.now a.cue-count.now a.picture-len.now a.header-len.now a.golden-slot.now)) e }
 
 returns-3 : tie.Need-returns-3
 returns-3 c =
@@ -29,7 +29,7 @@ returns-3 c =
     let a = u.before.before.before.before.before.before.before.before.before.before.before.before.before.before.before.args in
     let w = u.assemble-multi.ensures in
     let e = sym (ap assembled_says c.before.c.given.1) ∙ w.answer in
-    record { code = ap assembled_code e; lent = w.lent; numbers = ap (λ (y : Outcome Counts). counts_after y (five a.units a.cue-count a.picture-len a.header-len a.golden-slot)) e }
+    record { code = ap assembled_code e; lent = w.lent; numbers = ap (λ (y : Outcome Counts). counts_after y (five a.units.now a.cue-count.now a.picture-len.now a.header-len.now a.golden-slot.now)) e }
 
 pub magbelo-assemble-spec : {M : Type 1} → statement M
 magbelo-assemble-spec =

@@ -11,11 +11,11 @@ returns c =
     let z = c.before.before.before.before.before.before.before.before in
     let a = z.args in
     let (gop, (_, small)) = z.requires in
-    let k = c.before.before.before.before.segment-count.ensures in
-    same-counts (units-are a.gop (frames_in a.segments.now) _ gop small c.before.before.before.total-frames.ensures) c.before.before.count-cues.ensures refl (ap (λ (n : ℕ). 2 * n) k) (ap (λ (n : ℕ). 5 * n) k) c.before.header-len.ensures c.first_slot.ensures
+    let k = c.segment_count-count.ensures in
+    same-counts (units-are a.gop (frames_in a.segments.now) _ gop small c.total_frames.ensures) c.count_cues.ensures refl (ap (λ (n : ℕ). 2 * n) k) (ap (λ (n : ℕ). 5 * n) k) c.header_len.ensures c.first_slot.ensures
 
-pub count-all-spec : {M : Type 1} → statement M
-count-all-spec =
+pub count_all_spec : {M : Type 1} → statement M
+count_all_spec =
     tie.close
     (tie.spec
     (λ c κs. search rules)

@@ -6,14 +6,14 @@ use Rattle.obu.specs.Place.{part}
 use Rattle.assemble.proofs.multi.own_payload.Statement.{statement}
 use Rattle.assemble.proofs.multi.own_payload.Tie as tie
 
-key-of-requires : tie.Need-key-of-requires
+key-of-requires : tie.Need-key_of-requires
 key-of-requires c κs = search rules
 
 payload-requires : tie.Need-payload-requires
 payload-requires c κs = search rules
 
 returns : tie.Need-returns
-returns c = let a = c.before.before.before.before.args in c.payload.ensures ∙ ap (λ (u : List ℕ). part u a.basis.start a.basis.end) c.before.key_of.ensures
+returns c = let a = c.args in c.payload.ensures ∙ ap (λ (u : List ℕ). part u a.basis.start a.basis.end) c.key_of.ensures
 
-pub own-payload-spec : {M : Type 1} → statement M
-own-payload-spec = tie.close (tie.spec key-of-requires payload-requires returns)
+pub own_payload_spec : {M : Type 1} → statement M
+own_payload_spec = tie.close (tie.spec key-of-requires payload-requires returns)

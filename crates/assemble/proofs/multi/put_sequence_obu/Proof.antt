@@ -12,35 +12,35 @@ use Rattle.assemble.proofs.MultiLaws.{one_passes, header-is-new, header-is-own, 
 use Rattle.assemble.proofs.multi.put_sequence_obu.Statement.{statement}
 use Rattle.assemble.proofs.multi.put_sequence_obu.Tie as tie
 
-put-measured-requires : tie.Need-put-measured-requires
+put-measured-requires : tie.Need-put_measured-requires
 put-measured-requires c κs =
     let z = c.before.before.before.before.before.before in
     let a = z.args in
-    (one_passes, omega (arith, z.requires.1, length-new a.picture.now a.segments.now a.new.now a.basis c.before.if1.true))
+    (one_passes, omega (arith, z.requires.1, length-new a.picture.now a.segments.now a.new.now a.basis c.if-basis.true))
 
-returns : tie.Need-returns
+returns : tie.Need-returns-then-basis
 returns c =
     let m = c.before.before in
-    let a = m.before.before.before.before.before.before.before.args in
-    m.put-measured.ensures.1 ∙ ap (pasted a.out.now 0) (sym (header-is-new a.picture.now a.segments.now a.new.now a.basis m.before.before.if1.true))
+    let a = m.args in
+    m.put_measured.ensures.1 ∙ ap (pasted a.out.now 0) (sym (header-is-new a.picture.now a.segments.now a.new.now a.basis m.if-basis.true))
 
-put-measured-requires-2 : tie.Need-put-measured-requires-2
+put-measured-requires-2 : tie.Need-put_measured-requires-2
 put-measured-requires-2 c κs =
     let z = c.before.before.before.before.before.before.before in
     let a = z.args in
-    let l = ap (λ (l : List ℕ). obu_length (extension_says a.basis.extension) (length l)) c.own-payload.ensures in
-    (one_passes, omega (arith, z.requires.1, l, length-own a.picture.now a.segments.now a.new.now a.basis c.before.before.if1.false))
+    let l = ap (λ (l : List ℕ). obu_length (extension_says a.basis.extension) (length l)) c.own_payload.ensures in
+    (one_passes, omega (arith, z.requires.1, l, length-own a.picture.now a.segments.now a.new.now a.basis c.if-basis.false))
 
-returns-2 : tie.Need-returns-2
+returns-2 : tie.Need-returns
 returns-2 c =
     let m = c.before.before in
-    let a = m.before.before.before.before.before.before.before.before.args in
-    m.put-measured2.ensures.1
-    ∙ ap (λ (l : List ℕ). pasted a.out.now 0 (obu_bytes (obu 1 (extension_says a.basis.extension) l))) m.before.own-payload.ensures
-    ∙ ap (pasted a.out.now 0) (sym (header-is-own a.picture.now a.segments.now a.new.now a.basis m.before.before.before.if1.false))
+    let a = m.args in
+    m.put_measured-2.ensures.1
+    ∙ ap (λ (l : List ℕ). pasted a.out.now 0 (obu_bytes (obu 1 (extension_says a.basis.extension) l))) m.own_payload.ensures
+    ∙ ap (pasted a.out.now 0) (sym (header-is-own a.picture.now a.segments.now a.new.now a.basis m.if-basis.false))
 
-pub put-sequence-obu-spec : {M : Type 1} → statement M
-put-sequence-obu-spec =
+pub put_sequence_obu_spec : {M : Type 1} → statement M
+put_sequence_obu_spec =
     tie.close
     (tie.spec
     put-measured-requires

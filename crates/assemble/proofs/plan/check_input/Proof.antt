@@ -5,27 +5,27 @@ use Rattle.assemble.proofs.PlanLaws.{check-long, check-fit, check-unfit}
 use Rattle.assemble.proofs.plan.check_input.Statement.{statement}
 use Rattle.assemble.proofs.plan.check_input.Tie as tie
 
-returns : tie.Need-returns
-returns c = let a = c.before.before.before.args in check-long a.picture.now a.segments.now a.gop c.if1.taken
+returns : tie.Need-returns-then-picture-gt-LIMIT
+returns c = let a = c.args in check-long a.picture.now a.segments.now a.gop c.if-picture-gt-LIMIT.true
 
-returns-2 : tie.Need-returns-2
+returns-2 : tie.Need-returns-in-Fit
 returns-2 c =
-    let a = c.before.before.before.before.before.before.before.args in
-    c.check-sizes.ensures
-    ∙ check-fit a.picture.now a.segments.now a.gop c.before.before.before.before.if1.left (sym (ap checked_says c.before.enum_told.given.1) ∙ c.before.before.before.check-ranges.ensures)
+    let a = c.args in
+    c.check_sizes.ensures
+    ∙ check-fit a.picture.now a.segments.now a.gop c.if-picture-gt-LIMIT.false (sym (ap checked_says c.in-Fit.is) ∙ c.check_ranges-ranges.ensures)
 
-returns-3 : tie.Need-returns-3
+returns-3 : tie.Need-returns-in-Refused
 returns-3 c =
-    let a = c.before.before.before.before.before.before.before.args in
-    check-unfit a.picture.now a.segments.now a.gop c.before.before.before.before.if1.left _ _ (sym (ap checked_says c.before.ranges.given.1) ∙ c.before.before.before.check-ranges.ensures)
+    let a = c.args in
+    check-unfit a.picture.now a.segments.now a.gop c.if-picture-gt-LIMIT.false _ _ (sym (ap checked_says c.ranges.given.1) ∙ c.check_ranges-ranges.ensures)
 
-returns-4 : tie.Need-returns-4
+returns-4 : tie.Need-returns-in-RefusedIn
 returns-4 c =
-    let a = c.before.before.before.before.before.before.before.args in
-    check-unfit a.picture.now a.segments.now a.gop c.before.before.before.before.if1.left _ _ (sym (ap checked_says c.before.ranges2.given.1) ∙ c.before.before.before.check-ranges.ensures)
+    let a = c.args in
+    check-unfit a.picture.now a.segments.now a.gop c.if-picture-gt-LIMIT.false _ _ (sym (ap checked_says c.ranges2.given.1) ∙ c.check_ranges-ranges.ensures)
 
-pub check-input-spec : {M : Type 1} → statement M
-check-input-spec =
+pub check_input_spec : {M : Type 1} → statement M
+check_input_spec =
     tie.close
     (tie.spec
     returns

@@ -14,75 +14,75 @@ use Rattle.assemble.proofs.plan.plan_multi.Statement.{statement}
 use Rattle.assemble.proofs.plan.plan_multi.Tie as tie
 
 -- the checks are passed
-fit : (c : tie.After-enum-told) → made tt ≡ checked c.before.before.before.before.before.args.picture.now c.before.before.before.before.before.args.segments.now c.before.before.before.before.before.args.settings.gop
-fit c = sym (ap checked_says c.enum_told.given.1) ∙ c.before.before.check-input.ensures
+fit : (c : tie.In-Fit) → made tt ≡ checked c.args.picture.now c.args.segments.now c.args.settings.gop
+fit c = sym (ap checked_says c.in-Fit.is) ∙ c.check_input.ensures
 
-input-sound : (c : tie.After-enum-told) → Sound c.before.before.before.before.before.args.settings.gop c.before.before.before.before.before.args.segments.now
-input-sound c = checked-sound c.before.before.before.before.before.args.picture.now c.before.before.before.before.before.args.segments.now c.before.before.before.before.before.args.settings.gop (sym (fit c))
+input-sound : (c : tie.In-Fit) → Sound c.args.settings.gop c.args.segments.now
+input-sound c = checked-sound c.args.picture.now c.args.segments.now c.args.settings.gop (sym (fit c))
 
-key-of-requires : tie.Need-key-of-requires
+key-of-requires : tie.Need-key_of-requires
 key-of-requires c κs = omega (arith, (input-sound c).some-there)
 
 -- the first key's sequence header
-found : (c : tie.After-obu) → accepted (obu_in c.before.before.before.key_of.result.now c.obu.given.0.0) ≡ first_sequence c.before.before.before.key_of.result.now
+found : (c : tie.In-Found) → accepted (obu_in c.key_of.result.now c.in-Found.obu) ≡ first_sequence c.key_of.result.now
 unfolding and_next
-found c = let f = c.before.before in first_found f.before.key_of.result.now f.find-obu.result f.find-obu.ensures _ c.obu.given.1
+found c = let f = c.before in first_found f.key_of.result.now f.find_obu.result f.find_obu.ensures _ c.in-Found.is
 
-plan-header-requires : tie.Need-plan-header-requires
-plan-header-requires c κs = (omega (arith, (input-sound c.before.before.before.before.before).some-there), found_type _ _ (found c.before))
+plan-header-requires : tie.Need-plan_header-requires
+plan-header-requires c κs = (omega (arith, (input-sound c.before.before.before).some-there), found_type _ _ (found c))
 
-returns : tie.Need-returns
+returns : tie.Need-returns-in-Refused
 returns c =
-    let a = c.before.before.before.before.before.before.before.args in
+    let a = c.args in
     let s = a.picture.now in
     let rs = a.segments.now in
     let set = a.settings in
-    none-planned s rs _ _ c.no-plan.ensures
-    ∙ plan-unchecked s rs set _ _ (sym (ap checked_says c.before.before.k.given.1) ∙ c.before.before.before.before.check-input.ensures)
+    none-planned s rs _ _ c.no_plan.ensures
+    ∙ plan-unchecked s rs set _ _ (sym (ap checked_says c.in-Refused.is) ∙ c.check_input.ensures)
 
-returns-2 : tie.Need-returns-2
+returns-2 : tie.Need-returns-in-RefusedIn
 returns-2 c =
-    let a = c.before.before.before.before.before.before.before.args in
+    let a = c.args in
     let s = a.picture.now in
     let rs = a.segments.now in
     let set = a.settings in
-    none-planned-in s rs _ _ _ c.no-plan2.ensures
-    ∙ plan-unchecked s rs set _ _ (sym (ap checked_says c.before.before.k2.given.1) ∙ c.before.before.before.before.check-input.ensures)
+    none-planned-in s rs _ _ _ c.no_plan-in-RefusedIn.ensures
+    ∙ plan-unchecked s rs set _ _ (sym (ap checked_says c.in-RefusedIn.is) ∙ c.check_input.ensures)
 
-returns-3 : tie.Need-returns-3
+returns-3 : tie.Need-returns-in-Found
 returns-3 c =
-    let a = c.before.before.before.before.before.before.before.before.before.before.before.args in
+    let a = c.args in
     let s = a.picture.now in
     let rs = a.segments.now in
     let set = a.settings in
-    let f = c.before.before.before.before in
-    let u = f.before.key_of.ensures in
-    c.plan-header.ensures ∙ plan-found s rs set (fit f.before.before) _ (found_at _ _ c.before.before.obu.given.0.0 (found c.before.before) u)
+    let f = c.before.before in
+    let u = f.key_of.ensures in
+    c.plan_header.ensures ∙ plan-found s rs set (fit f.before.before) _ (found_at _ _ c.in-Found.obu (found c.before) u)
 
-returns-4 : tie.Need-returns-4
+returns-4 : tie.Need-returns-in-End
 unfolding and_next
 returns-4 c =
-    let a = c.before.before.before.before.before.before.before.before.before.before.args in
+    let a = c.args in
     let s = a.picture.now in
     let rs = a.segments.now in
     let set = a.settings in
-    let f = c.before.before.before in
-    none-planned-in s rs _ _ _ c.no-plan3.ensures
-    ∙ plan-unfound s rs set (fit f.before.before) _ (first_found f.before.key_of.result.now f.find-obu.result f.find-obu.ensures _ c.before.enum-told2.given.1 ∙ ap first_sequence f.before.key_of.ensures)
+    let f = c.before.before in
+    none-planned-in s rs _ _ _ c.no_plan-in-End.ensures
+    ∙ plan-unfound s rs set (fit f.before.before) _ (first_found f.key_of.result.now f.find_obu.result f.find_obu.ensures _ c.in-End.is ∙ ap first_sequence f.key_of.ensures)
 
-returns-5 : tie.Need-returns-5
+returns-5 : tie.Need-returns-in-Refused-find_obu
 unfolding and_next
 returns-5 c =
-    let a = c.before.before.before.before.before.before.before.before.before.before.before.args in
+    let a = c.args in
     let s = a.picture.now in
     let rs = a.segments.now in
     let set = a.settings in
-    let f = c.before.before.before.before in
-    none-planned-in s rs _ _ _ c.no-plan4.ensures
-    ∙ plan-unfound s rs set (fit f.before.before) _ (first_found f.before.key_of.result.now f.find-obu.result f.find-obu.ensures _ c.before.before.k3.given.1 ∙ ap first_sequence f.before.key_of.ensures)
+    let f = c.before.before in
+    none-planned-in s rs _ _ _ c.no_plan-in-Refused-find_obu.ensures
+    ∙ plan-unfound s rs set (fit f.before.before) _ (first_found f.key_of.result.now f.find_obu.result f.find_obu.ensures _ c.in-Refused-find_obu.is ∙ ap first_sequence f.key_of.ensures)
 
-pub plan-multi-spec : {M : Type 1} → statement M
-plan-multi-spec =
+pub plan_multi_spec : {M : Type 1} → statement M
+plan_multi_spec =
     tie.close
     (tie.spec
     (λ c κs. search rules)

@@ -10,28 +10,28 @@ use Rattle.assemble.proofs.PlanLaws.{none-planned-in, pictures-refused, pictures
 use Rattle.assemble.proofs.plan.plan_pictures.Statement.{statement}
 use Rattle.assemble.proofs.plan.plan_pictures.Tie as tie
 
-returns : tie.Need-returns
+returns : tie.Need-returns-in-RefusedIn
 returns c =
-    let m = c.before.before.before.before in
-    let a = m.before.before.before.before.before.before.args in
+    let m = c.before.before in
+    let a = m.args in
     let q = sequence_of a.basis.header a.points in
-    none-planned-in a.picture.now a.segments.now _ _ _ c.no-plan.ensures
+    none-planned-in a.picture.now a.segments.now _ _ _ c.no_plan.ensures
     ∙ pictures-refused a.picture.now a.segments.now q a.basis.rewriting _ _ _ _
-    (sym (ap measured_says c.before.before.k.given.1) ∙ m.measure-pictures.ensures
-    ∙ ap (λ (l : List ℕ). measured q a.basis.rewriting l (all_segments a.picture.now a.segments.now)) m.before.payload.ensures)
+    (sym (ap measured_says c.in-RefusedIn.is) ∙ m.measure_pictures.ensures
+    ∙ ap (λ (l : List ℕ). measured q a.basis.rewriting l (all_segments a.picture.now a.segments.now)) m.payload-sent.ensures)
 
-returns-2 : tie.Need-returns-2
+returns-2 : tie.Need-returns-in-Bytes
 unfolding plan_says
 returns-2 c =
-    let m = c.before.before.before in
-    let a = m.before.before.before.before.before.before.args in
+    let m = c.before in
+    let a = m.args in
     let q = sequence_of a.basis.header a.points in
     pictures-made a.picture.now a.segments.now q a.basis.rewriting _ _ _
-    (sym (ap measured_says c.before.n.given.1) ∙ m.measure-pictures.ensures
-    ∙ ap (λ (l : List ℕ). measured q a.basis.rewriting l (all_segments a.picture.now a.segments.now)) m.before.payload.ensures)
+    (sym (ap measured_says c.in-Bytes.is) ∙ m.measure_pictures.ensures
+    ∙ ap (λ (l : List ℕ). measured q a.basis.rewriting l (all_segments a.picture.now a.segments.now)) m.payload-sent.ensures)
 
-pub plan-pictures-spec : {M : Type 1} → statement M
-plan-pictures-spec =
+pub plan_pictures_spec : {M : Type 1} → statement M
+plan_pictures_spec =
     tie.close
     (tie.spec
     (λ c. search rules)

@@ -14,12 +14,12 @@ returns c =
     let a = z.args in
     let s = a.picture.now in
     let rs = a.segments.now in
-    let n = new-there _ _ _ (sequence_of a.header a.points) z.requires (omega arith) e.emit-sequence-header.ensures.1
-    (c.before.emitted-len.ensures ∙ ap (answer_or 0) e.emit-sequence-header.ensures.0) in
-    c.plan-pictures.ensures ∙ renewed-pictures s rs (sequence_of a.header a.points) _ _ n (header-new s rs _ _ refl refl)
+    let n = new-there _ _ _ (sequence_of a.header a.points) z.requires (omega arith) e.emit_sequence_header.ensures.1
+    (c.emitted_len-n.ensures ∙ ap (answer_or 0) e.emit_sequence_header.ensures.0) in
+    c.plan_pictures.ensures ∙ renewed-pictures s rs (sequence_of a.header a.points) _ _ n (header-new s rs _ _ refl refl)
 
-pub plan-renewed-spec : {M : Type 1} → statement M
-plan-renewed-spec =
+pub plan_renewed_spec : {M : Type 1} → statement M
+plan_renewed_spec =
     tie.close
     (tie.spec
     (λ c. search rules)

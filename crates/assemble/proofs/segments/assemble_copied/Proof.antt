@@ -9,27 +9,27 @@ use Rattle.assemble.proofs.RecordLaws.{head-part, copied-long, copied-refused, c
 use Rattle.assemble.proofs.segments.assemble_copied.Statement.{statement}
 use Rattle.assemble.proofs.segments.assemble_copied.Tie as tie
 
-returns : tie.Need-returns
+returns : tie.Need-returns-then-picture-gt-LIMIT
 returns c =
-    let a = c.before.before.before.before.before.before.before.before.before.before.args in
-    let e = copied-long a.picture.now a.count a.numbers.now a.settings (six a.list a.cues a.pictures a.ends a.shows a.header) c.before.if1.true c.if2.true in
+    let a = c.args in
+    let e = copied-long a.picture.now a.count a.numbers.now a.settings (six a.list.now a.cues.now a.pictures.now a.ends.now a.shows.now a.header.now) c.if-count-numbers.true c.if-picture-gt-LIMIT.true in
     (kept _ _ _ refl (sym e), refl)
 
-returns-2 : tie.Need-returns-2
+returns-2 : tie.Need-returns-then-count-numbers
 returns-2 c =
-    let a = c.before.before.before.before.before.before.before.before.before.before.args in
-    let e = copied-refused a.picture.now a.count a.numbers.now a.settings (six a.list a.cues a.pictures a.ends a.shows a.header) c.before.if1.true c.if2.false in
+    let a = c.args in
+    let e = copied-refused a.picture.now a.count a.numbers.now a.settings (six a.list.now a.cues.now a.pictures.now a.ends.now a.shows.now a.header.now) c.if-count-numbers.true c.if-picture-gt-LIMIT.false in
     (kept _ _ _ refl (sym e), refl)
 
-returns-3 : tie.Need-returns-3
+returns-3 : tie.Need-returns
 returns-3 c =
-    let a = c.before.before.before.before.before.before.before.before.before.before.before.before.before.before.before.before.before.before.before.before.before.before.before.before.before.before.before.before.before.before.args in
-    let w = c.before.before.before.before.before.before.before.before.before.before.before.before.assemble-multi.ensures in
-    let e = copied-made a.picture.now a.count a.numbers.now a.settings (six a.list a.cues a.pictures a.ends a.shows a.header) (take (width * a.count - 0) (drop 0 a.numbers.now)) c.before.before.before.before.before.before.before.before.before.before.before.before.before.before.before.before.before.before.before.before.before.if1.false (head-part (width * a.count) a.numbers.now) in
+    let a = c.args in
+    let w = c.assemble_multi.ensures in
+    let e = copied-made a.picture.now a.count a.numbers.now a.settings (six a.list.now a.cues.now a.pictures.now a.ends.now a.shows.now a.header.now) (take (width * a.count - 0) (drop 0 a.numbers.now)) c.if-count-numbers.false (head-part (width * a.count) a.numbers.now) in
     (retold e w, refl)
 
-pub assemble-copied-spec : {M : Type 1} → statement M
-assemble-copied-spec =
+pub assemble_copied_spec : {M : Type 1} → statement M
+assemble_copied_spec =
     tie.close
     (tie.spec
     returns

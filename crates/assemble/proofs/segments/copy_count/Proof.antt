@@ -2,11 +2,11 @@ use Rattle.assemble.proofs.RecordLaws.{copy-all, copy-none}
 use Rattle.assemble.proofs.segments.copy_count.Statement.{statement}
 use Rattle.assemble.proofs.segments.copy_count.Tie as tie
 
-returns : tie.Need-returns
-returns c = copy-all _ _ c.if1.true
+returns : tie.Need-returns-then-count-room
+returns c = copy-all _ _ c.if-count-room.true
 
-returns-2 : tie.Need-returns-2
-returns-2 c = copy-none _ _ c.if1.false
+returns-2 : tie.Need-returns
+returns-2 c = copy-none _ _ c.if-count-room.false
 
-pub copy-count-spec : {M : Type 1} → statement M
-copy-count-spec = tie.close (tie.spec returns returns-2)
+pub copy_count_spec : {M : Type 1} → statement M
+copy_count_spec = tie.close (tie.spec returns returns-2)

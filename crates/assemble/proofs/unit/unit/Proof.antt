@@ -4,20 +4,20 @@ use Rattle.pictures.proofs.UnitLaws.{named-picture, named-show, named_none}
 use Rattle.assemble.proofs.unit.unit.Statement.{statement}
 use Rattle.assemble.proofs.unit.unit.Tie as tie
 
-returns : tie.Need-returns
+returns : tie.Need-returns-then-kind-lt2
 returns c =
-    let a = c.before.before.before.before.before.before.before.args in
-    c.payload.ensures ∙ named-picture a.pictures.now a.ends.now a.shows.now a.entry _ _ c.before.before.before.if1.true c.before.before.start_of_lem.ensures c.before.end_of.ensures
+    let a = c.args in
+    c.payload.ensures ∙ named-picture a.pictures.now a.ends.now a.shows.now a.entry _ _ c.if-kind-lt2.true c.start_of-start.ensures c.end_of-end.ensures
 
-returns-2 : tie.Need-returns-2
+returns-2 : tie.Need-returns-then-kind-eq2
 returns-2 c =
-    let a = c.before.before.before.before.before.before.args in
-    c.payload2.ensures ∙ named-show a.pictures.now a.ends.now a.shows.now a.entry c.before.before.if1.false c.before.if2.true
+    let a = c.args in
+    c.payload-then-kind-eq2.ensures ∙ named-show a.pictures.now a.ends.now a.shows.now a.entry c.if-kind-lt2.false c.if-kind-eq2.true
 
-returns-3 : tie.Need-returns-3
+returns-3 : tie.Need-returns
 returns-3 c =
-    let a = c.before.before.before.before.before.before.args in
-    named_none a.pictures.now a.ends.now a.shows.now a.entry c.before.before.if1.false c.before.if2.false
+    let a = c.args in
+    named_none a.pictures.now a.ends.now a.shows.now a.entry c.if-kind-lt2.false c.if-kind-eq2.false
 
 pub unit_spec : {M : Type 1} → statement M
 unit_spec =

@@ -13,7 +13,7 @@ returns c =
     let a = c.before.before.before.before.before.before.before.before.before.before.args in
     let n = c.before.segment-count.ensures in
     let h : 64 < segment_count a.segments.now = omega (arith, n, c.if1.true) in
-    kept _ _ _ refl (sym (unfit-many a.picture.now a.segments.now a.settings (six a.list a.cues a.pictures a.ends a.shows a.header) h))
+    kept _ _ _ refl (sym (unfit-many a.picture.now a.segments.now a.settings (six a.list.now a.cues.now a.pictures.now a.ends.now a.shows.now a.header.now) h))
 
 returns-2 : tie.Need-returns-2
 returns-2 c =
@@ -21,7 +21,7 @@ returns-2 c =
     let n = c.before.before.before.segment-count.ensures in
     let h : segment_count a.segments.now ≤ 64 = omega (arith, n, c.before.before.if1.false) in
     let e = sym c.before.is_whole.ensures ∙ not-true c.before.is_whole.result c.if2.true in
-    kept _ _ _ refl (sym (unfit-part a.picture.now a.segments.now a.settings (six a.list a.cues a.pictures a.ends a.shows a.header) h e))
+    kept _ _ _ refl (sym (unfit-part a.picture.now a.segments.now a.settings (six a.list.now a.cues.now a.pictures.now a.ends.now a.shows.now a.header.now) h e))
 
 returns-3 : tie.Need-returns-3
 returns-3 c =
@@ -31,7 +31,7 @@ returns-3 c =
     let q = c.before.before.before.before.before.before.before.before.before.before.before.before.before.before.before.before.before.before.before.before.before.before.before.is_whole in
     let n = c.before.before.before.before.before.before.before.before.before.before.before.before.before.before.before.before.before.before.before.before.before.before.before.before.before.segment-count in
     let e = sym q.ensures ∙ not-false q.result c.before.before.before.before.before.before.before.before.before.before.before.before.before.before.before.before.before.before.before.before.before.before.if2.false in
-    let f = fit a.picture.now a.segments.now a.settings (six a.list a.cues a.pictures a.ends a.shows a.header) n.result n.ensures c.before.before.before.before.before.before.before.before.before.before.before.before.before.before.before.before.before.before.before.before.before.before.before.before.if1.false e b.result b.ensures (replicate (width * 64) 0) (length-replicate {A = ℕ} (width * 64) 0) in
+    let f = fit a.picture.now a.segments.now a.settings (six a.list.now a.cues.now a.pictures.now a.ends.now a.shows.now a.header.now) n.result n.ensures c.before.before.before.before.before.before.before.before.before.before.before.before.before.before.before.before.before.before.before.before.before.before.before.before.if1.false e b.result b.ensures (replicate (width * 64) 0) (length-replicate {A = ℕ} (width * 64) 0) in
     retold f w
 
 pub assemble-numbers-spec : {M : Type 1} → statement M

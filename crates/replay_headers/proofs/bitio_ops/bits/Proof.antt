@@ -6,14 +6,14 @@ use Rattle.replay_headers.specs.Headers.{reading_answer}
 use Rattle.replay_headers.proofs.bitio_ops.bits.Statement.{statement}
 use Rattle.replay_headers.proofs.bitio_ops.bits.Tie as tie
 
-returns : tie.Need-returns
-returns c = tells (λ l. l) _ _ _ _ c.before.before.pair.ensures c.before.before.before.before.done.ensures (ap reading_answer (sym c.before.before.before.before.before.before.before.before.f.ensures ∙ ap bits_says c.before.before.before.before.before.before.v.given.1))
+returns : tie.Need-returns-in-Value
+returns c = tells (λ l. l) _ _ _ _ c.pair.ensures c.done.ensures (ap reading_answer (sym c.f.ensures ∙ ap bits_says c.in-Value.is))
 
-returns-2 : tie.Need-returns-2
-returns-2 c = refuses (λ l. l) _ _ _ c.refused.ensures (ap reading_answer (sym c.before.before.before.f.ensures ∙ ap bits_says c.before.enum_told.given.1))
+returns-2 : tie.Need-returns-in-Short
+returns-2 c = refuses (λ l. l) _ _ _ c.refused.ensures (ap reading_answer (sym c.f.ensures ∙ ap bits_says c.in-Short.is))
 
-pub bits-spec : {M : Type 1} → statement M
-bits-spec =
+pub bits_spec : {M : Type 1} → statement M
+bits_spec =
     tie.close
     (tie.spec
     (λ c κs. search rules)

@@ -6,18 +6,18 @@ use Rattle.protocol.proofs.ToldLaws.{same-filled}
 use Rattle.replay_headers.proofs.bitio_ops.lebput.Statement.{statement}
 use Rattle.replay_headers.proofs.bitio_ops.lebput.Tie as tie
 
-returns : tie.Need-returns
+returns : tie.Need-returns-in-Next
 returns c =
-    let w = c.before.before.before.before.before.before.leb128-encode.ensures in
-    same-filled (c.parts.ensures ∙ ap count_told (sym (ap put_says c.before.before.n.given.1) ∙ w.0)) w.1
+    let w = c.leb128_encode.ensures in
+    same-filled (c.parts.ensures ∙ ap count_told (sym (ap put_says c.in-Next.is) ∙ w.0)) w.1
 
-returns-2 : tie.Need-returns-2
+returns-2 : tie.Need-returns-in-Full
 returns-2 c =
-    let w = c.before.before.before.before.before.leb128-encode.ensures in
-    same-filled (c.refused.ensures ∙ ap count_told (sym (ap put_says c.before.enum_told.given.1) ∙ w.0)) w.1
+    let w = c.leb128_encode.ensures in
+    same-filled (c.refused.ensures ∙ ap count_told (sym (ap put_says c.in-Full.is) ∙ w.0)) w.1
 
-pub lebput-spec : {M : Type 1} → statement M
-lebput-spec =
+pub lebput_spec : {M : Type 1} → statement M
+lebput_spec =
     tie.close
     (tie.spec
     (λ c κs. search rules)

@@ -6,17 +6,17 @@ use Rattle.replay_headers.specs.Headers.{reading_answer}
 use Rattle.replay_headers.proofs.bitio_ops.uvlc.Statement.{statement}
 use Rattle.replay_headers.proofs.bitio_ops.uvlc.Tie as tie
 
-returns : tie.Need-returns
-returns c = tells (λ l. l) _ _ _ _ c.before.before.pair.ensures c.before.before.before.before.done.ensures (ap reading_answer (sym c.before.before.before.before.before.before.before.before.uvlc.ensures ∙ ap uvlc_says c.before.before.before.before.before.before.v.given.1))
+returns : tie.Need-returns-in-Value
+returns c = tells (λ l. l) _ _ _ _ c.pair.ensures c.done.ensures (ap reading_answer (sym c.uvlc.ensures ∙ ap uvlc_says c.in-Value.is))
 
-returns-2 : tie.Need-returns-2
-returns-2 c = refuses (λ l. l) _ _ _ c.refused.ensures (ap reading_answer (sym c.before.before.before.uvlc.ensures ∙ ap uvlc_says c.before.enum_told.given.1))
+returns-2 : tie.Need-returns-in-Short
+returns-2 c = refuses (λ l. l) _ _ _ c.refused.ensures (ap reading_answer (sym c.uvlc.ensures ∙ ap uvlc_says c.in-Short.is))
 
-returns-3 : tie.Need-returns-3
-returns-3 c = refuses (λ l. l) _ _ _ c.refused2.ensures (ap reading_answer (sym c.before.before.before.uvlc.ensures ∙ ap uvlc_says c.before.enum-told2.given.1))
+returns-3 : tie.Need-returns-in-Long
+returns-3 c = refuses (λ l. l) _ _ _ c.refused-in-Long.ensures (ap reading_answer (sym c.uvlc.ensures ∙ ap uvlc_says c.in-Long.is))
 
-pub uvlc-spec : {M : Type 1} → statement M
-uvlc-spec =
+pub uvlc_spec : {M : Type 1} → statement M
+uvlc_spec =
     tie.close
     (tie.spec
     (λ c κs. search rules)

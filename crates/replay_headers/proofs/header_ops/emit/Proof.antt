@@ -5,20 +5,20 @@ use Rattle.replay_headers.proofs.HeaderReadLaws.{emitted-read, emitted-refused, 
 use Rattle.replay_headers.proofs.header_ops.emit.Statement.{statement}
 use Rattle.replay_headers.proofs.header_ops.emit.Tie as tie
 
-returns : tie.Need-returns
+returns : tie.Need-returns-in-Header
 returns c =
-    let p = c.before.before.before.before.before.before.before.before.before.parse-sequence-header in
-    let e = emitted-read _ p.result p.ensures _ _ _ _ (sym c.before.before.before.before.before.before.before.retimed.ensures ∙ ap sequence_says c.before.before.before.before.before.h.given.1) in
-    emits _ _ _ e c.before.before.emit-into.ensures
+    let p = c.parse_sequence_header-read in
+    let e = emitted-read _ p.result p.ensures _ _ _ _ (sym c.retimed.ensures ∙ ap sequence_says c.in-Header.is) in
+    emits _ _ _ e c.emit_into.ensures
 
-returns-2 : tie.Need-returns-2
+returns-2 : tie.Need-returns-in-Refused
 returns-2 c =
-    let p = c.before.before.before.before.before.before.parse-sequence-header in
-    let e = emitted-refused _ p.result p.ensures _ _ _ _ (sym c.before.before.before.before.retimed.ensures ∙ ap sequence_says c.before.before.k.given.1) in
+    let p = c.parse_sequence_header-read in
+    let e = emitted-refused _ p.result p.ensures _ _ _ _ (sym c.retimed.ensures ∙ ap sequence_says c.in-Refused.is) in
     emits_none _ _ _ e c.refused.ensures
 
-pub emit-spec : {M : Type 1} → statement M
-emit-spec =
+pub emit_spec : {M : Type 1} → statement M
+emit_spec =
     tie.close
     (tie.spec
     (λ c κs. search rules)

@@ -6,23 +6,23 @@ use Rattle.protocol.proofs.ToldLaws.{same-filled}
 use Rattle.replay_headers.proofs.header_ops.emit_into.Statement.{statement}
 use Rattle.replay_headers.proofs.header_ops.emit_into.Tie as tie
 
-returns : tie.Need-returns
+returns : tie.Need-returns-in-Next
 returns c =
-    let w = c.before.before.before.before.before.before.emit-sequence-header.ensures in
-    same-filled (c.parts.ensures ∙ ap count_told (sym (ap emit_says c.before.before.n.given.1) ∙ w.0)) w.1
+    let w = c.emit_sequence_header.ensures in
+    same-filled (c.parts.ensures ∙ ap count_told (sym (ap emit_says c.in-Next.is) ∙ w.0)) w.1
 
-returns-2 : tie.Need-returns-2
+returns-2 : tie.Need-returns-in-Unreadable
 returns-2 c =
-    let w = c.before.before.before.before.before.emit-sequence-header.ensures in
-    same-filled (c.refused.ensures ∙ ap count_told (sym (ap emit_says c.before.enum_told.given.1) ∙ w.0)) w.1
+    let w = c.emit_sequence_header.ensures in
+    same-filled (c.refused.ensures ∙ ap count_told (sym (ap emit_says c.in-Unreadable.is) ∙ w.0)) w.1
 
-returns-3 : tie.Need-returns-3
+returns-3 : tie.Need-returns-in-Full
 returns-3 c =
-    let w = c.before.before.before.before.before.emit-sequence-header.ensures in
-    same-filled (c.refused2.ensures ∙ ap count_told (sym (ap emit_says c.before.enum-told2.given.1) ∙ w.0)) w.1
+    let w = c.emit_sequence_header.ensures in
+    same-filled (c.refused-in-Full.ensures ∙ ap count_told (sym (ap emit_says c.in-Full.is) ∙ w.0)) w.1
 
-pub emit-into-spec : {M : Type 1} → statement M
-emit-into-spec =
+pub emit_into_spec : {M : Type 1} → statement M
+emit_into_spec =
     tie.close
     (tie.spec
     (λ c κs. search rules)

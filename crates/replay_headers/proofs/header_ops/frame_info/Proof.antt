@@ -4,9 +4,9 @@ use Rattle.replay_headers.proofs.header_ops.frame_info.Statement.{statement}
 use Rattle.replay_headers.proofs.header_ops.frame_info.Tie as tie
 
 returns : tie.Need-returns
-returns c = from-done _ _ c.before.before.list.ensures c.before.before.before.before.before.done.ensures
+returns c = from-done _ _ c.list.ensures c.done.ensures
 
-pub frame-info-spec : {M : Type 1} → statement M
-frame-info-spec =
+pub frame_info_spec : {M : Type 1} → statement M
+frame_info_spec =
     tie.close
     (tie.spec (λ c. search rules) (λ c. search rules) (λ c κs. search rules) (λ c. search rules) (λ c κs. search rules) (λ c. search rules) returns)

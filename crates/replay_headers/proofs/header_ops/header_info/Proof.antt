@@ -3,14 +3,14 @@ use Rattle.replay_headers.proofs.FieldNumberLaws.{from-done, frame-told}
 use Rattle.replay_headers.proofs.header_ops.header_info.Statement.{statement}
 use Rattle.replay_headers.proofs.header_ops.header_info.Tie as tie
 
-returns : tie.Need-returns
-returns c = frame-told _ _ (from-done _ _ c.before.before.pair.ensures c.before.before.before.before.done.ensures) c.before.before.before.before.before.before.x.given.1
+returns : tie.Need-returns-in-Existing
+returns c = frame-told _ _ (from-done _ _ c.pair.ensures c.done.ensures) c.in-Existing.is
 
-returns-2 : tie.Need-returns-2
-returns-2 c = frame-told _ _ c.before.before.frame-info.ensures c.before.before.before.before.before.x2.given.1
+returns-2 : tie.Need-returns-in-Frame
+returns-2 c = frame-told _ _ c.frame_info.ensures c.in-Frame.is
 
-pub header-info-spec : {M : Type 1} → statement M
-header-info-spec =
+pub header_info_spec : {M : Type 1} → statement M
+header_info_spec =
     tie.close
     (tie.spec
     (λ c. search rules)

@@ -5,18 +5,18 @@ use Rattle.replay_headers.proofs.HeaderReadLaws.{support-read, support-refused}
 use Rattle.replay_headers.proofs.header_ops.support.Statement.{statement}
 use Rattle.replay_headers.proofs.header_ops.support.Tie as tie
 
-returns : tie.Need-returns
+returns : tie.Need-returns-in-Header
 returns c =
-    let p = c.before.before.before.before.parse-sequence-header in
-    c.support-of.ensures ∙ ap (told_by _) (support-read _ p.result p.ensures _ c.before.before.answer.given.1)
+    let p = c.parse_sequence_header-read in
+    c.support_of.ensures ∙ ap (told_by _) (support-read _ p.result p.ensures _ c.in-Header.is)
 
-returns-2 : tie.Need-returns-2
+returns-2 : tie.Need-returns-in-Refused
 returns-2 c =
-    let p = c.before.before.before.before.parse-sequence-header in
-    c.refused.ensures ∙ ap (told_by _) (support-refused _ p.result p.ensures _ c.before.before.answer2.given.1)
+    let p = c.parse_sequence_header-read in
+    c.refused.ensures ∙ ap (told_by _) (support-refused _ p.result p.ensures _ c.in-Refused.is)
 
-pub support-spec : {M : Type 1} → statement M
-support-spec =
+pub support_spec : {M : Type 1} → statement M
+support_spec =
     tie.close
     (tie.spec
     (λ c κs. search rules)

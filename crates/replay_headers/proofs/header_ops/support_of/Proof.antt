@@ -5,14 +5,14 @@ use Rattle.protocol.specs.Told.{told_by}
 use Rattle.replay_headers.proofs.header_ops.support_of.Statement.{statement}
 use Rattle.replay_headers.proofs.header_ops.support_of.Tie as tie
 
-returns : tie.Need-returns
-returns c = c.done.ensures ∙ ap (told_by _) (sym (ap support_says c.before.enum_told.given.1) ∙ c.before.before.before.check-supported.ensures)
+returns : tie.Need-returns-in-Supported
+returns c = c.done.ensures ∙ ap (told_by _) (sym (ap support_says c.in-Supported.is) ∙ c.check_supported.ensures)
 
-returns-2 : tie.Need-returns-2
-returns-2 c = c.refused.ensures ∙ ap (told_by _) (sym (ap support_says c.before.before.k.given.1) ∙ c.before.before.before.before.check-supported.ensures)
+returns-2 : tie.Need-returns-in-Refused
+returns-2 c = c.refused.ensures ∙ ap (told_by _) (sym (ap support_says c.in-Refused.is) ∙ c.check_supported.ensures)
 
-pub support-of-spec : {M : Type 1} → statement M
-support-of-spec =
+pub support_of_spec : {M : Type 1} → statement M
+support_of_spec =
     tie.close
     (tie.spec
     (λ c κs. search rules)

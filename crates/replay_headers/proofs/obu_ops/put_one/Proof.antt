@@ -4,10 +4,10 @@ use Rattle.replay_headers.proofs.obu_ops.put_one.Statement.{statement}
 use Rattle.replay_headers.proofs.obu_ops.put_one.Tie as tie
 
 returns : tie.Need-returns
-returns c = tell-one _ _ _ _ _ c.before.before.before.before.before.before.before.before.before.before.before.before.extension-number.ensures c.before.before.before.before.before.before.before.payload.ensures c.before.before.before.before.before.before.before.before.before.before.pair.ensures c.before.before.before.before.part.ensures
+returns c = tell-one _ _ _ _ _ c.extension_number.ensures c.payload.ensures c.pair-answer.ensures c.part.ensures
 
-pub put-one-spec : {M : Type 1} → statement M
-put-one-spec =
+pub put_one_spec : {M : Type 1} → statement M
+put_one_spec =
     tie.close
     (tie.spec
     (λ c. search rules)

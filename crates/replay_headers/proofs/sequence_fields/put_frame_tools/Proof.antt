@@ -4,10 +4,10 @@ use Rattle.replay_headers.proofs.sequence_fields.put_frame_tools.Statement.{stat
 use Rattle.replay_headers.proofs.sequence_fields.put_frame_tools.Tie as tie
 
 returns : tie.Need-returns
-returns c = numbers-then _ _ _ (numbers-then _ _ _ (numbers-then _ _ _ (numbers-then _ _ _ c.before.before.before.before.before.before.before.before.before.before.before.before.before.before.before.before.before.before.put-size.ensures c.before.before.before.before.before.before.before.before.before.before.before.before.before.before.put-ids.ensures) c.before.before.before.before.before.before.before.before.before.before.put-tools.ensures) c.before.before.before.before.before.before.put-screen.ensures) c.before.before.put-filters.ensures
+returns c = numbers-then _ _ _ (numbers-then _ _ _ (numbers-then _ _ _ (numbers-then _ _ _ c.put_size-answer.ensures c.put_ids-answer.ensures) c.put_tools-answer.ensures) c.put_screen-answer.ensures) c.put_filters.ensures
 
-pub put-frame-tools-spec : {M : Type 1} → statement M
-put-frame-tools-spec =
+pub put_frame_tools_spec : {M : Type 1} → statement M
+put_frame_tools_spec =
     tie.close
     (tie.spec
     (λ c κs. search rules)

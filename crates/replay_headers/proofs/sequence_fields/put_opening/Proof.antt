@@ -4,10 +4,10 @@ use Rattle.replay_headers.proofs.sequence_fields.put_opening.Statement.{statemen
 use Rattle.replay_headers.proofs.sequence_fields.put_opening.Tie as tie
 
 returns : tie.Need-returns
-returns c = numbers-then _ _ _ (numbers-then _ _ _ (numbers-then _ _ _ c.before.before.before.before.before.before.before.before.before.before.before.before.before.before.before.list.ensures c.before.before.before.before.before.before.before.before.before.before.before.put-timing.ensures) c.before.before.before.before.before.before.before.put-model.ensures) c.before.before.number.ensures
+returns c = numbers-then _ _ _ (numbers-then _ _ _ (numbers-then _ _ _ c.list-answer.ensures c.put_timing-answer.ensures) c.put_model-answer.ensures) c.number.ensures
 
-pub put-opening-spec : {M : Type 1} → statement M
-put-opening-spec =
+pub put_opening_spec : {M : Type 1} → statement M
+put_opening_spec =
     tie.close
     (tie.spec
     (λ c. search rules)

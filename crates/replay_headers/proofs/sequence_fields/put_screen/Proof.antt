@@ -3,10 +3,10 @@ use Rattle.replay_headers.proofs.sequence_fields.put_screen.Statement.{statement
 use Rattle.replay_headers.proofs.sequence_fields.put_screen.Tie as tie
 
 returns : tie.Need-returns
-returns c = rw (← c.before.before.before.before.before.hint-bits.ensures) c.before.before.list.ensures
+returns c = rw (← c.hint_bits.ensures) c.list.ensures
 
-pub put-screen-spec : {M : Type 1} → statement M
-put-screen-spec =
+pub put_screen_spec : {M : Type 1} → statement M
+put_screen_spec =
     tie.close
     (tie.spec
     (λ c. search rules)

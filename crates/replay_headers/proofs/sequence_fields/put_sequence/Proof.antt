@@ -9,11 +9,11 @@ returns : tie.Need-returns
 unfolding sequence_fields
 returns c =
     from-done _ _
-    (numbers-then _ _ _ (numbers-then _ _ _ c.before.before.before.before.before.before.before.before.before.before.put-opening.ensures c.before.before.before.before.before.before.put-coding.ensures) c.before.before.put-points.ensures)
-    c.before.before.before.before.before.before.before.before.before.before.before.before.done.ensures
+    (numbers-then _ _ _ (numbers-then _ _ _ c.put_opening-answer.ensures c.put_coding-answer.ensures) c.put_points.ensures)
+    c.done.ensures
 
-pub put-sequence-spec : {M : Type 1} → statement M
-put-sequence-spec =
+pub put_sequence_spec : {M : Type 1} → statement M
+put_sequence_spec =
     tie.close
     (tie.spec
     (λ c κs. search rules)

@@ -7,16 +7,16 @@ use Rattle.replay_scan.proofs.deltas.put_deltas.Tie as tie
 returns : tie.Need-returns
 returns c =
     let y = c.before.before.before.before.before.before.before.before.before.before.before.before.before.before in
-    let f = y.before.struct_told.given in
-    let d = y.before.before.before.before.args.d in
+    let f = y.struct_told-1.given in
+    let d = y.args.d in
     numbers-then _ _ _
     (numbers-then _ _ _
-    (passed d.y_dc (record { sfits = f.0.1 }) _ y.put-signed.ensures)
-    (passed-both d.u_dc (record { sfits = f.1.0.1 }) d.u_ac (record { sfits = f.1.1.0.1 }) _ c.before.before.before.before.before.before.before.before.put-plane.ensures))
-    (passed-both d.v_dc (record { sfits = f.1.1.1.0.1 }) d.v_ac (record { sfits = f.1.1.1.1.0.1 }) _ c.before.before.put-plane2.ensures)
+    (passed d.y_dc (record { sfits = f.0.1 }) _ y.put_signed-answer.ensures)
+    (passed-both d.u_dc (record { sfits = f.1.0.1 }) d.u_ac (record { sfits = f.1.1.0.1 }) _ c.put_plane-answer.ensures))
+    (passed-both d.v_dc (record { sfits = f.1.1.1.0.1 }) d.v_ac (record { sfits = f.1.1.1.1.0.1 }) _ c.put_plane.ensures)
 
-pub put-deltas-spec : {M : Type 1} → statement M
-put-deltas-spec =
+pub put_deltas_spec : {M : Type 1} → statement M
+put_deltas_spec =
     tie.close
     (tie.spec
     (λ c κs. search rules)

@@ -9,10 +9,10 @@ returns c =
     let k = c.before.before in
     let l = k.before.before.before.before in
     let a = l.before.before.before in
-    numbers-then _ _ _ (passed a.args.dc a.ranges.dc _ l.put-signed.ensures) (passed a.args.ac a.ranges.ac _ k.put-signed2.ensures)
+    numbers-then _ _ _ (passed a.args.dc a.ranges.dc _ l.put_signed-answer.ensures) (passed a.args.ac a.ranges.ac _ k.put_signed.ensures)
 
-pub put-plane-spec : {M : Type 1} → statement M
-put-plane-spec =
+pub put_plane_spec : {M : Type 1} → statement M
+put_plane_spec =
     tie.close
     (tie.spec
     (λ c κs. search rules)

@@ -7,12 +7,12 @@ use Rattle.replay_scan.proofs.scan_ops.scan_one.Tie as tie
 
 returns : tie.Need-returns
 returns c =
-    let a = c.before.before.before.before.before.before.before.before.before.before.args in
-    let p = c.before.before.before.before.before.scan-uncompressed-header.ensures in
-    (ap (λ r. r.slots) p, c.before.before.put-frame.ensures ∙ ap (λ r. with_numbers (numbered a.turn.answer a.numbers.now) (frame_fields r.answer)) p)
+    let a = c.args in
+    let p = c.scan_uncompressed_header-step.ensures in
+    (ap (λ r. r.slots) p, c.put_frame.ensures ∙ ap (λ r. with_numbers (numbered a.turn.answer a.numbers.now) (frame_fields r.answer)) p)
 
-pub scan-one-spec : {M : Type 1} → statement M
-scan-one-spec =
+pub scan_one_spec : {M : Type 1} → statement M
+scan_one_spec =
     tie.close
     (tie.spec
     (λ c κs. search rules)

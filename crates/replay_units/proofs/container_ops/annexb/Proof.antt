@@ -7,9 +7,9 @@ use Rattle.replay_units.proofs.container_ops.annexb.Tie as tie
 
 returns : tie.Need-returns
 returns c =
-    let w = c.before.before.before.before.before.split-annexb.ensures in
-    same-parted (c.of-split.ensures ∙ ap sizes_told w.0) w.1.0 w.1.1
+    let w = c.split_annexb.ensures in
+    same-parted (c.of_split.ensures ∙ ap sizes_told w.0) w.1.0 w.1.1
 
-pub annexb-spec : {M : Type 1} → statement M
-annexb-spec =
+pub annexb_spec : {M : Type 1} → statement M
+annexb_spec =
     tie.close (tie.spec (λ c κs. search rules) (λ c κs. search rules) (λ c. search rules) (λ c. search rules) returns)

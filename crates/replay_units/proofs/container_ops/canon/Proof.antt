@@ -7,8 +7,8 @@ use Rattle.replay_units.proofs.container_ops.canon.Tie as tie
 
 returns : tie.Need-returns
 returns c =
-    let w = c.before.before.before.canonicalize-tu.ensures in
-    same-filled (c.of-count.ensures ∙ ap count_told w.0) w.1
+    let w = c.canonicalize_tu.ensures in
+    same-filled (c.of_count.ensures ∙ ap count_told w.0) w.1
 
-pub canon-spec : {M : Type 1} → statement M
-canon-spec = tie.close (tie.spec (λ c κs. search rules) (λ c κs. search rules) (λ c. search rules) returns)
+pub canon_spec : {M : Type 1} → statement M
+canon_spec = tie.close (tie.spec (λ c κs. search rules) (λ c κs. search rules) (λ c. search rules) returns)

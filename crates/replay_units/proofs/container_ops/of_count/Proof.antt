@@ -5,14 +5,14 @@ use Rattle.protocol.specs.Told.{count_told}
 use Rattle.replay_units.proofs.container_ops.of_count.Statement.{statement}
 use Rattle.replay_units.proofs.container_ops.of_count.Tie as tie
 
-returns : tie.Need-returns
-returns c = c.parts.ensures ∙ ap (λ x. count_told (byte_count_says x)) (sym c.before.before.answer.given.1)
+returns : tie.Need-returns-in-Bytes
+returns c = c.parts.ensures ∙ ap (λ x. count_told (byte_count_says x)) (sym c.in-Bytes.is)
 
-returns-2 : tie.Need-returns-2
-returns-2 c = c.refused.ensures ∙ ap (λ x. count_told (byte_count_says x)) (sym c.before.before.answer2.given.1)
+returns-2 : tie.Need-returns-in-Refused
+returns-2 c = c.refused.ensures ∙ ap (λ x. count_told (byte_count_says x)) (sym c.in-Refused.is)
 
-pub of-count-spec : {M : Type 1} → statement M
-of-count-spec =
+pub of_count_spec : {M : Type 1} → statement M
+of_count_spec =
     tie.close
     (tie.spec
     (λ c. search rules)

@@ -7,10 +7,10 @@ use Rattle.replay_units.proofs.container_ops.stream.Tie as tie
 
 returns : tie.Need-returns
 returns c =
-    let w = c.before.before.before.before.before.split-obu-stream.ensures in
-    same-parted (c.of-split.ensures ∙ ap sizes_told w.0) w.1.0 w.1.1
+    let w = c.split_obu_stream.ensures in
+    same-parted (c.of_split.ensures ∙ ap sizes_told w.0) w.1.0 w.1.1
 
-pub stream-spec : {M : Type 1} → statement M
-stream-spec =
+pub stream_spec : {M : Type 1} → statement M
+stream_spec =
     tie.close
     (tie.spec (λ c κs. search rules) (λ c κs. search rules) (λ c. search rules) (λ c. search rules) returns)

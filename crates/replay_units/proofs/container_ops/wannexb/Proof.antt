@@ -7,8 +7,8 @@ use Rattle.replay_units.proofs.container_ops.wannexb.Tie as tie
 
 returns : tie.Need-returns
 returns c =
-    let w = c.before.before.before.write-annexb.ensures in
-    same-filled (c.of-count.ensures ∙ ap count_told w.0) w.1
+    let w = c.write_annexb.ensures in
+    same-filled (c.of_count.ensures ∙ ap count_told w.0) w.1
 
-pub wannexb-spec : {M : Type 1} → statement M
-wannexb-spec = tie.close (tie.spec (λ c κs. search rules) (λ c κs. search rules) (λ c. search rules) returns)
+pub wannexb_spec : {M : Type 1} → statement M
+wannexb_spec = tie.close (tie.spec (λ c κs. search rules) (λ c κs. search rules) (λ c. search rules) returns)

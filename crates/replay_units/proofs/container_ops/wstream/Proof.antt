@@ -7,9 +7,9 @@ use Rattle.replay_units.proofs.container_ops.wstream.Tie as tie
 
 returns : tie.Need-returns
 returns c =
-    let w = c.before.before.before.write-obu-stream.ensures in
-    same-filled (c.of-count.ensures ∙ ap count_told w.0) w.1
+    let w = c.write_obu_stream.ensures in
+    same-filled (c.of_count.ensures ∙ ap count_told w.0) w.1
 
-pub wstream-spec : {M : Type 1} → statement M
-wstream-spec =
+pub wstream_spec : {M : Type 1} → statement M
+wstream_spec =
     tie.close (tie.spec (λ c κs. search rules) (λ c κs. search rules) (λ c. search rules) returns)
