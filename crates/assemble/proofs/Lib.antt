@@ -5,6 +5,5 @@ pub mod PlanLaws
 pub mod MultiLaws
 pub mod WholeLaws
 pub mod RecordLaws
-pub mod Relend
 pub mod Handed
 pub mod ExampleLaws

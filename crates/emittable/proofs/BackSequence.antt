@@ -37,7 +37,7 @@ model-delay timed m g =
     let (g, g4) = and_both _ _ g in
     let (g, g3) = and_both _ _ g in
     let (g1, g2) = and_both (flag_fits_or timed false m.decoder_model_info_present) _ g in
-    five m.decoder_model_info_present.now _ g2
+    five m.decoder_model_info_present _ g2
 
 pub opening-delay : (o : Opening) → opening_fits o ≡ true → delay_bits o ≤ 32
 unfolding opening_fits

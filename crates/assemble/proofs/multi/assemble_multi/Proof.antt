@@ -12,7 +12,7 @@ use Rattle.assemble.proofs.multi.assemble_multi.Tie as tie
 count-all-requires : tie.Need-count_all-need-requires
 count-all-requires c κs =
     let g = c in
-    let m = g.before.before.before.before.before.before in
+    let m = g in
     let a = m.args in
     let s = a.picture.now in
     let rs = a.segments.now in
@@ -22,77 +22,77 @@ count-all-requires c κs =
 
 fits-room-requires : tie.Need-fits_room-requires
 fits-room-requires c κs =
-    let g = c.before.before.before.before.before in
-    let m = g.before.before.before.before.before.before.before.before in
+    let g = c in
+    let m = g in
     let a = m.args in
     let s = a.picture.now in
     let rs = a.segments.now in
-    let y = plan-ready s rs _ _ _ _ _ g.answer3.given.1 g.payload.ensures m.plan_multi.ensures in
+    let y = plan-ready s rs _ _ _ _ _ g.in-Ready.is g.payload-new.ensures m.plan_multi-plan.ensures in
     let z = sound s rs a.settings (six a.list.now a.cues.now a.pictures.now a.ends.now a.shows.now a.header.now) _ _ _ _ y in
     let w = ap (λ (n : Counts). n.shows) c.count_all-need.ensures in
     omega (arith, z.count, w)
 
 returns : tie.Need-returns-then-not-fits_room
 returns c =
-    let g = c.before.before.before.before.before.before.before in
-    let m = g.before.before.before.before.before.before.before.before in
+    let g = c in
+    let m = g in
     let a = m.args in
     let s = a.picture.now in
     let rs = a.segments.now in
-    let y = plan-ready s rs _ _ _ _ _ g.answer3.given.1 g.payload.ensures m.plan_multi.ensures in
+    let y = plan-ready s rs _ _ _ _ _ g.in-Ready.is g.payload-new.ensures m.plan_multi-plan.ensures in
     full s rs a.settings (six a.list.now a.cues.now a.pictures.now a.ends.now a.shows.now a.header.now) _ _ _ _ y (sym (not-true _ c.if-not-fits_room.true-raw) ∙ c.fits_room.ensures ∙ ap (fits_in _) c.count_all-need.ensures)
 
 put-list-requires : tie.Need-put_list-requires
 put-list-requires c κs =
-    let g = c.before.before.before.before.before.before.before.before.before in
-    let m = g.before.before.before.before.before.before.before.before in
+    let g = c in
+    let m = g in
     let a = m.args in
     let s = a.picture.now in
     let rs = a.segments.now in
-    let y = plan-ready s rs _ _ _ _ _ g.answer3.given.1 g.payload.ensures m.plan_multi.ensures in
-    let e = c.before.before in
+    let y = plan-ready s rs _ _ _ _ _ g.in-Ready.is g.payload-new.ensures m.plan_multi-plan.ensures in
+    let e = c in
     let f = sym (not-false _ e.if-not-fits_room.false-raw) ∙ e.fits_room.ensures ∙ ap (fits_in _) e.count_all-need.ensures in
     can-lay s rs a.settings (six a.list.now a.cues.now a.pictures.now a.ends.now a.shows.now a.header.now) _ _ _ _ y f
 
 put-pictures-requires : tie.Need-put_pictures-requires
 put-pictures-requires c κs =
-    let g = c.before.before.before.before.before.before.before.before.before.before.before.before.before.before.before.before in
-    let m = g.before.before.before.before.before.before.before.before in
+    let g = c in
+    let m = g in
     let a = m.args in
     let s = a.picture.now in
     let rs = a.segments.now in
-    let y = plan-ready s rs _ _ _ _ _ g.answer3.given.1 g.payload.ensures m.plan_multi.ensures in
-    let e = c.before.before.before.before.before.before.before.before.before in
+    let y = plan-ready s rs _ _ _ _ _ g.in-Ready.is g.payload-new.ensures m.plan_multi-plan.ensures in
+    let e = c in
     let f = sym (not-false _ e.if-not-fits_room.false-raw) ∙ e.fits_room.ensures ∙ ap (fits_in _) e.count_all-need.ensures in
     can-pictures s rs a.settings (six a.list.now a.cues.now a.pictures.now a.ends.now a.shows.now a.header.now) _ _ _ _ y f
 
 put-shows-requires : tie.Need-put_shows-requires
 put-shows-requires c κs =
-    let g = c.before.before.before.before.before.before.before.before.before.before.before.before.before.before.before.before.before.before.before.before.before.before in
-    let m = g.before.before.before.before.before.before.before.before in
+    let g = c in
+    let m = g in
     let a = m.args in
     let s = a.picture.now in
     let rs = a.segments.now in
-    let y = plan-ready s rs _ _ _ _ _ g.answer3.given.1 g.payload.ensures m.plan_multi.ensures in
-    let e = c.before.before.before.before.before.before.before.before.before.before.before.before.before.before.before in
+    let y = plan-ready s rs _ _ _ _ _ g.in-Ready.is g.payload-new.ensures m.plan_multi-plan.ensures in
+    let e = c in
     let f = sym (not-false _ e.if-not-fits_room.false-raw) ∙ e.fits_room.ensures ∙ ap (fits_in _) e.count_all-need.ensures in
     can-shows s rs a.settings (six a.list.now a.cues.now a.pictures.now a.ends.now a.shows.now a.header.now) _ _ _ _ y f
 
 put-sequence-obu-requires : tie.Need-put_sequence_obu-requires
 put-sequence-obu-requires c κs =
-    let g = c.before.before.before.before.before.before.before.before.before.before.before.before.before.before.before.before.before.before.before.before.before.before.before.before.before.before in
-    let m = g.before.before.before.before.before.before.before.before in
+    let g = c in
+    let m = g in
     let a = m.args in
     let s = a.picture.now in
     let rs = a.segments.now in
-    let y = plan-ready s rs _ _ _ _ _ g.answer3.given.1 g.payload.ensures m.plan_multi.ensures in
-    let e = c.before.before.before.before.before.before.before.before.before.before.before.before.before.before.before.before.before.before.before in
+    let y = plan-ready s rs _ _ _ _ _ g.in-Ready.is g.payload-new.ensures m.plan_multi-plan.ensures in
+    let e = c in
     let f = sym (not-false _ e.if-not-fits_room.false-raw) ∙ e.fits_room.ensures ∙ ap (fits_in _) e.count_all-need.ensures in
     can-header s rs a.settings (six a.list.now a.cues.now a.pictures.now a.ends.now a.shows.now a.header.now) _ _ _ _ y f
 
 returns-2 : tie.Need-returns-in-Refused
 returns-2 c =
-    let m = c.before.before.before in
+    let m = c in
     let a = m.args in
     let s = a.picture.now in
     let rs = a.segments.now in
@@ -100,7 +100,7 @@ returns-2 c =
 
 returns-3 : tie.Need-returns-in-RefusedIn
 returns-3 c =
-    let m = c.before.before.before in
+    let m = c in
     let a = m.args in
     let s = a.picture.now in
     let rs = a.segments.now in
@@ -108,13 +108,13 @@ returns-3 c =
 
 returns-4 : tie.Need-returns-else-not-fits_room
 returns-4 c =
-    let g = c.before.before.before.before.before.before.before.before.before.before.before.before.before.before.before.before.before.before.before.before.before.before.before.before.before.before.before.before.before in
-    let m = g.before.before.before.before.before.before.before.before in
+    let g = c in
+    let m = g in
     let a = m.args in
     let s = a.picture.now in
     let rs = a.segments.now in
-    let y = plan-ready s rs _ _ _ _ _ g.answer3.given.1 g.payload.ensures m.plan_multi.ensures in
-    let e = c.before.before.before.before.before.before.before.before.before.before.before.before.before.before.before.before.before.before.before.before.before.before in
+    let y = plan-ready s rs _ _ _ _ _ g.in-Ready.is g.payload-new.ensures m.plan_multi-plan.ensures in
+    let e = c in
     let f = sym (not-false _ e.if-not-fits_room.false-raw) ∙ e.fits_room.ensures ∙ ap (fits_in _) e.count_all-need.ensures in
     let l = c.put_list.ensures in
     let p = c.put_pictures.ensures in

@@ -8,7 +8,7 @@ use Rattle.assemble.proofs.multi.count_all.Tie as tie
 
 returns : tie.Need-returns
 returns c =
-    let z = c.before.before.before.before.before.before.before.before in
+    let z = c in
     let a = z.args in
     let (gop, (_, small)) = z.requires in
     let k = c.segment_count-count.ensures in

@@ -14,26 +14,26 @@ use Rattle.assemble.proofs.multi.put_sequence_obu.Tie as tie
 
 put-measured-requires : tie.Need-put_measured-requires
 put-measured-requires c κs =
-    let z = c.before.before.before.before.before.before in
+    let z = c in
     let a = z.args in
     (one_passes, omega (arith, z.requires.1, length-new a.picture.now a.segments.now a.new.now a.basis c.if-basis.true))
 
 returns : tie.Need-returns-then-basis
 returns c =
-    let m = c.before.before in
+    let m = c in
     let a = m.args in
     m.put_measured.ensures.1 ∙ ap (pasted a.out.now 0) (sym (header-is-new a.picture.now a.segments.now a.new.now a.basis m.if-basis.true))
 
 put-measured-requires-2 : tie.Need-put_measured-requires-2
 put-measured-requires-2 c κs =
-    let z = c.before.before.before.before.before.before.before in
+    let z = c in
     let a = z.args in
     let l = ap (λ (l : List ℕ). obu_length (extension_says a.basis.extension) (length l)) c.own_payload.ensures in
     (one_passes, omega (arith, z.requires.1, l, length-own a.picture.now a.segments.now a.new.now a.basis c.if-basis.false))
 
 returns-2 : tie.Need-returns
 returns-2 c =
-    let m = c.before.before in
+    let m = c in
     let a = m.args in
     m.put_measured-2.ensures.1
     ∙ ap (λ (l : List ℕ). pasted a.out.now 0 (obu_bytes (obu 1 (extension_says a.basis.extension) l))) m.own_payload.ensures

@@ -17,12 +17,12 @@ returns-2 c =
 returns-3 : tie.Need-returns-in-Refused
 returns-3 c =
     let a = c.args in
-    check-unfit a.picture.now a.segments.now a.gop c.if-picture-gt-LIMIT.false _ _ (sym (ap checked_says c.ranges.given.1) ∙ c.check_ranges-ranges.ensures)
+    check-unfit a.picture.now a.segments.now a.gop c.if-picture-gt-LIMIT.false _ _ (sym (ap checked_says c.in-Refused.is) ∙ c.check_ranges-ranges.ensures)
 
 returns-4 : tie.Need-returns-in-RefusedIn
 returns-4 c =
     let a = c.args in
-    check-unfit a.picture.now a.segments.now a.gop c.if-picture-gt-LIMIT.false _ _ (sym (ap checked_says c.ranges2.given.1) ∙ c.check_ranges-ranges.ensures)
+    check-unfit a.picture.now a.segments.now a.gop c.if-picture-gt-LIMIT.false _ _ (sym (ap checked_says c.in-RefusedIn.is) ∙ c.check_ranges-ranges.ensures)
 
 pub check_input_spec : {M : Type 1} → statement M
 check_input_spec =

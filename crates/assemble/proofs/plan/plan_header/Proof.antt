@@ -20,7 +20,7 @@ first-payload c = let a = c.args in c.payload-first.ensures ∙ ap (λ (u : List
 
 plan-timing-requires : tie.Need-plan_timing-requires
 plan-timing-requires c κs =
-    let r = c.before.before.before.before in
+    let r = c in
     (r.requires.1, record { payload = _; read = sym (sym (ap (λ x. sequence_in x r.read_supported-read.result.operating_points) c.in-Header.is) ∙ read-says _ _ r.read_supported-read.ensures) })
 
 returns : tie.Need-returns-in-Refused
@@ -29,10 +29,10 @@ returns c =
     let s = a.picture.now in
     let rs = a.segments.now in
     let o = obu_in (head_key s rs) a.obu in
-    let r = c.before.before.before in
+    let r = c in
     none-planned-in s rs _ _ _ c.no_plan.ensures
     ∙ header_refused s rs a.settings o _
-    (sym (ap (λ x. sequence_in x r.read_supported-read.result.operating_points) c.in-Refused.is) ∙ read-says _ _ r.read_supported-read.ensures ∙ ap supported_sequence (first-payload r.before))
+    (sym (ap (λ x. sequence_in x r.read_supported-read.result.operating_points) c.in-Refused.is) ∙ read-says _ _ r.read_supported-read.ensures ∙ ap supported_sequence (first-payload r.before.before.before.before))
 
 returns-2 : tie.Need-returns-in-Refused-same_headers
 returns-2 c =
@@ -40,9 +40,9 @@ returns-2 c =
     let s = a.picture.now in
     let rs = a.segments.now in
     let o = obu_in (head_key s rs) a.obu in
-    let h = c.before.before in
-    let r = h.before.before.before in
-    let p = first-payload r.before in
+    let h = c in
+    let r = h in
+    let p = first-payload r.before.before.before.before.before.before in
     let read = sym (ap (λ x. sequence_in x r.read_supported-read.result.operating_points) h.in-Header.is) ∙ read-says _ _ r.read_supported-read.ensures ∙ ap supported_sequence p in
     none-planned s rs _ _ c.no_plan-in-Refused-same_headers.ensures
     ∙ header-other s rs a.settings o _ read _ _ (sym (ap checked_says c.in-Refused-same_headers.is) ∙ h.same_headers.ensures ∙ ap (λ (l : List ℕ). same_headers l 1 (later_segments s rs)) p)
@@ -53,9 +53,9 @@ returns-3 c =
     let s = a.picture.now in
     let rs = a.segments.now in
     let o = obu_in (head_key s rs) a.obu in
-    let h = c.before.before in
-    let r = h.before.before.before in
-    let p = first-payload r.before in
+    let h = c in
+    let r = h in
+    let p = first-payload r.before.before.before.before.before.before in
     let read = sym (ap (λ x. sequence_in x r.read_supported-read.result.operating_points) h.in-Header.is) ∙ read-says _ _ r.read_supported-read.ensures ∙ ap supported_sequence p in
     none-planned-in s rs _ _ _ c.no_plan-in-RefusedIn.ensures
     ∙ header-other s rs a.settings o _ read _ _ (sym (ap checked_says c.in-RefusedIn.is) ∙ h.same_headers.ensures ∙ ap (λ (l : List ℕ). same_headers l 1 (later_segments s rs)) p)
@@ -66,9 +66,9 @@ returns-4 c =
     let s = a.picture.now in
     let rs = a.segments.now in
     let o = obu_in (head_key s rs) a.obu in
-    let h = c.before.before in
-    let r = h.before.before.before in
-    let p = first-payload r.before in
+    let h = c in
+    let r = h in
+    let p = first-payload r.before.before.before.before.before.before in
     let read = sym (ap (λ x. sequence_in x r.read_supported-read.result.operating_points) h.in-Header.is) ∙ read-says _ _ r.read_supported-read.ensures ∙ ap supported_sequence p in
     c.plan_timing.ensures
     ∙ header-same s rs a.settings o _ read (sym (ap checked_says c.in-Fit.is) ∙ h.same_headers.ensures ∙ ap (λ (l : List ℕ). same_headers l 1 (later_segments s rs)) p)

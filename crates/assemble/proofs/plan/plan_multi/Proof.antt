@@ -26,7 +26,7 @@ key-of-requires c κs = omega (arith, (input-sound c).some-there)
 -- the first key's sequence header
 found : (c : tie.In-Found) → accepted (obu_in c.key_of.result.now c.in-Found.obu) ≡ first_sequence c.key_of.result.now
 unfolding and_next
-found c = let f = c.before in first_found f.key_of.result.now f.find_obu.result f.find_obu.ensures _ c.in-Found.is
+found c = let f = c in first_found f.key_of.result.now f.find_obu.result f.find_obu.ensures _ c.in-Found.is
 
 plan-header-requires : tie.Need-plan_header-requires
 plan-header-requires c κs = (omega (arith, (input-sound c.before.before.before).some-there), found_type _ _ (found c))
@@ -55,9 +55,9 @@ returns-3 c =
     let s = a.picture.now in
     let rs = a.segments.now in
     let set = a.settings in
-    let f = c.before.before in
+    let f = c in
     let u = f.key_of.ensures in
-    c.plan_header.ensures ∙ plan-found s rs set (fit f.before.before) _ (found_at _ _ c.in-Found.obu (found c.before) u)
+    c.plan_header.ensures ∙ plan-found s rs set (fit f.before.before.before.before) _ (found_at _ _ c.in-Found.obu (found c.before) u)
 
 returns-4 : tie.Need-returns-in-End
 unfolding and_next
@@ -66,9 +66,9 @@ returns-4 c =
     let s = a.picture.now in
     let rs = a.segments.now in
     let set = a.settings in
-    let f = c.before.before in
+    let f = c in
     none-planned-in s rs _ _ _ c.no_plan-in-End.ensures
-    ∙ plan-unfound s rs set (fit f.before.before) _ (first_found f.key_of.result.now f.find_obu.result f.find_obu.ensures _ c.in-End.is ∙ ap first_sequence f.key_of.ensures)
+    ∙ plan-unfound s rs set (fit f.before.before.before.before) _ (first_found f.key_of.result.now f.find_obu.result f.find_obu.ensures _ c.in-End.is ∙ ap first_sequence f.key_of.ensures)
 
 returns-5 : tie.Need-returns-in-Refused-find_obu
 unfolding and_next
@@ -77,9 +77,9 @@ returns-5 c =
     let s = a.picture.now in
     let rs = a.segments.now in
     let set = a.settings in
-    let f = c.before.before in
+    let f = c in
     none-planned-in s rs _ _ _ c.no_plan-in-Refused-find_obu.ensures
-    ∙ plan-unfound s rs set (fit f.before.before) _ (first_found f.key_of.result.now f.find_obu.result f.find_obu.ensures _ c.in-Refused-find_obu.is ∙ ap first_sequence f.key_of.ensures)
+    ∙ plan-unfound s rs set (fit f.before.before.before.before) _ (first_found f.key_of.result.now f.find_obu.result f.find_obu.ensures _ c.in-Refused-find_obu.is ∙ ap first_sequence f.key_of.ensures)
 
 pub plan_multi_spec : {M : Type 1} → statement M
 plan_multi_spec =

@@ -12,7 +12,7 @@ use Rattle.assemble.proofs.plan.plan_pictures.Tie as tie
 
 returns : tie.Need-returns-in-RefusedIn
 returns c =
-    let m = c.before.before in
+    let m = c in
     let a = m.args in
     let q = sequence_of a.basis.header a.points in
     none-planned-in a.picture.now a.segments.now _ _ _ c.no_plan.ensures
@@ -23,7 +23,7 @@ returns c =
 returns-2 : tie.Need-returns-in-Bytes
 unfolding plan_says
 returns-2 c =
-    let m = c.before in
+    let m = c in
     let a = m.args in
     let q = sequence_of a.basis.header a.points in
     pictures-made a.picture.now a.segments.now q a.basis.rewriting _ _ _

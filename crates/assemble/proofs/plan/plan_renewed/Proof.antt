@@ -9,8 +9,8 @@ use Rattle.assemble.proofs.plan.plan_renewed.Tie as tie
 
 returns : tie.Need-returns
 returns c =
-    let e = c.before.before.before in
-    let z = e.before.before.before.before in
+    let e = c in
+    let z = e in
     let a = z.args in
     let s = a.picture.now in
     let rs = a.segments.now in

@@ -19,8 +19,8 @@ returns c =
 
 plan-renewed-requires : tie.Need-plan_renewed-requires
 plan-renewed-requires c κs =
-    let m = c.before in
-    let z = m.before.before.before.before in
+    let m = c in
+    let z = m in
     let a = z.args in
     let (picture, (segments, (obu, (header, (points, (settings, _)))))) = z.well_formed in
     timed-emits a.header a.points a.settings z.requires.1 _ (sym (ap sequence_says c.in-Header.is) ∙ m.with_timing_info_rate.ensures)
@@ -28,14 +28,14 @@ plan-renewed-requires c κs =
 
 returns-2 : tie.Need-returns-in-Refused
 returns-2 c =
-    let m = c.before.before in
+    let m = c in
     let a = m.args in
     never-refused a.header a.points a.settings m.requires.1 _ (sym (ap sequence_says c.in-Refused.is) ∙ m.with_timing_info_rate.ensures)
 
 returns-3 : tie.Need-returns-in-Header
 returns-3 c =
-    let m = c.before.before in
-    let z = m.before.before.before.before in
+    let m = c in
+    let z = m in
     let a = z.args in
     let s = a.picture.now in
     let rs = a.segments.now in

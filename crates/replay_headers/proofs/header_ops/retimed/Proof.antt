@@ -1,10 +1,10 @@
 use borrow.Author.Rules.{rules}
-use Rattle.replay_headers.proofs.HeaderReadLaws.{is_timed, stays-refused, is-untimed}
+use Rattle.replay_headers.proofs.HeaderReadLaws.{is-timed, stays-refused, is-untimed}
 use Rattle.replay_headers.proofs.header_ops.retimed.Statement.{statement}
 use Rattle.replay_headers.proofs.header_ops.retimed.Tie as tie
 
 returns : tie.Need-returns-in-Header
-returns c = is_timed _ _ _ _ _ c.if-is_timed.true c.in-Header.is c.with_timing_info_rate.ensures
+returns c = is-timed _ _ _ _ _ c.if-is_timed.true c.in-Header.is c.with_timing_info_rate.ensures
 
 returns-2 : tie.Need-returns-in_default
 returns-2 c = let a = c.args in stays-refused a.is_timed a.num a.den a.answer _ c.in_default.is
