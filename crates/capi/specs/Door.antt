@@ -30,7 +30,7 @@ pub record StreamLent : Type 0 where
   pub units : ℕ
 
 abbrev pub four : (out ends : List ℕ) (bytes units : ℕ) → StreamLent
-four out ends bytes units = record { out = out.now; ends = ends.now; bytes = bytes.now; units = units.now }
+four out ends bytes units = record { out = out; ends = ends; bytes = bytes; units = units }
 
 -- what it holds afterwards
 abbrev pub stream_lent_after : Answer (List (List ℕ)) → StreamLent → StreamLent
@@ -58,7 +58,7 @@ counts_after (made c) n = record { units = c.units; cues = c.cues; picture = c.p
 counts_after (stopped k i) n = n
 
 abbrev pub five : (units cues picture header slot : ℕ) → Numbers
-five units cues picture header slot = record { units = units.now; cues = cues.now; picture = picture.now; header = header.now; slot = slot.now }
+five units cues picture header slot = record { units = units; cues = cues; picture = picture; header = header; slot = slot }
 
 -- the code, and the lent slices and numbers at exit
 pub record Called (x : Lent → Outcome Output) (r : ℕ) (d : Both Lent Lent) (n : Both Numbers Numbers) : Type 0 where

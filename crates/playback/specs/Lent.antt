@@ -32,7 +32,7 @@ store_after x d = record { bytes = bytes_after x d.bytes; ends = ends_after x d.
 
 -- what two lent slices hold, at one moment
 abbrev pub store : (bytes ends : List ℕ) → Store
-store bytes ends = record { bytes = bytes.now; ends = ends.now }
+store bytes ends = record { bytes = bytes; ends = ends }
 
 abbrev pub Stores : (Room → Answer (List (List ℕ))) → Split → Both Store Store → Type 0
 Stores x r = Does (λ d. sizes_of (x (store_room d))) (λ d. store_after (x (store_room d)) d) (split_says r)

@@ -35,13 +35,13 @@ pub record PlayLent : Type 0 where
 
 -- and what their lent slices hold, at one moment
 abbrev pub write_lent : (units unit_ends out : List ℕ) → WriteLent
-write_lent units unit_ends out = record { units = store units unit_ends; out = out.now }
+write_lent units unit_ends out = record { units = store units unit_ends; out = out }
 
 abbrev pub carry_lent : (units unit_ends out back back-ends : List ℕ) → CarryLent
 carry_lent units unit_ends out back back-ends = record { written = write_lent units unit_ends out; back = store back back-ends }
 
 abbrev pub play_lent : (units unit_ends out back back-ends shown : List ℕ) → PlayLent
-play_lent units unit_ends out back back-ends shown = record { carried = carry_lent units unit_ends out back back-ends; shown = shown.now }
+play_lent units unit_ends out back back-ends shown = record { carried = carry_lent units unit_ends out back back-ends; shown = shown }
 
 -- ---- what each stage answers, and what it leaves
 

@@ -11,24 +11,24 @@ same-lent : {o p e f : List ℕ} {b c u v : ℕ} → o ≡ p → e ≡ f → b �
     → ◌≡◌ {A = StreamLent} (record { out = o; ends = e; bytes = b; units = u }) (record { out = p; ends = f; bytes = c; units = v })
 same-lent i j k l = rw (i, j, k, l)
 
-returns : tie.Need-returns
+returns : tie.Need-returns-in-Refused
 returns c =
-    let u = c.before.before.before.before.before.before.before in
-    let a = u.before.before.before.before.before.before.args in
-    let (says, (out, ends)) = u.split-obu-stream.ensures in
-    let e = sym (ap split_says c.before.k.given.1) ∙ says in
+    let u = c in
+    let a = u.args in
+    let (says, (out, ends)) = u.split_obu_stream.ensures in
+    let e = sym (ap split_says c.in-Refused.is) ∙ says in
     record { code = ap code_of e; lent = same-lent out ends (ap (λ x. byte_count_after x a.bytes.now) e) (ap (λ x. unit_count_after x a.units.now) e) }
 
-returns-2 : tie.Need-returns-2
+returns-2 : tie.Need-returns-in-Units
 returns-2 c =
-    let u = c.before.before.before.before.before.before.before in
-    let a = u.before.before.before.before.before.before.args in
-    let (says, (out, ends)) = u.split-obu-stream.ensures in
-    let e = sym (ap split_says c.before.n.given.1) ∙ says in
+    let u = c in
+    let a = u.args in
+    let (says, (out, ends)) = u.split_obu_stream.ensures in
+    let e = sym (ap split_says c.in-Units.is) ∙ says in
     record { code = ap code_of e; lent = same-lent out ends (ap (λ x. byte_count_after x a.bytes.now) e) (ap (λ x. unit_count_after x a.units.now) e) }
 
-pub magbelo-split-obu-stream-spec : {M : Type 1} → statement M
-magbelo-split-obu-stream-spec =
+pub magbelo_split_obu_stream_spec : {M : Type 1} → statement M
+magbelo_split_obu_stream_spec =
     tie.close
     (tie.spec
     (λ c κs. search rules)

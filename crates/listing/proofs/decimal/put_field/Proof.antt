@@ -5,20 +5,20 @@ use Rattle.listing.proofs.TextLaws.{length-field}
 use Rattle.listing.proofs.decimal.put_field.Statement.{statement}
 use Rattle.listing.proofs.decimal.put_field.Tie as tie
 
-put-decimal-requires : tie.Need-put-decimal-requires
-put-decimal-requires c κs = omega (arith, length-field c.before.before.args.v c.before.before.args.last, c.before.before.requires)
+put-decimal-requires : tie.Need-put_decimal-end-requires
+put-decimal-requires c κs = omega (arith, length-field c.args.v c.args.last, c.requires)
 
-slice-write-out : tie.Need-slice-write-out
-slice-write-out c = omega (arith, length-field c.before.before.before.before.before.args.v c.before.before.before.before.before.args.last, c.before.before.before.before.before.requires, c.before.before.put-decimal.ensures.next)
+slice-write-out : tie.Need-bounds-out-end
+slice-write-out c = omega (arith, length-field c.args.v c.args.last, c.requires, c.put_decimal-end.ensures.next)
 
-add-result : tie.Need-overflow-add-result
-add-result c = omega (arith, length-field c.before.before.before.before.before.args.v c.before.before.before.before.before.args.last, c.before.before.before.before.before.requires, c.before.before.put-decimal.ensures.next)
+add-result : tie.Need-overflow_add-result
+add-result c = omega (arith, length-field c.args.v c.args.last, c.requires, c.put_decimal-end.ensures.next)
 
 returns : tie.Need-returns
-returns c = wrote-store c.before.before.put-decimal.ensures c.before.before.before.before.before.args.last (omega (arith, length-field c.before.before.before.before.before.args.v c.before.before.before.before.before.args.last, c.before.before.before.before.before.requires))
+returns c = wrote-store c.put_decimal-end.ensures c.args.last (omega (arith, length-field c.args.v c.args.last, c.requires))
 
-pub put-field-spec : {M : Type 1} → statement M
-put-field-spec =
+pub put_field_spec : {M : Type 1} → statement M
+put_field_spec =
     tie.close
     (tie.spec
     put-decimal-requires

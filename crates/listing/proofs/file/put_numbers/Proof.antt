@@ -6,40 +6,40 @@ use Rattle.listing.proofs.NumberLaws.{Numbering, numbering_start, numbering-turn
 use Rattle.listing.proofs.file.put_numbers.Statement.{statement}
 use Rattle.listing.proofs.file.put_numbers.Tie as tie
 
-abbrev invariant-loop : tie.invariant-loop
+abbrev invariant-loop : tie.invariant-loop-i
 invariant-loop numbers₀ file from count start₀ i₀ numbers start i = Numbering file numbers₀ from count numbers i start
 
-abbrev decreases-loop : tie.decreases-loop
+abbrev decreases-loop : tie.decreases-loop-i
 decreases-loop numbers₀ file from count start₀ i₀ numbers start i = count - i
 
-loop-holds : tie.Need-loop-init invariant-loop decreases-loop
+loop-holds : tie.Need-loop-i-init invariant-loop decreases-loop
 loop-holds c = numbering_start _ _ _ _
 
-mul-put-segment : tie.Need-overflow-mul-put-segment invariant-loop decreases-loop
-mul-put-segment c = omega (arith, c.before.before.before.before.before.requires.0.there, c.before.before.before.before.before.requires.0.small)
+mul-put-segment : tie.Need-overflow_mul-i invariant-loop decreases-loop
+mul-put-segment c = omega (arith, c.requires.0.there, c.requires.0.small)
 
-add-put-segment : tie.Need-overflow-add-put-segment invariant-loop decreases-loop
-add-put-segment c = omega (arith, c.before.before.before.before.before.requires.0.there, c.before.before.before.before.before.requires.0.small)
+add-put-segment : tie.Need-overflow_add-from invariant-loop decreases-loop
+add-put-segment c = omega (arith, c.requires.0.there, c.requires.0.small)
 
-put-segment-requires : tie.Need-put-segment-requires invariant-loop decreases-loop
+put-segment-requires : tie.Need-put_segment-start-requires invariant-loop decreases-loop
 put-segment-requires c κs =
-    let n = c.before.before.loop.invariant in
-    let r = c.before.before.before.before.before.requires.0 in
-    (omega (arith, n.kept, c.before.before.before.before.before.requires.1), (omega (arith, r.there), omega (arith, n.small, r.there, r.small)))
+    let n = c.loop-i.invariant in
+    let r = c.requires.0 in
+    (omega (arith, n.kept, c.requires.1), (omega (arith, r.there), omega (arith, n.small, r.there, r.small)))
 
-loop-again : tie.Need-loop-preserved invariant-loop decreases-loop
+loop-again : tie.Need-loop-i-preserved invariant-loop decreases-loop
 loop-again c =
-    let e = c.before.before.put-segment.ensures in
-    numbering-turn c.before.before.before.before.before.loop.invariant _ _ c.before.before.before.before.loop-test.true c.before.before.before.before.before.before.before.before.requires.1 e.0 e.1
+    let e = c.put_segment-start.ensures in
+    numbering-turn c.loop-i.invariant _ _ c.loop-i-test.true c.requires.1 e.0 e.1
 
-same_length : tie.Need-same-length invariant-loop decreases-loop
-same_length c = c.before.loop.invariant.kept
+same_length : tie.Need-shape_of-numbers invariant-loop decreases-loop
+same_length c = c.loop-i.invariant.kept
 
 returns : tie.Need-returns invariant-loop decreases-loop
-returns c = numbering-end c.before.loop.invariant c.loop-test.false
+returns c = numbering-end c.loop-i.invariant c.loop-i-test.false
 
-pub put-numbers-spec : {M : Type 1} → statement M
-put-numbers-spec =
+pub put_numbers_spec : {M : Type 1} → statement M
+put_numbers_spec =
     tie.close
     (tie.spec
     invariant-loop

@@ -10,15 +10,15 @@ use Rattle.listing.proofs.file.put_segment.Tie as tie
 
 returns : tie.Need-returns
 returns c =
-    let a = c.before.before.before.before.before.before.before.before.before.args in
-    let k = c.before.before.before.before.before.before.number.ensures in
-    let g = c.before.before.before.before.before.number2.ensures in
-    let f = c.before.before.before.before.number3.ensures in
+    let a = c.args in
+    let k = c.number.ensures in
+    let g = c.number-2.ensures in
+    let f = c.number-frames.ensures in
     let e = segment-is a.file.now a.from a.start k.0 g.0 f.0 in
-    ((omega (arith, k.0, g.0), omega (arith, k.1, g.1)), c.before.before.put_record.ensures ∙ ap (pasted a.numbers.now (width * a.i)) e)
+    ((omega (arith, k.0, g.0), omega (arith, k.1, g.1)), c.put_record.ensures ∙ ap (pasted a.numbers.now (width * a.i)) e)
 
-pub put-segment-spec : {M : Type 1} → statement M
-put-segment-spec =
+pub put_segment_spec : {M : Type 1} → statement M
+put_segment_spec =
     tie.close
     (tie.spec
     (λ c κs. search rules)

@@ -6,31 +6,31 @@ use Rattle.listing.proofs.FileLaws.{some-whole, read-bad, read-full, read_whole,
 use Rattle.listing.proofs.file.read_file.Statement.{statement}
 use Rattle.listing.proofs.file.read_file.Tie as tie
 
-returns : tie.Need-returns
-returns c = read-bad c.before.before.before.before.before.args.numbers.now c.before.before.before.before.before.args.file.now (sym (ap layout_says c.enum_told.given.1) ∙ c.before.before.find.ensures)
+returns : tie.Need-returns-in_default
+returns c = read-bad c.args.numbers.now c.args.file.now (sym (ap layout_says c.in_default.is) ∙ c.find.ensures)
 
-returns-2 : tie.Need-returns-2
+returns-2 : tie.Need-returns-then-numbers-count
 returns-2 c =
-    let w = some-whole c.before.before.before.before.before.before.before.args.file.now _ (sym (ap layout_says c.before.before.layout.given.1) ∙ c.before.before.before.before.find.ensures) in
-    read-full c.before.before.before.before.before.before.before.args.numbers.now c.before.before.before.before.before.before.before.args.file.now w c.if1.true
+    let w = some-whole c.args.file.now _ (sym (ap layout_says c.in-Whole.is) ∙ c.find.ensures) in
+    read-full c.args.numbers.now c.args.file.now w c.if-numbers-count.true
 
-add-put-numbers : tie.Need-overflow-add-put-numbers
+add-put-numbers : tie.Need-overflow_add-layout
 add-put-numbers c =
-    let w = some-whole c.before.before.before.before.before.before.before.before.before.args.file.now _ (sym (ap layout_says c.before.before.before.before.layout.given.1) ∙ c.before.before.before.before.before.before.find.ensures) in
-    omega (arith, (whole-records c.before.before.before.before.before.before.before.before.before.args.numbers.now c.before.before.before.before.before.before.before.before.before.args.file.now w).there, w.small)
+    let w = some-whole c.args.file.now _ (sym (ap layout_says c.in-Whole.is) ∙ c.find.ensures) in
+    omega (arith, (whole-records c.args.numbers.now c.args.file.now w).there, w.small)
 
-put-numbers-requires : tie.Need-put-numbers-requires
+put-numbers-requires : tie.Need-put_numbers-requires
 put-numbers-requires c κs =
-    let w = some-whole c.before.before.before.before.before.before.before.before.before.args.file.now _ (sym (ap layout_says c.before.before.before.before.layout.given.1) ∙ c.before.before.before.before.before.before.find.ensures) in
-    (whole-records c.before.before.before.before.before.before.before.before.before.args.numbers.now c.before.before.before.before.before.before.before.before.before.args.file.now w, omega (arith, c.before.before.if1.false))
+    let w = some-whole c.args.file.now _ (sym (ap layout_says c.in-Whole.is) ∙ c.find.ensures) in
+    (whole-records c.args.numbers.now c.args.file.now w, omega (arith, c.if-numbers-count.false))
 
-returns-3 : tie.Need-returns-3
+returns-3 : tie.Need-returns
 returns-3 c =
-    let w = some-whole c.before.before.before.before.before.before.before.before.before.before.before.before.args.file.now _ (sym (ap layout_says c.before.before.before.before.before.before.before.layout.given.1) ∙ c.before.before.before.before.before.before.before.before.before.find.ensures) in
-    read_whole c.before.before.before.before.before.before.before.before.before.before.before.before.args.numbers.now c.before.before.before.before.before.before.before.before.before.before.before.before.args.file.now w c.before.before.before.before.before.if1.false c.before.before.put-numbers.ensures
+    let w = some-whole c.args.file.now _ (sym (ap layout_says c.in-Whole.is) ∙ c.find.ensures) in
+    read_whole c.args.numbers.now c.args.file.now w c.if-numbers-count.false c.put_numbers.ensures
 
-pub read-file-spec : {M : Type 1} → statement M
-read-file-spec =
+pub read_file_spec : {M : Type 1} → statement M
+read_file_spec =
     tie.close
     (tie.spec
     (λ c κs. search rules)

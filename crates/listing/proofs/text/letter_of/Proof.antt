@@ -2,14 +2,14 @@ use Rattle.listing.proofs.TextLaws.{letter-key, letter-golden, letter-show}
 use Rattle.listing.proofs.text.letter_of.Statement.{statement}
 use Rattle.listing.proofs.text.letter_of.Tie as tie
 
-returns : tie.Need-returns
-returns c = letter-key _ c.if1.true
+returns : tie.Need-returns-then-entry-eq0
+returns c = letter-key _ c.if-entry-eq0.true
 
-returns-2 : tie.Need-returns-2
-returns-2 c = letter-golden _ c.if2.true
+returns-2 : tie.Need-returns-then-entry-eq1
+returns-2 c = letter-golden _ c.if-entry-eq1.true
 
-returns-3 : tie.Need-returns-3
-returns-3 c = letter-show _ c.before.if1.false c.if2.false
+returns-3 : tie.Need-returns
+returns-3 c = letter-show _ c.if-entry-eq0.false c.if-entry-eq1.false
 
-pub letter-of-spec : {M : Type 1} → statement M
-letter-of-spec = tie.close (tie.spec returns returns-2 returns-3)
+pub letter_of_spec : {M : Type 1} → statement M
+letter_of_spec = tie.close (tie.spec returns returns-2 returns-3)

@@ -8,30 +8,30 @@ use Rattle.listing.proofs.TextLaws.{line-digits}
 use Rattle.listing.proofs.text.line_len.Statement.{statement}
 use Rattle.listing.proofs.text.line_len.Tie as tie
 
-add-head : tie.Need-overflow-add-head
-add-head c = omega (arith, c.before.decimal-len.ensures.1, c.decimal-len2.ensures.1)
+add-head : tie.Need-overflow_add-head
+add-head c = omega (arith, c.decimal_len.ensures.1, c.decimal_len-2.ensures.1)
 
-add-head-2 : tie.Need-overflow-add-head-2
-add-head-2 c = omega (arith, c.before.decimal-len.ensures.1, c.decimal-len2.ensures.1)
+add-head-2 : tie.Need-overflow_add-head-2
+add-head-2 c = omega (arith, c.decimal_len.ensures.1, c.decimal_len-2.ensures.1)
 
-add-result : tie.Need-overflow-add-result
-add-result c = omega (arith, c.before.before.decimal-len.ensures.1, c.before.decimal-len2.ensures.1, c.slot-len.ensures.1)
+add-result : tie.Need-overflow_add-result
+add-result c = omega (arith, c.decimal_len.ensures.1, c.decimal_len-2.ensures.1, c.slot_len.ensures.1)
 
-add-result-2 : tie.Need-overflow-add-result-2
-add-result-2 c = omega (arith, c.before.before.before.decimal-len.ensures.1, c.before.before.decimal-len2.ensures.1, c.before.slot-len.ensures.1, c.decimal-len3.ensures.1)
+add-result-2 : tie.Need-overflow_add-result-2
+add-result-2 c = omega (arith, c.decimal_len.ensures.1, c.decimal_len-2.ensures.1, c.slot_len.ensures.1, c.decimal_len-3.ensures.1)
 
-add-result-3 : tie.Need-overflow-add-result-3
-add-result-3 c = omega (arith, c.before.before.before.decimal-len.ensures.1, c.before.before.decimal-len2.ensures.1, c.before.slot-len.ensures.1, c.decimal-len3.ensures.1)
+add-result-3 : tie.Need-overflow_add-result-3
+add-result-3 c = omega (arith, c.decimal_len.ensures.1, c.decimal_len-2.ensures.1, c.slot_len.ensures.1, c.decimal_len-3.ensures.1)
 
 returns : tie.Need-returns
 returns c =
-    let a = c.before.before.before.before.before.before.before.before.args in
-    let u = ap (λ (n : ℕ). length (decimal n)) c.before.before.before.before.unit-len.ensures in
+    let a = c.args in
+    let u = ap (λ (n : ℕ). length (decimal n)) c.unit_len-len.ensures in
     let e = line-digits a.pictures.now a.ends.now a.shows.now a.position a.entry in
-    omega (arith, e, u, c.before.before.before.decimal-len.ensures.0, c.before.before.decimal-len2.ensures.0, c.before.slot-len.ensures.0, c.decimal-len3.ensures.0)
+    omega (arith, e, u, c.decimal_len.ensures.0, c.decimal_len-2.ensures.0, c.slot_len.ensures.0, c.decimal_len-3.ensures.0)
 
-pub line-len-spec : {M : Type 1} → statement M
-line-len-spec =
+pub line_len_spec : {M : Type 1} → statement M
+line_len_spec =
     tie.close
     (tie.spec
     (λ c κs. search rules)

@@ -6,26 +6,26 @@ use Rattle.listing.proofs.TextLaws.{Fitting, fit-start, fit-turn, fit-over, fit-
 use Rattle.listing.proofs.text.lines_fit.Statement.{statement}
 use Rattle.listing.proofs.text.lines_fit.Tie as tie
 
-abbrev invariant-loop : tie.invariant-loop
+abbrev invariant-loop : tie.invariant-loop-i
 invariant-loop room list pictures ends shows left₀ i₀ left i = Fitting pictures ends shows list room i left
 
-abbrev decreases-loop : tie.decreases-loop
+abbrev decreases-loop : tie.decreases-loop-i
 decreases-loop room list pictures ends shows left₀ i₀ left i = length list - i
 
-loop-holds : tie.Need-loop-init invariant-loop decreases-loop
+loop-holds : tie.Need-loop-i-init invariant-loop decreases-loop
 loop-holds c = fit-start _ _ _ _ _
 
-returns : tie.Need-returns invariant-loop decreases-loop
-returns c = fit-over c.before.before.before.before.loop.invariant _ c.before.before.before.loop-test.true c.before.line-len.ensures c.if1.true
+returns : tie.Need-returns-then-n-left invariant-loop decreases-loop
+returns c = fit-over c.loop-i.invariant _ c.loop-i-test.true c.line_len-n.ensures c.if-n-left.true
 
-loop-again : tie.Need-loop-preserved invariant-loop decreases-loop
-loop-again c = fit-turn c.before.before.before.before.loop.invariant _ c.before.before.before.loop-test.true c.before.line-len.ensures c.if1.false
+loop-again : tie.Need-loop-i-preserved invariant-loop decreases-loop
+loop-again c = fit-turn c.loop-i.invariant _ c.loop-i-test.true c.line_len-n.ensures c.if-n-left.false
 
-returns-2 : tie.Need-returns-2 invariant-loop decreases-loop
-returns-2 c = fit-end c.before.loop.invariant c.loop-test.false
+returns-2 : tie.Need-returns invariant-loop decreases-loop
+returns-2 c = fit-end c.loop-i.invariant c.loop-i-test.false
 
-pub lines-fit-spec : {M : Type 1} → statement M
-lines-fit-spec =
+pub lines_fit_spec : {M : Type 1} → statement M
+lines_fit_spec =
     tie.close
     (tie.spec
     invariant-loop

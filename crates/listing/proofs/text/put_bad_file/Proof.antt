@@ -7,21 +7,18 @@ use Rattle.listing.proofs.WroteLaws.{wrote-all}
 use Rattle.listing.proofs.text.put_bad_file.Statement.{statement}
 use Rattle.listing.proofs.text.put_bad_file.Tie as tie
 
-returns : tie.Need-returns
-returns c = let d = c.before.before.args.out.now in (sym (placed-full d 0 bad_file (omega arith)), sym (lent-full d 0 bad_file (omega arith)))
+returns : tie.Need-returns-then-out-lt9
+returns c = let d = c.args.out.now in (sym (placed-full d 0 bad_file (omega arith)), sym (lent-full d 0 bad_file (omega arith)))
 
-slice-aggregate-put-bytes : tie.Need-slice-aggregate-put-bytes
-slice-aggregate-put-bytes c = search rules
-
-put-bytes-requires : tie.Need-put-bytes-requires
+put-bytes-requires : tie.Need-put_bytes-to-requires
 put-bytes-requires c κs = search rules
 
-same_length : tie.Need-same-length
+same_length : tie.Need-shape_of-out
 same_length c = search rules
 
-returns-2 : tie.Need-returns-2
-returns-2 c = let e = c.before.before.put-bytes.ensures in wrote-all (record { next = e.0; out = e.1 }) (omega arith)
+returns-2 : tie.Need-returns
+returns-2 c = let e = c.put_bytes-to.ensures in wrote-all (record { next = e.0; out = e.1 }) (omega arith)
 
-pub put-bad-file-spec : {M : Type 1} → statement M
-put-bad-file-spec =
-    tie.close (tie.spec returns slice-aggregate-put-bytes put-bytes-requires same_length returns-2)
+pub put_bad_file_spec : {M : Type 1} → statement M
+put_bad_file_spec =
+    tie.close (tie.spec returns put-bytes-requires same_length returns-2)

@@ -8,30 +8,29 @@ use Rattle.listing.proofs.TextLaws.{length-counted}
 use Rattle.listing.proofs.text.put_refused.Statement.{statement}
 use Rattle.listing.proofs.text.put_refused.Tie as tie
 
-add-if1 : tie.Need-overflow-add-if1
-add-if1 c = omega (arith, c.decimal-len.ensures.1)
+add-if1 : tie.Need-overflow_add-decimal_len
+add-if1 c = omega (arith, c.decimal_len.ensures.1)
 
-returns : tie.Need-returns
+returns : tie.Need-returns-then-out-decimal_len
 returns c =
-    let d = c.before.before.before.args.out.now in
-    let t = refused_text c.before.before.before.args.number in
-    let e = length-counted refused_word c.before.before.before.args.number 10 in
-    (sym (placed-full d 0 t (omega (arith, e, c.before.decimal-len.ensures.0, c.if1.true))), sym (lent-full d 0 t (omega (arith, e, c.before.decimal-len.ensures.0, c.if1.true))))
+    let d = c.args.out.now in
+    let t = refused_text c.args.number in
+    let e = length-counted refused_word c.args.number 10 in
+    (sym (placed-full d 0 t (omega (arith, e, c.decimal_len.ensures.0, c.if-out-decimal_len.true))), sym (lent-full d 0 t (omega (arith, e, c.decimal_len.ensures.0, c.if-out-decimal_len.true))))
 
-put-counted-requires : tie.Need-put-counted-requires
-put-counted-requires c κs = omega (arith, length-counted refused_word c.before.before.before.before.before.args.number 10, c.before.before.before.decimal-len.ensures.0, c.before.before.if1.false)
+put-counted-requires : tie.Need-put_counted-to-requires
+put-counted-requires c κs = omega (arith, length-counted refused_word c.args.number 10, c.decimal_len.ensures.0, c.if-out-decimal_len.false)
 
-returns-2 : tie.Need-returns-2
-returns-2 c = wrote-all c.before.before.put-counted.ensures (omega (arith, length-counted refused_word c.before.before.before.before.before.before.before.before.args.number 10, c.before.before.before.before.before.before.decimal-len.ensures.0, c.before.before.before.before.before.if1.false))
+returns-2 : tie.Need-returns
+returns-2 c = wrote-all c.put_counted-to.ensures (omega (arith, length-counted refused_word c.args.number 10, c.decimal_len.ensures.0, c.if-out-decimal_len.false))
 
-pub put-refused-spec : {M : Type 1} → statement M
-put-refused-spec =
+pub put_refused_spec : {M : Type 1} → statement M
+put_refused_spec =
     tie.close
     (tie.spec
     (λ c κs. search rules)
     add-if1
     returns
-    (λ c. search rules)
     put-counted-requires
     (λ c. search rules)
     returns-2)

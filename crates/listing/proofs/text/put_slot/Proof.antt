@@ -6,20 +6,20 @@ use Rattle.listing.proofs.TextLaws.{slot-key, slot-other}
 use Rattle.listing.proofs.text.put_slot.Statement.{statement}
 use Rattle.listing.proofs.text.put_slot.Tie as tie
 
-put-two-requires : tie.Need-put-two-requires
-put-two-requires c κs = omega (arith, c.before.before.before.before.requires, ap length (slot-key c.before.before.before.before.args.shows.now c.before.before.before.before.args.entry c.before.if1.true))
+put-two-requires : tie.Need-put_two-requires
+put-two-requires c κs = omega (arith, c.requires, ap length (slot-key c.args.shows.now c.args.entry c.if-entry-eq0.true))
 
-returns : tie.Need-returns
-returns c = rw (slot-key c.before.before.before.before.before.before.before.args.shows.now c.before.before.before.before.before.before.before.args.entry c.before.before.before.before.if1.true) c.before.before.put_two.ensures
+returns : tie.Need-returns-then-entry-eq0
+returns c = rw (slot-key c.args.shows.now c.args.entry c.if-entry-eq0.true) c.put_two.ensures
 
-put-field-requires : tie.Need-put-field-requires
-put-field-requires c κs = rw c.before.slot_of.ensures (omega (arith, c.before.before.before.before.before.requires, ap length (slot-other c.before.before.before.before.before.args.shows.now c.before.before.before.before.before.args.entry c.before.before.if1.false)))
+put-field-requires : tie.Need-put_field-requires
+put-field-requires c κs = rw c.slot_of-slot.ensures (omega (arith, c.requires, ap length (slot-other c.args.shows.now c.args.entry c.if-entry-eq0.false)))
 
-returns-2 : tie.Need-returns-2
-returns-2 c = rw (slot-other c.before.before.before.before.before.before.before.before.args.shows.now c.before.before.before.before.before.before.before.before.args.entry c.before.before.before.before.before.if1.false, ← c.before.before.before.before.slot_of.ensures) c.before.before.put-field.ensures
+returns-2 : tie.Need-returns
+returns-2 c = rw (slot-other c.args.shows.now c.args.entry c.if-entry-eq0.false, ← c.slot_of-slot.ensures) c.put_field.ensures
 
-pub put-slot-spec : {M : Type 1} → statement M
-put-slot-spec =
+pub put_slot_spec : {M : Type 1} → statement M
+put_slot_spec =
     tie.close
     (tie.spec
     put-two-requires

@@ -5,23 +5,23 @@ use Rattle.listing.proofs.TextLaws.{slot-none}
 use Rattle.listing.proofs.text.slot_of.Statement.{statement}
 use Rattle.listing.proofs.text.slot_of.Tie as tie
 
-mul-i : tie.Need-overflow-mul-i
+mul-i : tie.Need-overflow_mul-i
 mul-i c = search rules
 
-add-i : tie.Need-overflow-add-i
+add-i : tie.Need-overflow_add-i
 add-i c = search rules
 
-shared-slice-read-byte : tie.Need-shared-slice-read-byte
+shared-slice-read-byte : tie.Need-bounds-shows-i
 shared-slice-read-byte c = search rules
 
-cast-byte : tie.Need-overflow-cast-byte
-cast-byte c = omega (arith, c.shared-slice-known.given (5 * c.before.before.args.segment + 4))
+cast-byte : tie.Need-overflow_cast-byte
+cast-byte c = omega (arith, c.shared_slice_known-1.given (5 * c.args.segment + 4))
 
-returns : tie.Need-returns
+returns : tie.Need-returns-then-i-shows
 returns c = search rules
 
-returns-2 : tie.Need-returns-2
-returns-2 c = slot-none c.before.args.shows.now c.before.args.segment c.if1.false
+returns-2 : tie.Need-returns
+returns-2 c = slot-none c.args.shows.now c.args.segment c.if-i-shows.false
 
-pub slot-of-spec : {M : Type 1} → statement M
-slot-of-spec = tie.close (tie.spec mul-i add-i shared-slice-read-byte cast-byte returns returns-2)
+pub slot_of_spec : {M : Type 1} → statement M
+slot_of_spec = tie.close (tie.spec mul-i add-i shared-slice-read-byte cast-byte returns returns-2)

@@ -4,11 +4,11 @@ use lib.ListN.{length}
 use Rattle.listing.proofs.text.unit_len.Statement.{statement}
 use Rattle.listing.proofs.text.unit_len.Tie as tie
 
-unit-requires : tie.Need-unit-requires
+unit-requires : tie.Need-unit-bytes-requires
 unit-requires c κs = search rules
 
 returns : tie.Need-returns
-returns c = ap length c.unit.ensures
+returns c = ap length c.unit-bytes.ensures
 
-pub unit-len-spec : {M : Type 1} → statement M
-unit-len-spec = tie.close (tie.spec unit-requires returns)
+pub unit_len_spec : {M : Type 1} → statement M
+unit_len_spec = tie.close (tie.spec unit-requires returns)

@@ -7,53 +7,53 @@ use Rattle.playback.proofs.GatherLaws.{left, left-next, left-none, Putting, putt
 use Rattle.playback.proofs.gather.put_units.Statement.{statement}
 use Rattle.playback.proofs.gather.put_units.Tie as tie
 
-abbrev invariant-loop : tie.invariant-loop
+abbrev invariant-loop : tie.invariant-loop-i
 invariant-loop units₀ unit-ends₀ list pictures ends shows w₀ i₀ units unit_ends w i =
     Putting (units_named list pictures ends shows) (left list pictures ends shows i) units₀ unit-ends₀ w i units unit_ends
 
-abbrev decreases-loop : tie.decreases-loop
+abbrev decreases-loop : tie.decreases-loop-i
 decreases-loop units₀ unit-ends₀ list pictures ends shows w₀ i₀ units unit_ends w i = length list - i
 
-loop-holds : tie.Need-loop-init invariant-loop decreases-loop
-loop-holds c = putting-start c.before.before.before.before.before.before.requires
+loop-holds : tie.Need-loop-i-init invariant-loop decreases-loop
+loop-holds c = putting-start c.requires
 
-put-bytes-requires : tie.Need-put-bytes-requires invariant-loop decreases-loop
+put-bytes-requires : tie.Need-put_bytes-w-requires invariant-loop decreases-loop
 put-bytes-requires c κs =
-    let u = c.before in
-    let t = u.before.before in
-    putting-room t.before.loop.invariant (left-next _ _ _ _ _ t.loop-test.true) u.unit.ensures
+    let u = c in
+    let t = u in
+    putting-room t.loop-i.invariant (left-next _ _ _ _ _ t.loop-i-test.true) u.unit-u.ensures
 
-cast-unit-ends : tie.Need-overflow-cast-unit-ends invariant-loop decreases-loop
+cast-unit-ends : tie.Need-overflow_cast-unit_ends invariant-loop decreases-loop
 cast-unit-ends c =
-    let b = c.before.before in
-    let u = b.before.before in
-    let t = u.before.before in
-    omega (arith, putting-small t.before.loop.invariant (left-next _ _ _ _ _ t.loop-test.true) u.unit.ensures b.put-bytes.ensures.0)
+    let b = c in
+    let u = b in
+    let t = u in
+    omega (arith, putting-small t.loop-i.invariant (left-next _ _ _ _ _ t.loop-i-test.true) u.unit-u.ensures b.put_bytes-w.ensures.0)
 
-slice-write-unit-ends : tie.Need-slice-write-unit-ends invariant-loop decreases-loop
+slice-write-unit-ends : tie.Need-bounds-unit_ends-i invariant-loop decreases-loop
 slice-write-unit-ends c =
-    let u = c.before.before.before.before in
-    let t = u.before.before in
-    putting-slot t.before.loop.invariant (left-next _ _ _ _ _ t.loop-test.true) u.unit.ensures
+    let u = c in
+    let t = u in
+    putting-slot t.loop-i.invariant (left-next _ _ _ _ _ t.loop-i-test.true) u.unit-u.ensures
 
-loop-again : tie.Need-loop-preserved invariant-loop decreases-loop
+loop-again : tie.Need-loop-i-preserved invariant-loop decreases-loop
 loop-again c =
-    let b = c.before.before in
-    let u = b.before.before in
-    let t = u.before.before in
-    putting-next t.before.loop.invariant (left-next _ _ _ _ _ t.loop-test.true) u.unit.ensures b.put-bytes.ensures.0 b.put-bytes.ensures.1
+    let b = c in
+    let u = b in
+    let t = u in
+    putting-next t.loop-i.invariant (left-next _ _ _ _ _ t.loop-i-test.true) u.unit-u.ensures b.put_bytes-w.ensures.0 b.put_bytes-w.ensures.1
 
-same_length : tie.Need-same-length invariant-loop decreases-loop
-same_length c = c.before.loop.invariant.long
+same_length : tie.Need-shape_of-units invariant-loop decreases-loop
+same_length c = c.loop-i.invariant.long
 
-same-length-2 : tie.Need-same-length-2 invariant-loop decreases-loop
-same-length-2 c = c.before.loop.invariant.slots-long
+same-length-2 : tie.Need-shape_of-unit_ends invariant-loop decreases-loop
+same-length-2 c = c.loop-i.invariant.slots-long
 
 returns : tie.Need-returns invariant-loop decreases-loop
-returns c = putting-end c.before.loop.invariant (left-none _ _ _ _ _ c.loop-test.false)
+returns c = putting-end c.loop-i.invariant (left-none _ _ _ _ _ c.loop-i-test.false)
 
-pub put-units-spec : {M : Type 1} → statement M
-put-units-spec =
+pub put_units_spec : {M : Type 1} → statement M
+put_units_spec =
     tie.close
     (tie.spec
     invariant-loop

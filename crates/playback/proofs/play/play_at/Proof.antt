@@ -7,18 +7,18 @@ use Rattle.playback.proofs.ShownLaws.{unit-at}
 use Rattle.playback.proofs.play.play_at.Statement.{statement}
 use Rattle.playback.proofs.play.play_at.Tie as tie
 
-cast-end : tie.Need-overflow-cast-end
-cast-end c = omega (arith, c.shared-slice-known3.given c.before.before.before.before.args.i)
+cast-end : tie.Need-overflow_cast-end
+cast-end c = omega (arith, c.shared_slice_known-3-1.given c.args.i)
 
 returns : tie.Need-returns
 returns c =
-    let p = c.before in
-    let s = p.before.before in
-    let a = s.before.before.before.args in
-    c.step.ensures ∙ ap (λ y. played_by a.state (a.i + 1) y) (unit-at a.units.now a.ends.now a.i s.start_of_lem.ensures p.payload.ensures)
+    let p = c in
+    let s = p in
+    let a = s.args in
+    c.step.ensures ∙ ap (λ y. played_by a.state (a.i + 1) y) (unit-at a.units.now a.ends.now a.i s.start_of-start.ensures p.payload.ensures)
 
-pub play-at-spec : {M : Type 1} → statement M
-play-at-spec =
+pub play_at_spec : {M : Type 1} → statement M
+play_at_spec =
     tie.close
     (tie.spec
     (λ c κs. search rules)

@@ -6,30 +6,30 @@ use Rattle.playback.proofs.way.carry_list.Statement.{statement}
 use Rattle.playback.proofs.way.carry_list.Tie as tie
 
 -- the place behind writing
-abbrev writing : tie.After-n → tie.After-write-list
-writing n = n.before.before.before.before.before.before.before.before
+abbrev writing : tie.In-Bytes → tie.After-write_list
+writing n = n.before.before.before.before.before.before.before
 
-part-read-in-end : tie.Need-slice-bounds-read-in-end
+part-read-in-end : tie.Need-slice_bounds-read_in-end
 part-read-in-end c =
-    let n = c.before.before in
-    let g = (writing n).write-list in
-    omega (arith, carry-long _ _ _ _ g.result g.ensures (record { bytes = []; ends = [] }) _ n.n.given.1)
+    let n = c in
+    let g = (writing n).write_list in
+    omega (arith, carry-long _ _ _ _ g.result g.ensures (record { bytes = []; ends = [] }) _ n.in-Bytes.is)
 
-returns : tie.Need-returns
+returns : tie.Need-returns-in-Refused
 returns c =
-    let k = c.before in
-    let g = k.before.before.before.before.before.before.before.before.write-list in
-    carry-stop _ _ _ _ g.result g.ensures _ _ k.k.given.1
+    let k = c in
+    let g = k.write_list in
+    carry-stop _ _ _ _ g.result g.ensures _ _ k.in-Refused.is
 
-returns-2 : tie.Need-returns-2
+returns-2 : tie.Need-returns-in-Bytes
 returns-2 c =
-    let w = c.before.before.before.before in
-    let n = w.before.before.before.before.before.before in
-    let g = (writing n).write-list in
-    carry-go _ _ _ _ g.result g.ensures _ _ n.n.given.1 _ w.read-in.result w.read-in.ensures
+    let w = c in
+    let n = w in
+    let g = (writing n.before.before.before.before.before.before.before.before).write_list in
+    carry-go _ _ _ _ g.result g.ensures _ _ n.in-Bytes.is _ w.read_in.result w.read_in.ensures
 
-pub carry-list-spec : {M : Type 1} → statement M
-carry-list-spec =
+pub carry_list_spec : {M : Type 1} → statement M
+carry_list_spec =
     tie.close
     (tie.spec
     (λ c κs. search rules)

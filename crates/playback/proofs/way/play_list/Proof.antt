@@ -5,37 +5,28 @@ use Rattle.playback.proofs.WayLaws.{show-long, show-slots, show-stop, show-go}
 use Rattle.playback.proofs.way.play_list.Statement.{statement}
 use Rattle.playback.proofs.way.play_list.Tie as tie
 
--- the place behind reading back
-abbrev carrying : tie.After-n → tie.After-carry-list
-carrying n = n.before.before.before.before.before.before.before.before.before.before.before.before
-
-part-play-from-end : tie.Need-slice-bounds-play-from-end
+part-play-from-end : tie.Need-slice_bounds-play_from-end
 part-play-from-end c =
-    let n = c.before.before in
-    let g = (carrying n).carry-list in
-    omega (arith, show-long _ _ _ _ g.result g.ensures 0 [] _ _ n.n.given.1)
+    let g = c.carry_list in
+    omega (arith, show-long _ _ _ _ g.result g.ensures 0 [] _ _ c.in-Units.is)
 
-part-play-from-end-2 : tie.Need-slice-bounds-play-from-end-2
+part-play-from-end-2 : tie.Need-slice_bounds-play_from-end-in-Units
 part-play-from-end-2 c =
-    let n = c.before.before.before.before in
-    let g = (carrying n).carry-list in
-    omega (arith, show-slots _ _ _ _ g.result g.ensures 0 [] _ _ n.n.given.1)
+    let g = c.carry_list in
+    omega (arith, show-slots _ _ _ _ g.result g.ensures 0 [] _ _ c.in-Units.is)
 
-returns : tie.Need-returns
+returns : tie.Need-returns-in-Refused
 returns c =
-    let k = c.before in
-    let g = k.before.before.before.before.before.before.before.before.before.before.before.before.carry-list in
-    show-stop _ _ _ _ g.result g.ensures _ _ _ k.k.given.1
+    let g = c.carry_list in
+    show-stop _ _ _ _ g.result g.ensures _ _ _ c.in-Refused.is
 
-returns-2 : tie.Need-returns-2
+returns-2 : tie.Need-returns-in-Units
 returns-2 c =
-    let w = c.before.before in
-    let n = w.before.before.before.before.before.before.before in
-    let g = (carrying n).carry-list in
-    show-go _ _ _ _ g.result g.ensures _ _ _ _ n.n.given.1 _ w.play-from.result w.play-from.ensures
+    let g = c.carry_list in
+    show-go _ _ _ _ g.result g.ensures _ _ _ _ c.in-Units.is _ c.play_from.result c.play_from.ensures
 
-pub play-list-spec : {M : Type 1} → statement M
-play-list-spec =
+pub play_list_spec : {M : Type 1} → statement M
+play_list_spec =
     tie.close
     (tie.spec
     (λ c κs. search rules)

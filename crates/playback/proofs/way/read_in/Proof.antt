@@ -5,18 +5,18 @@ use Rattle.playback.proofs.WayLaws.{read-form}
 use Rattle.playback.proofs.way.read_in.Statement.{statement}
 use Rattle.playback.proofs.way.read_in.Tie as tie
 
-returns : tie.Need-returns
+returns : tie.Need-returns-in-Stream
 returns c =
-    let w = c.before.before.before.before in
-    read-form (ap form_says w.before.before.before.enum_told.given.1) _ _ _ w.split-obu-stream.result w.split-obu-stream.ensures
+    let w = c in
+    read-form (ap form_says w.in-Stream.is) _ _ _ w.split_obu_stream.result w.split_obu_stream.ensures
 
-returns-2 : tie.Need-returns-2
+returns-2 : tie.Need-returns-in-AnnexB
 returns-2 c =
-    let w = c.before.before.before.before in
-    read-form (ap form_says w.before.before.before.enum-told2.given.1) _ _ _ w.split-annexb.result w.split-annexb.ensures
+    let w = c in
+    read-form (ap form_says w.in-AnnexB.is) _ _ _ w.split_annexb.result w.split_annexb.ensures
 
-pub read-in-spec : {M : Type 1} → statement M
-read-in-spec =
+pub read_in_spec : {M : Type 1} → statement M
+read_in_spec =
     tie.close
     (tie.spec
     (λ c. search rules)

@@ -5,18 +5,18 @@ use Rattle.playback.proofs.WayLaws.{write-form}
 use Rattle.playback.proofs.way.write_in.Statement.{statement}
 use Rattle.playback.proofs.way.write_in.Tie as tie
 
-returns : tie.Need-returns
+returns : tie.Need-returns-in-Stream
 returns c =
-    let w = c.before.before in
-    write-form (ap form_says w.before.before.enum_told.given.1) _ _ _ w.write-obu-stream.ensures
+    let w = c in
+    write-form (ap form_says w.in-Stream.is) _ _ _ w.write_obu_stream.ensures
 
-returns-2 : tie.Need-returns-2
+returns-2 : tie.Need-returns-in-AnnexB
 returns-2 c =
-    let w = c.before.before in
-    write-form (ap form_says w.before.before.enum-told2.given.1) _ _ _ w.write-annexb.ensures
+    let w = c in
+    write-form (ap form_says w.in-AnnexB.is) _ _ _ w.write_annexb.ensures
 
-pub write-in-spec : {M : Type 1} → statement M
-write-in-spec =
+pub write_in_spec : {M : Type 1} → statement M
+write_in_spec =
     tie.close
     (tie.spec
     (λ c. search rules)

@@ -12,15 +12,15 @@ use Rattle.replay_lists.proofs.assemble_ops.assemble.Tie as tie
 returns : tie.Need-returns
 unfolding assemble_told
 returns c =
-    let a = c.before.before.before.before.before.before.before.before.before.before.before.before.before.before.before.before.before.before.before.args in
+    let a = c.args in
     let d = slices_lent a.lent in
-    let n = c.before.before.before.before.before.before.before.before.before.before.before.before.least in
+    let n = c.least-len in
     let e = zeros-length (width * 10923) (width * n.result) (omega (arith, n.ensures)) ∙ ap (λ k. width * k) n.ensures in
-    c.before.before.before.before.before.before.before.assemble-with.ensures
-    ∙ ap (λ x. outcome_told (outcome a.s.now x (settings_of a.fields.now) d) d a.memory.now a.out-ends.now a.numbers.now) (records-whole _ _ _ (segments_asked a.ends.now) e)
+    c.assemble_with.ensures
+    ∙ ap (λ x. outcome_told (outcome a.s.now x (settings_of a.fields.now) d) d a.memory.now a.out_ends.now a.numbers.now) (records-whole _ _ _ (segments_asked a.ends.now) e)
 
-pub assemble-spec : {M : Type 1} → statement M
-assemble-spec =
+pub assemble_spec : {M : Type 1} → statement M
+assemble_spec =
     tie.close
     (tie.spec
     (λ c κs. search rules)

@@ -5,11 +5,11 @@ use Rattle.replay_lists.proofs.assemble_ops.assemble_into.Tie as tie
 
 returns : tie.Need-returns
 returns c =
-    let h = c.before.before.before.before.before.before.before.before.before.before.before.before.before.before.before.before.before.before.before.before.before.before.before.before.before.assemble-multi.ensures in
-    told-outcome _ _ _ _ _ c.before.before.before.before.before.before.before.before.before.before.before.before.before.before.before.before.before.before.before.before.before.before.before.before.before.assemble-multi.result h.answer h.lent c.before.before.before.before.before.before.put-assembled.ensures
+    let h = c.assemble_multi-answer.ensures in
+    told-outcome _ _ _ _ _ c.assemble_multi-answer.result h.answer h.lent c.put_assembled.ensures
 
-pub assemble-into-spec : {M : Type 1} → statement M
-assemble-into-spec =
+pub assemble_into_spec : {M : Type 1} → statement M
+assemble_into_spec =
     tie.close
     (tie.spec
     (λ c. search rules)

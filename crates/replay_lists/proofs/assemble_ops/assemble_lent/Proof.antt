@@ -9,13 +9,13 @@ use Rattle.replay_lists.proofs.assemble_ops.assemble_lent.Tie as tie
 
 returns : tie.Need-returns
 returns c =
-    let a = c.before.before.before.before.before.before.before.before.before.before.before.before.before.before.before.before.before.before.before.before.before.before.before.before.args in
-    c.before.before.before.before.before.before.before.before.before.assemble-into.ensures
-    ∙ ap (λ d. outcome_told (outcome a.s.now a.segments.now a.settings d) d a.memory.now a.out-ends.now a.numbers.now)
-    (same-slices _ _ _ (marks-taken a.lent.ends 32768 end_mark _ c.before.before.before.before.before.before.before.before.before.before.before.before.before.before.before.before.before.before.least.ensures) (marks-taken a.lent.numbers 32768 end_mark _ c.before.before.before.before.before.before.before.before.before.before.before.before.before.before.before.before.before.least2.ensures) (marks-taken a.lent.bytes 65536 byte_mark _ c.before.before.before.before.before.before.before.before.before.before.before.before.before.before.before.before.least3.ensures))
+    let a = c.args in
+    c.assemble_into.ensures
+    ∙ ap (λ d. outcome_told (outcome a.s.now a.segments.now a.settings d) d a.memory.now a.out_ends.now a.numbers.now)
+    (same-slices _ _ _ (marks-taken a.lent.ends 32768 end_mark _ c.least-u.ensures) (marks-taken a.lent.numbers 32768 end_mark _ c.least-t.ensures) (marks-taken a.lent.bytes 65536 byte_mark _ c.least-b.ensures))
 
-pub assemble-lent-spec : {M : Type 1} → statement M
-assemble-lent-spec =
+pub assemble_lent_spec : {M : Type 1} → statement M
+assemble_lent_spec =
     tie.close
     (tie.spec
     (λ c κs. search rules)

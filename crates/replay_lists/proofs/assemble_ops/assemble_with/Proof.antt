@@ -9,15 +9,15 @@ use Rattle.replay_lists.proofs.assemble_ops.assemble_with.Tie as tie
 
 returns : tie.Need-returns
 returns c =
-    let a = c.before.before.before.before.before.before.before.before.before.before.before.before.before.before.before.before.before.before.before.before.before.before.before.args in
+    let a = c.args in
     let d = slices_lent a.lent in
     let rs = pasted a.segments.now 0 (segment_records a.ends.now a.fields.now 0 (segment_count a.segments.now)) in
-    c.before.before.before.before.before.before.assemble-lent.ensures
-    ∙ ap (λ x. outcome_told (outcome a.s.now x c.before.before.before.before.before.before.before.before.before.before.before.settings-of.result d) d a.memory.now a.out-ends.now a.numbers.now) c.before.before.before.before.before.before.before.before.before.before.before.before.before.before.put-segments.ensures
-    ∙ ap (λ x. outcome_told (outcome a.s.now rs x d) d a.memory.now a.out-ends.now a.numbers.now) c.before.before.before.before.before.before.before.before.before.before.before.settings-of.ensures
+    c.assemble_lent.ensures
+    ∙ ap (λ x. outcome_told (outcome a.s.now x c.settings_of-settings.result d) d a.memory.now a.out_ends.now a.numbers.now) c.put_segments.ensures
+    ∙ ap (λ x. outcome_told (outcome a.s.now rs x d) d a.memory.now a.out_ends.now a.numbers.now) c.settings_of-settings.ensures
 
-pub assemble-with-spec : {M : Type 1} → statement M
-assemble-with-spec =
+pub assemble_with_spec : {M : Type 1} → statement M
+assemble_with_spec =
     tie.close
     (tie.spec
     (λ c κs. search rules)

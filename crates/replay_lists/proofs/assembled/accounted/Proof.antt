@@ -2,14 +2,14 @@ use borrow.Author.Rules.{rules}
 use Rattle.replay_lists.proofs.assembled.accounted.Statement.{statement}
 use Rattle.replay_lists.proofs.assembled.accounted.Tie as tie
 
-returns-2 : tie.Need-returns-2
-returns-2 c = rw c.enum_told.given.1
+returns-2 : tie.Need-returns-in-Refused
+returns-2 c = rw c.in-Refused.is
 
-returns-3 : tie.Need-returns-3
-returns-3 c = rw c.enum-told2.given.1
+returns-3 : tie.Need-returns-in-RefusedIn
+returns-3 c = rw c.in-RefusedIn.is
 
-pub accounted-spec : {M : Type 1} → statement M
-accounted-spec =
+pub accounted_spec : {M : Type 1} → statement M
+accounted_spec =
     tie.close
     (tie.spec
     (λ c. search rules)

@@ -5,10 +5,10 @@ use Rattle.replay_lists.proofs.assembled.are_marked.Tie as tie
 
 returns : tie.Need-returns
 unfolding slices_marked
-returns c = rw (c.before.before.before.before.before.are-ends-marked.ensures, c.before.before.before.before.are-ends-marked2.ensures, c.before.before.before.are-ends-marked3.ensures, c.before.before.is-marked.ensures, c.before.is-marked2.ensures, c.is-marked3.ensures)
+returns c = rw (c.are_ends_marked.ensures, c.are_ends_marked-2.ensures, c.are_ends_marked-3.ensures, c.is_marked.ensures, c.is_marked-2.ensures, c.is_marked-3.ensures)
 
-pub are-marked-spec : {M : Type 1} → statement M
-are-marked-spec =
+pub are_marked_spec : {M : Type 1} → statement M
+are_marked_spec =
     tie.close
     (tie.spec
     (λ c κs. search rules)

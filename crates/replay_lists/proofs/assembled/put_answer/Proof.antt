@@ -3,17 +3,17 @@ use Rattle.replay_lists.proofs.ToldListLaws.{told-made, told-refused, told-refus
 use Rattle.replay_lists.proofs.assembled.put_answer.Statement.{statement}
 use Rattle.replay_lists.proofs.assembled.put_answer.Tie as tie
 
-returns : tie.Need-returns
-returns c = told-made _ _ _ _ _ _ c.before.before.before.before.before.before.before.before.before.before.before.answer.given.1 c.before.before.before.before.before.before.put-made.ensures
+returns : tie.Need-returns-in-Made
+returns c = told-made _ _ _ _ _ _ c.in-Made.is c.put_made.ensures
 
-returns-2 : tie.Need-returns-2
-returns-2 c = told-refused _ _ _ _ _ _ c.before.before.answer2.given.1 c.refused.ensures
+returns-2 : tie.Need-returns-in-Refused
+returns-2 c = told-refused _ _ _ _ _ _ c.in-Refused.is c.refused.ensures
 
-returns-3 : tie.Need-returns-3
-returns-3 c = told-refused-in _ _ _ _ _ _ _ c.before.before.before.before.before.before.answer3.given.1 c.before.before.before.before.refused2.ensures c.before.before.number.ensures
+returns-3 : tie.Need-returns-in-RefusedIn
+returns-3 c = told-refused-in _ _ _ _ _ _ _ c.in-RefusedIn.is c.refused-in-RefusedIn.ensures c.number.ensures
 
-pub put-answer-spec : {M : Type 1} → statement M
-put-answer-spec =
+pub put_answer_spec : {M : Type 1} → statement M
+put_answer_spec =
     tie.close
     (tie.spec
     (λ c. search rules)

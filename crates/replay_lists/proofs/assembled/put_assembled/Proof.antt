@@ -4,10 +4,10 @@ use Rattle.replay_lists.proofs.assembled.put_assembled.Statement.{statement}
 use Rattle.replay_lists.proofs.assembled.put_assembled.Tie as tie
 
 returns : tie.Need-returns
-returns c = told-handed _ _ _ _ _ _ _ c.before.before.before.before.before.before.before.before.before.before.before.accounted.ensures c.before.before.before.before.before.before.before.before.before.before.are-marked.ensures c.before.before.before.before.before.before.put-answer.ensures
+returns c = told-handed _ _ _ _ _ _ _ c.accounted-counts.ensures c.are_marked-is_clean.ensures c.put_answer-told.ensures
 
-pub put-assembled-spec : {M : Type 1} → statement M
-put-assembled-spec =
+pub put_assembled_spec : {M : Type 1} → statement M
+put_assembled_spec =
     tie.close
     (tie.spec
     (λ c κs. search rules)

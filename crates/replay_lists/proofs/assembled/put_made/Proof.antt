@@ -9,12 +9,12 @@ use Rattle.replay_lists.proofs.assembled.put_made.Tie as tie
 returns : tie.Need-returns
 unfolding assembled_told
 returns c =
-    let a = c.before.before.before.before.before.before.before.before.before.before.before.before.before.before.before.before.before.before.before.before.before.before.before.before.before.before.before.before.before.args in
-    let u = c.before.before.before.before.before.before.before.before.before.before.before.before.before.before.before.before.put-units.ensures ∙ ap (λ k. with_parts (parted (parts_of 0 0) a.memory.now a.out-ends.now) (entry_units a.pictures.now a.ends.now a.shows.now 0 k)) c.before.before.before.before.before.before.before.before.before.before.before.before.before.before.before.before.before.before.before.entries.ensures in
-    tell-made _ _ _ _ _ c.before.before.before.before.before.before.before.before.before.before.before.payload.ensures u c.before.before.before.before.before.before.before.before.part.ensures c.before.before.put-numbers.ensures
+    let a = c.args in
+    let u = c.put_units-units.ensures ∙ ap (λ k. with_parts (parted (parts_of 0 0) a.memory.now a.out_ends.now) (entry_units a.pictures.now a.ends.now a.shows.now 0 k)) c.entries.ensures in
+    tell-made _ _ _ _ _ c.payload.ensures u c.part-parts.ensures c.put_numbers.ensures
 
-pub put-made-spec : {M : Type 1} → statement M
-put-made-spec =
+pub put_made_spec : {M : Type 1} → statement M
+put_made_spec =
     tie.close
     (tie.spec
     (λ c κs. search rules)

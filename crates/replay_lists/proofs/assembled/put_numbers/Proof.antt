@@ -5,11 +5,11 @@ use Rattle.replay_lists.proofs.assembled.put_numbers.Tie as tie
 
 returns : tie.Need-returns
 returns c =
-    rw (← c.before.before.before.before.before.before.before.before.before.before.before.before.entries.ensures)
-    (numbers-then _ _ _ (numbers-then _ _ _ (numbers-then _ _ _ c.before.before.before.before.before.before.before.before.before.before.before.before.before.before.before.pair.ensures c.before.before.before.before.before.before.before.before.before.before.number.ensures) c.before.before.before.before.before.before.put-told.ensures) c.before.before.put-told2.ensures)
+    rw (← c.entries.ensures)
+    (numbers-then _ _ _ (numbers-then _ _ _ (numbers-then _ _ _ c.pair-answer.ensures c.number-answer.ensures) c.put_told-answer.ensures) c.put_told.ensures)
 
-pub put-numbers-spec : {M : Type 1} → statement M
-put-numbers-spec =
+pub put_numbers_spec : {M : Type 1} → statement M
+put_numbers_spec =
     tie.close
     (tie.spec
     (λ c κs. search rules)

@@ -4,10 +4,10 @@ use Rattle.replay_lists.proofs.play_ops.play.Statement.{statement}
 use Rattle.replay_lists.proofs.play_ops.play.Tie as tie
 
 returns : tie.Need-returns
-returns c = play-told _ _ _ _ c.before.before.play-all.ensures c.before.before.before.before.done.ensures c.before.before.before.before.before.start-state.ensures
+returns c = play-told _ _ _ _ c.play_all.ensures c.done-answer.ensures c.start_state-state.ensures
 
-pub play-spec : {M : Type 1} → statement M
-play-spec =
+pub play_spec : {M : Type 1} → statement M
+play_spec =
     tie.close
     (tie.spec
     (λ c κs. search rules)

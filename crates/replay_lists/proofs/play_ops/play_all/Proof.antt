@@ -10,29 +10,29 @@ use Rattle.replay_lists.proofs.play_ops.play_all.Statement.{statement}
 use Rattle.replay_lists.proofs.play_ops.play_all.Tie as tie
 
 -- what is left from here is the whole from the start
-abbrev invariant-loop : tie.invariant-loop
+abbrev invariant-loop : tie.invariant-loop-i
 invariant-loop s ends positions numbers₀ turn₀ i₀ numbers turn i =
     (i ≤ length positions) × (length numbers ≡ length numbers₀)
     × (with_numbers (numbered turn.answer numbers) (play_fields s ends turn.state i (drop i positions))
     ≡ with_numbers (numbered turn₀.answer numbers₀) (play_fields s ends turn₀.state 0 positions))
 
-abbrev decreases-loop : tie.decreases-loop
+abbrev decreases-loop : tie.decreases-loop-i
 decreases-loop s ends positions numbers₀ turn₀ i₀ numbers turn i = length positions - i
 
-loop-holds : tie.Need-loop-init invariant-loop decreases-loop
+loop-holds : tie.Need-loop-i-init invariant-loop decreases-loop
 loop-holds c = (omega arith, refl, refl)
 
-loop-again : tie.Need-loop-preserved invariant-loop decreases-loop
+loop-again : tie.Need-loop-i-preserved invariant-loop decreases-loop
 loop-again c =
-    let l = c.before.before.before.before.before.before.before.loop in
-    let w = c.before.before.play-one.ensures in
-    (omega arith, search rules, play-next _ _ _ l.turn.state l.i _ _ (omega arith) c.before.before.before.before.part.ensures w.0 w.1 ∙ l.invariant.2)
+    let l = c.loop-i in
+    let w = c.play_one-turn.ensures in
+    (omega arith, search rules, play-next _ _ _ l.turn.state l.i _ _ (omega arith) c.part.ensures w.0 w.1 ∙ l.invariant.2)
 
 returns : tie.Need-returns invariant-loop decreases-loop
-returns c = let l = c.before.before.loop in sym (play-end _ _ _ l.turn.state l.i _ (omega arith)) ∙ l.invariant.2
+returns c = let l = c.loop-i in sym (play-end _ _ _ l.turn.state l.i _ (omega arith)) ∙ l.invariant.2
 
-pub play-all-spec : {M : Type 1} → statement M
-play-all-spec =
+pub play_all_spec : {M : Type 1} → statement M
+play_all_spec =
     tie.close
     (tie.spec
     invariant-loop

@@ -7,12 +7,12 @@ use Rattle.replay_lists.proofs.play_ops.play_one.Tie as tie
 
 returns : tie.Need-returns
 returns c =
-    let a = c.before.before.before.before.before.before.before.before.args in
-    let p = c.before.before.before.before.before.played.ensures in
-    (ap (λ r. r.state) p, c.before.before.put-shown.ensures ∙ ap (λ r. with_numbers (numbered a.turn.answer a.numbers.now) (shown_fields r.answer)) p)
+    let a = c.args in
+    let p = c.played-played.ensures in
+    (ap (λ r. r.state) p, c.put_shown.ensures ∙ ap (λ r. with_numbers (numbered a.turn.answer a.numbers.now) (shown_fields r.answer)) p)
 
-pub play-one-spec : {M : Type 1} → statement M
-play-one-spec =
+pub play_one_spec : {M : Type 1} → statement M
+play_one_spec =
     tie.close
     (tie.spec
     (λ c κs. search rules)

@@ -3,17 +3,17 @@ use Rattle.replay_lists.proofs.PlayLaws.{shown-told}
 use Rattle.replay_lists.proofs.play_ops.put_shown.Statement.{statement}
 use Rattle.replay_lists.proofs.play_ops.put_shown.Tie as tie
 
-returns : tie.Need-returns
-returns c = shown-told _ _ c.before.before.pair.ensures c.before.before.before.before.before.shown.given.1
+returns : tie.Need-returns-in-Shown
+returns c = shown-told _ _ c.pair.ensures c.in-Shown.is
 
-returns-2 : tie.Need-returns-2
-returns-2 c = shown-told _ _ c.before.before.pair2.ensures c.before.before.before.before.enum_told.given.1
+returns-2 : tie.Need-returns-in-Nothing
+returns-2 c = shown-told _ _ c.pair-in-Nothing.ensures c.in-Nothing.is
 
-returns-3 : tie.Need-returns-3
-returns-3 c = shown-told _ _ c.before.before.pair3.ensures c.before.before.before.before.before.shown2.given.1
+returns-3 : tie.Need-returns-in-Refused
+returns-3 c = shown-told _ _ c.pair-in-Refused.ensures c.in-Refused.is
 
-pub put-shown-spec : {M : Type 1} → statement M
-put-shown-spec =
+pub put_shown_spec : {M : Type 1} → statement M
+put_shown_spec =
     tie.close
     (tie.spec
     (λ c. search rules)

@@ -14,8 +14,8 @@ slot-told flags ns e i j = e ∙ ap₂ (λ (d : Line) (v : ℕ). with_numbers (n
 
 returns : tie.Need-returns
 returns c =
-    let n = c.before.before in
-    slot-told n.before.before.before.before.before.args.flags _ n.number.ensures n.before.before.before.done.ensures n.before.before.lowest-refreshed-slot.ensures
+    let n = c in
+    slot-told n.args.flags _ n.number.ensures n.done.ensures n.lowest_refreshed_slot.ensures
 
-pub slot-spec : {M : Type 1} → statement M
-slot-spec = tie.close (tie.spec (λ c κs. search rules) (λ c κs. search rules) (λ c. search rules) (λ c κs. search rules) (λ c. search rules) returns)
+pub slot_spec : {M : Type 1} → statement M
+slot_spec = tie.close (tie.spec (λ c κs. search rules) (λ c κs. search rules) (λ c. search rules) (λ c κs. search rules) (λ c. search rules) returns)
