@@ -1,3 +1,2 @@
 pub mod BoardLaws
-pub mod Front
 pub mod ScanLaws

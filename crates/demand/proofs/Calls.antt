@@ -55,8 +55,8 @@ left_so s st i p u = ap (λ (t : State). state_after t p u) i ∙ sym (leaves-so
 
 pub course-of : (s : State) {st : CodeState} {p : ℕ} {us : List (List ℕ)} → s ≡ state_says st → Calls st p us → Course s p us
 course-of s i over = done
-course-of s i (call {st} {p} {u} k) = plays (course-of _ (left_so s st i p u) k)
-course-of s i (other {st} q v n e k) = let r : play s q v ≡ refused n = ap (λ (t : State). play t q v) i ∙ refused-so st q v n e in noise {st = s} q v n (cc) (course-of _ (left_so s st i q v) k)
+course-of s i (call {st} {p} {u} k) = plays (course-of (state_after s p u) (left_so s st i p u) k)
+course-of s i (other {st} q v n e k) = let r : play s q v ≡ refused n = ap (λ (t : State). play t q v) i ∙ refused-so st q v n e in noise {st = s} q v n (cc) (course-of (state_after s q v) (left_so s st i q v) k)
 
 -- ---- what the calls answer
 
@@ -79,7 +79,7 @@ module _ (set : Settings) (q : Sequence) (xs : List Segment) (us : List (List �
   each_right s i over units t = tt
   each_right s i (call {st} {p} {u} {us = vs} k) units t = (
     answers-right st u (units 0 (omega arith) ∙ ap (unit_at us) (omega arith)) (subst (λ (s : State). PlaysRight set q xs us cue p s) i t.0),
-    each_right _ (left_so s st i p u) k (λ j h. units (suc j) (omega arith) ∙ ap (unit_at us) (omega arith)) t.1,
+    each_right (state_after s p u) (left_so s st i p u) k (λ j h. units (suc j) (omega arith) ∙ ap (unit_at us) (omega arith)) t.1,
   )
   each_right s i (other {st} o v n e k) units t = each_right _ (left_so s st i o v) k units t
 

@@ -13,9 +13,9 @@ Others key B (x ∷ table) = Others key (B × (key ≡ name_key x.0 → ⊥)) ta
 
 others-before : {A : Type 0} (key : ℕ) (B : Type 0) (table : List (String × A)) → Others key B table → B
 others-before key B [] o = o
-others-before key B (x ∷ table) o = (others-before key _ table o).0
+others-before key B (x ∷ table) o = (others-before key (B × (key ≡ name_key x.0 → ⊥)) table o).0
 
 pub found_none : {A : Type 0} (key : ℕ) (B : Type 0) (table : List (String × A)) (other : A) → Others key B table → other ≡ found key table other
 unfolding found
 found_none key B [] other o = refl
-found_none key B (x ∷ table) other o = rw (ne_eqb key (name_key x.0) (others-before key _ table o).1) (found_none key _ table other o)
+found_none key B (x ∷ table) other o = rw (ne_eqb key (name_key x.0) (others-before key (B × (key ≡ name_key x.0 → ⊥)) table o).1) (found_none key (B × (key ≡ name_key x.0 → ⊥)) table other o)

@@ -4,18 +4,18 @@ use Rattle.bench.specs.Counts.{bytes_or_none}
 use Rattle.bench.proofs.bench_canonicalize_tu.Statement.{statement}
 use Rattle.bench.proofs.bench_canonicalize_tu.Tie as tie
 
-returns : tie.Need-returns
+returns : tie.Need-returns-in-Refused
 returns c =
-    let w = c.before.before.before.before.canonicalize-tu.ensures in
-    (ap bytes_or_none (sym (ap byte_count_says c.enum_told.given.1) ∙ w.0), w.1)
+    let w = c.canonicalize_tu.ensures in
+    (ap bytes_or_none (sym (ap byte_count_says c.in-Refused.is) ∙ w.0), w.1)
 
-returns-2 : tie.Need-returns-2
+returns-2 : tie.Need-returns-in-Bytes
 returns-2 c =
-    let w = c.before.before.before.before.before.canonicalize-tu.ensures in
-    (ap bytes_or_none (sym (ap byte_count_says c.before.n.given.1) ∙ w.0), w.1)
+    let w = c.canonicalize_tu.ensures in
+    (ap bytes_or_none (sym (ap byte_count_says c.in-Bytes.is) ∙ w.0), w.1)
 
-pub bench-canonicalize-tu-spec : {M : Type 1} → statement M
-bench-canonicalize-tu-spec =
+pub bench_canonicalize_tu_spec : {M : Type 1} → statement M
+bench_canonicalize_tu_spec =
     tie.close
     (tie.spec
     (λ c κs. search rules)

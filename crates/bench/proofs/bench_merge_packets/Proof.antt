@@ -4,18 +4,18 @@ use Rattle.bench.specs.Counts.{units_or_none}
 use Rattle.bench.proofs.bench_merge_packets.Statement.{statement}
 use Rattle.bench.proofs.bench_merge_packets.Tie as tie
 
-returns : tie.Need-returns
+returns : tie.Need-returns-in-Refused
 returns c =
-    let w = c.before.before.before.before.before.before.before.before.merge-frameless-packets.ensures in
-    (ap units_or_none (sym (ap merged_says c.enum_told.given.1) ∙ w.0), w.1)
+    let w = c.merge_frameless_packets.ensures in
+    (ap units_or_none (sym (ap merged_says c.in-Refused.is) ∙ w.0), w.1)
 
-returns-2 : tie.Need-returns-2
+returns-2 : tie.Need-returns-in-Packets
 returns-2 c =
-    let w = c.before.before.before.before.before.before.before.before.before.merge-frameless-packets.ensures in
-    (ap units_or_none (sym (ap merged_says c.before.n.given.1) ∙ w.0), w.1)
+    let w = c.merge_frameless_packets.ensures in
+    (ap units_or_none (sym (ap merged_says c.in-Packets.is) ∙ w.0), w.1)
 
-pub bench-merge-packets-spec : {M : Type 1} → statement M
-bench-merge-packets-spec =
+pub bench_merge_packets_spec : {M : Type 1} → statement M
+bench_merge_packets_spec =
     tie.close
     (tie.spec
     (λ c κs. search rules)

@@ -4,20 +4,20 @@ use Rattle.bitio.proofs.LentLaws.{lent-room, lent-full}
 use Rattle.bench.proofs.bench_put_bytes.Statement.{statement}
 use Rattle.bench.proofs.bench_put_bytes.Tie as tie
 
-returns : tie.Need-returns
-returns c = (rw (lt-leb _ _ c.if1.true), sym (lent-full _ _ _ (omega arith)))
+returns : tie.Need-returns-then-out-src
+returns c = (rw (lt-leb _ _ c.if-out-src.true), sym (lent-full _ _ _ (omega arith)))
 
-put-bytes-requires : tie.Need-put-bytes-requires
+put-bytes-requires : tie.Need-put_bytes-requires
 put-bytes-requires c κs = search rules
 
-same_length : tie.Need-same-length
+same_length : tie.Need-shape_of-out
 same_length c = search rules
 
-returns-2 : tie.Need-returns-2
+returns-2 : tie.Need-returns
 returns-2 c =
-    let w = c.before.before.put-bytes.ensures in
-    let l = c.before.before.before.before.if1.false in
+    let w = c.put_bytes.ensures in
+    let l = c.if-out-src.false in
     (rw (le-leb _ _ l) (omega arith), w.1 ∙ sym (lent-room _ _ _ (omega arith)))
 
-pub bench-put-bytes-spec : {M : Type 1} → statement M
-bench-put-bytes-spec = tie.close (tie.spec returns put-bytes-requires same_length returns-2)
+pub bench_put_bytes_spec : {M : Type 1} → statement M
+bench_put_bytes_spec = tie.close (tie.spec returns put-bytes-requires same_length returns-2)

@@ -4,18 +4,18 @@ use Rattle.bench.specs.Counts.{units_or_none}
 use Rattle.bench.proofs.bench_split_annexb.Statement.{statement}
 use Rattle.bench.proofs.bench_split_annexb.Tie as tie
 
-returns : tie.Need-returns
+returns : tie.Need-returns-in-Refused
 returns c =
-    let w = c.before.before.before.before.before.before.split-annexb.ensures in
-    (ap units_or_none (sym (ap split_says c.enum_told.given.1) ∙ w.0), w.1)
+    let w = c.split_annexb.ensures in
+    (ap units_or_none (sym (ap split_says c.in-Refused.is) ∙ w.0), w.1)
 
-returns-2 : tie.Need-returns-2
+returns-2 : tie.Need-returns-in-Units
 returns-2 c =
-    let w = c.before.before.before.before.before.before.before.split-annexb.ensures in
-    (ap units_or_none (sym (ap split_says c.before.u.given.1) ∙ w.0), w.1)
+    let w = c.split_annexb.ensures in
+    (ap units_or_none (sym (ap split_says c.in-Units.is) ∙ w.0), w.1)
 
-pub bench-split-annexb-spec : {M : Type 1} → statement M
-bench-split-annexb-spec =
+pub bench_split_annexb_spec : {M : Type 1} → statement M
+bench_split_annexb_spec =
     tie.close
     (tie.spec
     (λ c κs. search rules)

@@ -7,8 +7,8 @@ use Rattle.boardlist.proofs.AnswerLaws.{end-within}
 use Rattle.boardlist.proofs.main.Statement.{statement}
 use Rattle.boardlist.proofs.main.Tie as tie
 
-part-write-all-end : tie.Need-slice-bounds-write-all-end
-part-write-all-end c = omega (arith, end-within _ _ _ (sym (ap put_says c.before.before.end.given.1) ∙ c.before.before.before.before.before.before.before.before.before.before.before.before.answer.ensures.text.answer))
+part-write-all-end : tie.Need-slice_bounds-write_all-end
+part-write-all-end c = omega (arith, end-within _ _ _ (sym (ap put_says c.in-Next.is) ∙ c.answer.ensures.text.answer))
 
 pub main_spec : {M : Type 1} → statement M
 main_spec =

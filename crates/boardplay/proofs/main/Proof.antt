@@ -7,29 +7,29 @@ use Rattle.listing.proofs.FileLaws.{layout-fits}
 use Rattle.boardplay.proofs.main.Statement.{statement}
 use Rattle.boardplay.proofs.main.Tie as tie
 
-mul-count : tie.Need-overflow-mul-count
+mul-count : tie.Need-overflow_mul-count
 mul-count c =
-    let f = layout-fits _ _ _ _ (sym (ap file_says c.before.before.layout.given.1) ∙ c.before.before.before.before.before.read-file.ensures.0) c.before.before.before.before.before.read-file.ensures.1 in
+    let f = layout-fits _ _ _ _ (sym (ap file_says c.in-Read.is) ∙ c.read_file.ensures.0) c.read_file.ensures.1 in
     omega (arith, f.start_first, f.picture, f.numbers-there)
 
-sub-play : tie.Need-overflow-sub-play
+sub-play : tie.Need-slice_bounds-play-count
 sub-play c =
-    let f = layout-fits _ _ _ _ (sym (ap file_says c.before.before.layout.given.1) ∙ c.before.before.before.before.before.read-file.ensures.0) c.before.before.before.before.before.read-file.ensures.1 in
+    let f = layout-fits _ _ _ _ (sym (ap file_says c.in-Read.is) ∙ c.read_file.ensures.0) c.read_file.ensures.1 in
     omega (arith, f.start_first, f.picture, f.numbers-there)
 
-part-play-start : tie.Need-slice-bounds-play-start
+part-play-start : tie.Need-slice_bounds-play-start
 part-play-start c =
-    let f = layout-fits _ _ _ _ (sym (ap file_says c.before.before.before.layout.given.1) ∙ c.before.before.before.before.before.before.read-file.ensures.0) c.before.before.before.before.before.before.read-file.ensures.1 in
+    let f = layout-fits _ _ _ _ (sym (ap file_says c.in-Read.is) ∙ c.read_file.ensures.0) c.read_file.ensures.1 in
     omega (arith, f.start_first, f.picture, f.numbers-there)
 
-part-play-end : tie.Need-slice-bounds-play-end
+part-play-end : tie.Need-slice_bounds-play-end
 part-play-end c =
-    let f = layout-fits _ _ _ _ (sym (ap file_says c.before.before.before.layout.given.1) ∙ c.before.before.before.before.before.before.read-file.ensures.0) c.before.before.before.before.before.before.read-file.ensures.1 in
+    let f = layout-fits _ _ _ _ (sym (ap file_says c.in-Read.is) ∙ c.read_file.ensures.0) c.read_file.ensures.1 in
     omega (arith, f.start_first, f.picture, f.numbers-there)
 
-part-play-end-2 : tie.Need-slice-bounds-play-end-2
+part-play-end-2 : tie.Need-slice_bounds-play-end-in-Read
 part-play-end-2 c =
-    let f = layout-fits _ _ _ _ (sym (ap file_says c.before.before.before.before.before.layout.given.1) ∙ c.before.before.before.before.before.before.before.before.read-file.ensures.0) c.before.before.before.before.before.before.before.before.read-file.ensures.1 in
+    let f = layout-fits _ _ _ _ (sym (ap file_says c.in-Read.is) ∙ c.read_file.ensures.0) c.read_file.ensures.1 in
     omega (arith, f.start_first, f.picture, f.numbers-there)
 
 pub main_spec : {M : Type 1} → statement M

@@ -6,14 +6,14 @@ use Rattle.blocks.specs.Numbers.{segment_count}
 use Rattle.boardscan.proofs.print_segments.Statement.{statement}
 use Rattle.boardscan.proofs.print_segments.Tie as tie
 
-abbrev invariant-loop : tie.invariant-loop
+abbrev invariant-loop : tie.invariant-loop-i
 invariant-loop picture segments text₀ i₀ text i = length text ≡ length text₀
 
-abbrev decreases-loop : tie.decreases-loop
+abbrev decreases-loop : tie.decreases-loop-i
 decreases-loop picture segments text₀ i₀ text i = segment_count segments - i
 
-pub print-segments-spec : {M : Type 1} → statement M
-print-segments-spec =
+pub print_segments_spec : {M : Type 1} → statement M
+print_segments_spec =
     tie.close
     (tie.spec
     invariant-loop

@@ -9,96 +9,96 @@ use Rattle.replay_requests.proofs.OperateLaws.{as-named, as-frame, as_none}
 use Rattle.replay_requests.proofs.operate.Statement.{statement}
 use Rattle.replay_requests.proofs.operate.Tie as tie
 
-returns : tie.Need-returns
+returns : tie.Need-returns-in-1651078259
 unfolding operations found word_key key_from
-returns c = as-named _ _ _ _ _ _ _ "bits" _ _ c.before.before.before.before.match.keys1 c.before.before.before.before.before.before.number_at.ensures c.before.before.before.before.before.number-at2.ensures (ap (numbers_told _ _) c.before.before.bits.ensures)
+returns c = as-named _ _ _ _ _ _ _ "bits" _ _ c.in-1651078259.is c.number_at-a.ensures c.number_at-b.ensures (ap (numbers_told _ _) c.bits.ensures)
 
-returns-2 : tie.Need-returns-2
+returns-2 : tie.Need-returns-in-1970695267
 unfolding operations found word_key key_from
-returns-2 c = as-named _ _ _ _ _ _ _ "uvlc" _ _ c.before.before.before.before.match.keys2 c.before.before.before.before.before.before.number_at.ensures refl (ap (numbers_told _ _) c.before.before.uvlc.ensures)
+returns-2 c = as-named _ _ _ _ _ _ _ "uvlc" _ _ c.in-1970695267.is c.number_at-a.ensures refl (ap (numbers_told _ _) c.uvlc.ensures)
 
-returns-3 : tie.Need-returns-3
+returns-3 : tie.Need-returns-in-7103842
 unfolding operations found word_key key_from
-returns-3 c = as-named _ _ _ _ _ _ _ "leb" _ _ c.before.before.before.before.match.keys3 refl refl (ap (numbers_told _ _) c.before.before.leb.ensures)
+returns-3 c = as-named _ _ _ _ _ _ _ "leb" _ _ c.in-7103842.is refl refl (ap (numbers_told _ _) c.leb.ensures)
 
-returns-4 : tie.Need-returns-4
+returns-4 : tie.Need-returns-in-119182699033972
 unfolding operations found word_key key_from
-returns-4 c = as-named _ _ _ _ _ _ _ "lebput" _ _ c.before.before.before.before.match.keys4 c.before.before.before.before.before.before.number_at.ensures refl (ap (bytes_told _ _) c.before.before.lebput.ensures)
+returns-4 c = as-named _ _ _ _ _ _ _ "lebput" _ _ c.in-119182699033972.is c.number_at-a.ensures refl (ap (bytes_told _ _) c.lebput.ensures)
 
-returns-5 : tie.Need-returns-5
+returns-5 : tie.Need-returns-in-1868723571
 unfolding operations found word_key key_from
-returns-5 c = as-named _ _ _ _ _ _ _ "obus" _ _ c.before.before.before.before.before.before.before.before.before.before.match.keys5 refl refl c.before.before.before.before.before.before.obus.ensures
+returns-5 c = as-named _ _ _ _ _ _ _ "obus" _ _ c.in-1868723571.is refl refl c.obus.ensures
 
-returns-6 : tie.Need-returns-6
+returns-6 : tie.Need-returns-in-122468667782516
 unfolding operations found word_key key_from
-returns-6 c = as-named _ _ _ _ _ _ _ "obuput" _ _ c.before.before.before.before.match.keys6 c.before.before.before.before.before.before.number_at.ensures c.before.before.before.before.before.number-at2.ensures (ap (bytes_told _ _) c.before.before.obuput.ensures)
+returns-6 c = as-named _ _ _ _ _ _ _ "obuput" _ _ c.in-122468667782516.is c.number_at-a.ensures c.number_at-b.ensures (ap (bytes_told _ _) c.obuput.ensures)
 
-returns-7 : tie.Need-returns-7
+returns-7 : tie.Need-returns-in-7562609
 unfolding operations found word_key key_from
-returns-7 c = as-named _ _ _ _ _ _ _ "seq" _ _ c.before.before.before.before.match.keys7 refl refl (ap (numbers_told _ _) c.before.before.seq.ensures)
+returns-7 c = as-named _ _ _ _ _ _ _ "seq" _ _ c.in-7562609.is refl refl (ap (numbers_told _ _) c.seq.ensures)
 
-returns-8 : tie.Need-returns-8
+returns-8 : tie.Need-returns-in-32498748104864372
 unfolding operations found word_key key_from
-returns-8 c = as-named _ _ _ _ _ _ _ "support" _ _ c.before.match.keys8 refl refl (same-told c.support.ensures refl refl refl)
+returns-8 c = as-named _ _ _ _ _ _ _ "support" _ _ c.in-32498748104864372.is refl refl (same-told c.support.ensures refl refl refl)
 
-returns-9 : tie.Need-returns-9
+returns-9 : tie.Need-returns-in-1701669236
 unfolding operations found word_key key_from
-returns-9 c = as-named _ _ _ _ _ _ _ "emit" _ _ c.before.before.before.before.match.keys9 refl refl (ap (bytes_told _ _) c.before.before.emit.ensures)
+returns-9 c = as-named _ _ _ _ _ _ _ "emit" _ _ c.in-1701669236.is refl refl (ap (bytes_told _ _) c.emit.ensures)
 
-returns-10 : tie.Need-returns-10
+returns-10 : tie.Need-returns-in-499984983396
 unfolding operations found word_key key_from
-returns-10 c = as-named _ _ _ _ _ _ _ "timed" _ _ c.before.before.before.before.match.keys10 c.before.before.before.before.before.before.number_at.ensures c.before.before.before.before.before.number-at2.ensures (ap (bytes_told _ _) c.before.before.emit2.ensures)
+returns-10 c = as-named _ _ _ _ _ _ _ "timed" _ _ c.in-499984983396.is c.number_at-a.ensures c.number_at-b.ensures (ap (bytes_told _ _) c.emit-in-499984983396.ensures)
 
-returns-11 : tie.Need-returns-11
+returns-11 : tie.Need-returns-in-440005651813
 unfolding word_key key_from
-returns-11 c = as-frame _ _ _ _ _ _ _ _ _ c.before.before.before.before.before.before.match.keys11 c.before.before.before.before.before.part.ensures c.before.before.before.before.part2.ensures c.before.before.frame.ensures
+returns-11 c = as-frame _ _ _ _ _ _ _ _ _ c.in-440005651813.is c.part.ensures c.part-in-440005651813.ensures c.frame.ensures
 
-returns-12 : tie.Need-returns-12
+returns-12 : tie.Need-returns-in-126943972647277
 unfolding operations found word_key key_from
-returns-12 c = as-named _ _ _ _ _ _ _ "stream" _ _ c.before.before.before.before.before.before.before.match.keys12 refl refl (ap (parts_told _) c.before.before.before.before.stream.ensures)
+returns-12 c = as-named _ _ _ _ _ _ _ "stream" _ _ c.in-126943972647277.is refl refl (ap (parts_told _) c.stream.ensures)
 
-returns-13 : tie.Need-returns-13
+returns-13 : tie.Need-returns-in-107126926440546
 unfolding operations found word_key key_from
-returns-13 c = as-named _ _ _ _ _ _ _ "annexb" _ _ c.before.before.before.before.before.before.before.match.keys13 refl refl (ap (parts_told _) c.before.before.before.before.annexb.ensures)
+returns-13 c = as-named _ _ _ _ _ _ _ "annexb" _ _ c.in-107126926440546.is refl refl (ap (parts_told _) c.annexb.ensures)
 
-returns-14 : tie.Need-returns-14
+returns-14 : tie.Need-returns-in-33622466201215341
 unfolding operations found word_key key_from
-returns-14 c = as-named _ _ _ _ _ _ _ "wstream" _ _ c.before.before.before.before.match.keys14 refl refl (ap (bytes_told _ _) c.before.before.wstream.ensures)
+returns-14 c = as-named _ _ _ _ _ _ _ "wstream" _ _ c.in-33622466201215341.is refl refl (ap (bytes_told _ _) c.wstream.ensures)
 
-returns-15 : tie.Need-returns-15
+returns-15 : tie.Need-returns-in-33602649155008610
 unfolding operations found word_key key_from
-returns-15 c = as-named _ _ _ _ _ _ _ "wannexb" _ _ c.before.before.before.before.match.keys15 refl refl (ap (bytes_told _ _) c.before.before.wannexb.ensures)
+returns-15 c = as-named _ _ _ _ _ _ _ "wannexb" _ _ c.in-33602649155008610.is refl refl (ap (bytes_told _ _) c.wannexb.ensures)
 
-returns-16 : tie.Need-returns-16
+returns-16 : tie.Need-returns-in-426836389742
 unfolding operations found word_key key_from
-returns-16 c = as-named _ _ _ _ _ _ _ "canon" _ _ c.before.before.before.before.match.keys16 refl refl (ap (bytes_told _ _) c.before.before.canon.ensures)
+returns-16 c = as-named _ _ _ _ _ _ _ "canon" _ _ c.in-426836389742.is refl refl (ap (bytes_told _ _) c.canon.ensures)
 
-returns-17 : tie.Need-returns-17
+returns-17 : tie.Need-returns-in-31632277023061107
 unfolding operations found word_key key_from
-returns-17 c = as-named _ _ _ _ _ _ _ "packets" _ _ c.before.before.before.before.before.before.before.before.before.before.match.keys17 refl refl c.before.before.before.before.before.before.packets.ensures
+returns-17 c = as-named _ _ _ _ _ _ _ "packets" _ _ c.in-31632277023061107.is refl refl c.packets.ensures
 
-returns-18 : tie.Need-returns-18
+returns-18 : tie.Need-returns-in-7022083123464793189
 unfolding operations found word_key key_from
-returns-18 c = as-named _ _ _ _ _ _ _ "assemble" _ _ c.before.before.before.before.before.before.before.before.before.before.match.keys18 refl refl c.before.before.before.before.before.before.assemble.ensures
+returns-18 c = as-named _ _ _ _ _ _ _ "assemble" _ _ c.in-7022083123464793189.is refl refl c.assemble.ensures
 
-returns-19 : tie.Need-returns-19
+returns-19 : tie.Need-returns-in-1886151033
 unfolding operations found word_key key_from
-returns-19 c = as-named _ _ _ _ _ _ _ "play" _ _ c.before.before.before.before.match.keys19 refl refl (ap (numbers_told _ _) c.before.before.play.ensures)
+returns-19 c = as-named _ _ _ _ _ _ _ "play" _ _ c.in-1886151033.is refl refl (ap (numbers_told _ _) c.play.ensures)
 
-returns-20 : tie.Need-returns-20
+returns-20 : tie.Need-returns-in-1935892846
 unfolding operations found word_key key_from
-returns-20 c = as-named _ _ _ _ _ _ _ "scan" _ _ c.before.before.before.before.match.keys20 refl refl (ap (numbers_told _ _) c.before.before.scan.ensures)
+returns-20 c = as-named _ _ _ _ _ _ _ "scan" _ _ c.in-1935892846.is refl refl (ap (numbers_told _ _) c.scan.ensures)
 
-returns-21 : tie.Need-returns-21
+returns-21 : tie.Need-returns-in-1936486260
 unfolding operations found word_key key_from
-returns-21 c = as-named _ _ _ _ _ _ _ "slot" _ _ c.before.before.before.before.match.keys21 c.before.before.before.before.before.before.number_at.ensures refl (ap (numbers_told _ _) c.before.before.slot.ensures)
+returns-21 c = as-named _ _ _ _ _ _ _ "slot" _ _ c.in-1936486260.is c.number_at-a.ensures refl (ap (numbers_told _ _) c.slot.ensures)
 
-returns-22 : tie.Need-returns-22
+returns-22 : tie.Need-returns-in_default
 unfolding operations word_key key_from
-returns-22 c = as_none _ _ _ _ _ _ _ _ _ c.before.match.rest c.refused.ensures
+returns-22 c = as_none _ _ _ _ _ _ _ _ _ c.in_default.in_default-own.rest c.refused.ensures
 
-pub operate-spec : {M : Type 1} → statement M
-operate-spec =
+pub operate_spec : {M : Type 1} → statement M
+operate_spec =
     tie.close
     (tie.spec
     (λ c κs. search rules)

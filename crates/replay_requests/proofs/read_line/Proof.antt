@@ -5,11 +5,11 @@ use Rattle.replay_requests.proofs.read_line.Tie as tie
 
 returns : tie.Need-returns
 returns c =
-    request-is _ _ _ _ _ _ _ _ _ _ _ _ _ c.before.before.before.before.before.before.before.before.before.before.before.before.before.before.before.before.before.before.before.room-prefix.ensures c.before.before.before.before.before.before.before.before.before.before.before.before.before.before.before.before.before.before.least.ensures c.before.before.before.before.before.before.before.before.before.before.before.before.before.before.before.before.before.word_end.ensures.1 c.before.before.before.before.before.before.before.before.before.before.before.before.before.before.before.word-key.ensures
-    c.before.before.before.before.before.before.before.before.before.before.before.before.before.before.row_of.ensures c.before.before.before.before.before.before.before.before.before.before.before.before.before.lent.ensures c.before.before.before.before.before.before.before.before.before.read-fields.ensures c.before.is_all.ensures c.is-there.ensures
+    request-is _ _ _ _ _ _ _ _ _ _ _ _ _ c.room_prefix-room.ensures c.least-from.ensures c.word_end-end.ensures.1 c.word_key-key.ensures
+    c.row_of-row.ensures c.lent-lent.ensures c.read_fields-fields.ensures c.is_all.ensures c.is_there.ensures
 
-pub read-line-spec : {M : Type 1} → statement M
-read-line-spec =
+pub read_line_spec : {M : Type 1} → statement M
+read_line_spec =
     tie.close
     (tie.spec
     (λ c κs. search rules)

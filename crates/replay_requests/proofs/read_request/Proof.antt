@@ -4,10 +4,10 @@ use Rattle.replay_requests.proofs.read_request.Statement.{statement}
 use Rattle.replay_requests.proofs.read_request.Tie as tie
 
 returns : tie.Need-returns
-returns c = kept-is _ _ _ _ _ _ _ c.before.before.before.before.before.before.before.before.before.before.before.before.before.before.least.ensures c.before.before.is-line.ensures c.before.before.before.before.before.before.before.before.before.read-line.ensures
+returns c = kept-is _ _ _ _ _ _ _ c.least-n.ensures c.is_line.ensures c.read_line-request.ensures
 
-pub read-request-spec : {M : Type 1} → statement M
-read-request-spec =
+pub read_request_spec : {M : Type 1} → statement M
+read_request_spec =
     tie.close
     (tie.spec
     (λ c κs. search rules)

@@ -7,90 +7,90 @@ use Rattle.replay_requests.proofs.TableLaws.{found_none}
 use Rattle.replay_requests.proofs.row_of.Statement.{statement}
 use Rattle.replay_requests.proofs.row_of.Tie as tie
 
-returns : tie.Need-returns
+returns : tie.Need-returns-in-1651078259
 unfolding row_of rows found word_key key_from
-returns c = ap row_of (sym c.match.keys1)
+returns c = ap row_of (sym c.in-1651078259.is)
 
-returns-2 : tie.Need-returns-2
+returns-2 : tie.Need-returns-in-1970695267
 unfolding row_of rows found word_key key_from
-returns-2 c = ap row_of (sym c.match.keys2)
+returns-2 c = ap row_of (sym c.in-1970695267.is)
 
-returns-3 : tie.Need-returns-3
+returns-3 : tie.Need-returns-in-7103842
 unfolding row_of rows found word_key key_from
-returns-3 c = ap row_of (sym c.match.keys3)
+returns-3 c = ap row_of (sym c.in-7103842.is)
 
-returns-4 : tie.Need-returns-4
+returns-4 : tie.Need-returns-in-119182699033972
 unfolding row_of rows found word_key key_from
-returns-4 c = ap row_of (sym c.match.keys4)
+returns-4 c = ap row_of (sym c.in-119182699033972.is)
 
-returns-5 : tie.Need-returns-5
+returns-5 : tie.Need-returns-in-1868723571
 unfolding row_of rows found word_key key_from
-returns-5 c = ap row_of (sym c.match.keys5)
+returns-5 c = ap row_of (sym c.in-1868723571.is)
 
-returns-6 : tie.Need-returns-6
+returns-6 : tie.Need-returns-in-122468667782516
 unfolding row_of rows found word_key key_from
-returns-6 c = ap row_of (sym c.match.keys6)
+returns-6 c = ap row_of (sym c.in-122468667782516.is)
 
-returns-7 : tie.Need-returns-7
+returns-7 : tie.Need-returns-in-7562609
 unfolding row_of rows found word_key key_from
-returns-7 c = ap row_of (sym c.match.keys7)
+returns-7 c = ap row_of (sym c.in-7562609.is)
 
-returns-8 : tie.Need-returns-8
+returns-8 : tie.Need-returns-in-32498748104864372
 unfolding row_of rows found word_key key_from
-returns-8 c = ap row_of (sym c.match.keys8)
+returns-8 c = ap row_of (sym c.in-32498748104864372.is)
 
-returns-9 : tie.Need-returns-9
+returns-9 : tie.Need-returns-in-1701669236
 unfolding row_of rows found word_key key_from
-returns-9 c = ap row_of (sym c.match.keys9)
+returns-9 c = ap row_of (sym c.in-1701669236.is)
 
-returns-10 : tie.Need-returns-10
+returns-10 : tie.Need-returns-in-499984983396
 unfolding row_of rows found word_key key_from
-returns-10 c = ap row_of (sym c.match.keys10)
+returns-10 c = ap row_of (sym c.in-499984983396.is)
 
-returns-11 : tie.Need-returns-11
+returns-11 : tie.Need-returns-in-440005651813
 unfolding row_of rows found word_key key_from
-returns-11 c = ap row_of (sym c.match.keys11)
+returns-11 c = ap row_of (sym c.in-440005651813.is)
 
-returns-12 : tie.Need-returns-12
+returns-12 : tie.Need-returns-in-126943972647277
 unfolding row_of rows found word_key key_from
-returns-12 c = ⊎_elim (λ h. ap row_of (sym h)) (λ h. ap row_of (sym h)) c.match.keys12
+returns-12 c = ⊎_elim (λ h. ap row_of (sym h)) (λ h. ap row_of (sym h)) c.in-126943972647277.is
 
-returns-13 : tie.Need-returns-13
+returns-13 : tie.Need-returns-in-33622466201215341
 unfolding row_of rows found word_key key_from
-returns-13 c = ⊎_elim (λ h. ap row_of (sym h)) (λ h. ap row_of (sym h)) c.match.keys13
+returns-13 c = ⊎_elim (λ h. ap row_of (sym h)) (λ h. ap row_of (sym h)) c.in-33622466201215341.is
 
-returns-14 : tie.Need-returns-14
+returns-14 : tie.Need-returns-in-426836389742
 unfolding row_of rows found word_key key_from
-returns-14 c = ap row_of (sym c.match.keys14)
+returns-14 c = ap row_of (sym c.in-426836389742.is)
 
-returns-15 : tie.Need-returns-15
+returns-15 : tie.Need-returns-in-31632277023061107
 unfolding row_of rows found word_key key_from
-returns-15 c = ap row_of (sym c.match.keys15)
+returns-15 c = ap row_of (sym c.in-31632277023061107.is)
 
-returns-16 : tie.Need-returns-16
+returns-16 : tie.Need-returns-in-7022083123464793189
 unfolding row_of rows found word_key key_from
-returns-16 c = ap row_of (sym c.match.keys16)
+returns-16 c = ap row_of (sym c.in-7022083123464793189.is)
 
-returns-17 : tie.Need-returns-17
+returns-17 : tie.Need-returns-in-1886151033
 unfolding row_of rows found word_key key_from
-returns-17 c = ap row_of (sym c.match.keys17)
+returns-17 c = ap row_of (sym c.in-1886151033.is)
 
-returns-18 : tie.Need-returns-18
+returns-18 : tie.Need-returns-in-1935892846
 unfolding row_of rows found word_key key_from
-returns-18 c = ap row_of (sym c.match.keys18)
+returns-18 c = ap row_of (sym c.in-1935892846.is)
 
-returns-19 : tie.Need-returns-19
+returns-19 : tie.Need-returns-in-1936486260
 unfolding row_of rows found word_key key_from
-returns-19 c = ap row_of (sym c.match.keys19)
+returns-19 c = ap row_of (sym c.in-1936486260.is)
 
-returns-20 : tie.Need-returns-20
+returns-20 : tie.Need-returns-in_default
 unfolding row_of rows word_key key_from
 returns-20 c =
-    let ((((((((before, split), write), canon), packets), assemble), play), scan), slot) = c.match.rest in
+    let ((((((((before, split), write), canon), packets), assemble), play), scan), slot) = c.in_default.in_default-own.rest in
     found_none _ _ rows _ ((((((((((before, λ h. split (inr h)), λ h. split (inl h)), λ h. write (inr h)), λ h. write (inl h)), canon), packets), assemble), play), scan), slot)
 
-pub row-of-spec : {M : Type 1} → statement M
-row-of-spec =
+pub row_of_spec : {M : Type 1} → statement M
+row_of_spec =
     tie.close
     (tie.spec
     returns

@@ -3,8 +3,8 @@ use Rattle.bench.specs.Scans.{end_said}
 use Rattle.bench.proofs.scans.end_said.Statement.{statement}
 use Rattle.bench.proofs.scans.end_said.Tie as tie
 
-returns : tie.Need-returns
-returns c = ap end_said (sym c.before.answer.given.1)
+returns : tie.Need-returns-in-Scanned
+returns c = ap end_said (sym c.in-Scanned.is)
 
-pub end-said-spec : {M : Type 1} → statement M
-end-said-spec = tie.close (tie.spec (λ c. search rules) (λ c. search rules) returns (λ c. search rules))
+pub end_said_spec : {M : Type 1} → statement M
+end_said_spec = tie.close (tie.spec (λ c. search rules) (λ c. search rules) returns (λ c. search rules))

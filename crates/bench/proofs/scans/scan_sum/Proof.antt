@@ -14,30 +14,29 @@ use Rattle.bench.proofs.scans.scan_sum.Tie as tie
 abbrev sums : List ℕ → List ℕ → Sequence → Answer ℕ
 sums f es q = accepted (sum_of q.header (removals modelled q) f es)
 
-sum-ends-requires : tie.Need-sum-ends-requires
+sum-ends-requires : tie.Need-sum_ends-requires
 sum-ends-requires c κs =
-    let p = c.before.before.before.before.before.parse-sequence-header in
-    read-within _ _ (limited-read _ _ (beside-whole _ p.result p.ensures _ c.before.before.answer.given.1))
+    let p = c.parse_sequence_header-read in
+    read-within _ _ (limited-read _ _ (beside-whole _ p.result p.ensures _ c.in-Header.is))
 
-returns : tie.Need-returns
+returns : tie.Need-returns-in-Header
 returns c =
-    let k = c.before.before.before.before.before.before in
-    let a = k.before.before.before.before.args in
-    let p = k.parse-sequence-header in
-    let x = c.before.before.before.answer.given in
-    c.sum-ends.ensures
-    ∙ ap (λ n. sum_of x.0.0 n a.frames.now a.ends.now) c.before.removals.ensures
-    ∙ ap bytes_or_none (beside-read _ p.result p.ensures (sums a.frames.now a.ends.now) _ x.1)
+    let k = c in
+    let a = k.args in
+    let p = k.parse_sequence_header-read in
+    c.sum_ends.ensures
+    ∙ ap (λ n. sum_of c.in-Header.header n a.frames.now a.ends.now) c.removals-removals.ensures
+    ∙ ap bytes_or_none (beside-read _ p.result p.ensures (sums a.frames.now a.ends.now) _ c.in-Header.is)
 
-returns-2 : tie.Need-returns-2
+returns-2 : tie.Need-returns-in-Refused
 returns-2 c =
-    let k = c.before.before.before in
-    let a = k.before.before.before.before.args in
-    let p = k.parse-sequence-header in
-    ap bytes_or_none (beside-refused _ p.result p.ensures (sums a.frames.now a.ends.now) _ c.enum_told.given.1)
+    let k = c in
+    let a = k.args in
+    let p = k.parse_sequence_header-read in
+    ap bytes_or_none (beside-refused _ p.result p.ensures (sums a.frames.now a.ends.now) _ c.in-Refused.is)
 
-pub scan-sum-spec : {M : Type 1} → statement M
-scan-sum-spec =
+pub scan_sum_spec : {M : Type 1} → statement M
+scan_sum_spec =
     tie.close
     (tie.spec
     (λ c κs. search rules)

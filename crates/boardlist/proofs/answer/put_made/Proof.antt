@@ -6,10 +6,10 @@ use Rattle.boardlist.proofs.answer.put_made.Tie as tie
 
 returns : tie.Need-returns
 unfolding span
-returns c = texted c.before.before.put-listing.ensures
+returns c = texted c.put_listing.ensures
 
-pub put-made-spec : {M : Type 1} → statement M
-put-made-spec =
+pub put_made_spec : {M : Type 1} → statement M
+put_made_spec =
     tie.close
     (tie.spec
     (λ c. search rules)

@@ -6,14 +6,14 @@ use lib.ListN.{length}
 use Rattle.boardplay.proofs.text.put_positions.Statement.{statement}
 use Rattle.boardplay.proofs.text.put_positions.Tie as tie
 
-abbrev invariant-loop : tie.invariant-loop
+abbrev invariant-loop : tie.invariant-loop-i
 invariant-loop text₀ at cue shown to₀ i₀ text to i = (i ≤ length shown) × (length text ≡ length text₀)
 
-abbrev decreases-loop : tie.decreases-loop
+abbrev decreases-loop : tie.decreases-loop-i
 decreases-loop text₀ at cue shown to₀ i₀ text to i = length shown - i
 
-pub put-positions-spec : {M : Type 1} → statement M
-put-positions-spec =
+pub put_positions_spec : {M : Type 1} → statement M
+put_positions_spec =
     tie.close
     (tie.spec
     invariant-loop

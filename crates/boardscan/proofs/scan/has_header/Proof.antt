@@ -6,14 +6,14 @@ use Rattle.boardscan.proofs.ScanLaws.{counted_has, refused-has}
 use Rattle.boardscan.proofs.scan.has_header.Statement.{statement}
 use Rattle.boardscan.proofs.scan.has_header.Tie as tie
 
-returns : tie.Need-returns
+returns : tie.Need-returns-in-Count
 returns c =
-    let n = c.before in
-    counted_has (obus n.before.before.before.before.args.unit.now) _ (sym n.before.before.count-obus.ensures ∙ ap counted_says n.n.given.1)
+    let n = c in
+    counted_has (obus n.args.unit.now) _ (sym n.count_obus.ensures ∙ ap counted_says n.in-Count.is)
 
-returns-2 : tie.Need-returns-2
+returns-2 : tie.Need-returns-in-Refused
 returns-2 c =
-    refused-has (obus c.before.before.before.before.args.unit.now) _ (sym c.before.before.count-obus.ensures ∙ ap counted_says c.enum_told.given.1)
+    refused-has (obus c.args.unit.now) _ (sym c.count_obus.ensures ∙ ap counted_says c.in-Refused.is)
 
-pub has-header-spec : {M : Type 1} → statement M
-has-header-spec = tie.close (tie.spec (λ c κs. search rules) (λ c. search rules) (λ c. search rules) returns returns-2)
+pub has_header_spec : {M : Type 1} → statement M
+has_header_spec = tie.close (tie.spec (λ c κs. search rules) (λ c. search rules) (λ c. search rules) returns returns-2)

@@ -7,14 +7,14 @@ use Rattle.boardscan.proofs.ScanLaws.{headless-read, headless-refused}
 use Rattle.boardscan.proofs.scan.headless.Statement.{statement}
 use Rattle.boardscan.proofs.scan.headless.Tie as tie
 
-returns : tie.Need-returns
+returns : tie.Need-returns-in-Count
 returns c =
-    headless-read (is_kind Any) (obus c.before.before.before.before.args.unit.now) _ (sym c.before.before.count-obus.ensures ∙ ap counted_says c.enum_told.given.1)
+    headless-read (is_kind Any) (obus c.args.unit.now) _ (sym c.count_obus.ensures ∙ ap counted_says c.in-Count.is)
 
-returns-2 : tie.Need-returns-2
+returns-2 : tie.Need-returns-in-Refused
 returns-2 c =
-    let k = c.before in
-    headless-refused (is_kind Any) (obus k.before.before.before.before.args.unit.now) _ (sym k.before.before.count-obus.ensures ∙ ap counted_says k.k.given.1)
+    let k = c in
+    headless-refused (is_kind Any) (obus k.args.unit.now) _ (sym k.count_obus.ensures ∙ ap counted_says k.in-Refused.is)
 
-pub headless-spec : {M : Type 1} → statement M
-headless-spec = tie.close (tie.spec (λ c κs. search rules) (λ c. search rules) (λ c. search rules) returns returns-2)
+pub headless_spec : {M : Type 1} → statement M
+headless_spec = tie.close (tie.spec (λ c κs. search rules) (λ c. search rules) (λ c. search rules) returns returns-2)

@@ -5,9 +5,9 @@ use Rattle.boardscan.proofs.scan.scan_segment.Tie as tie
 
 returns : tie.Need-returns
 returns c =
-    let g = c.before in
-    let k = g.before.before in
-    segment-scan _ _ k.before.empty-slots.ensures k.scan-unit.ensures g.scan-unit2.ensures
+    let g = c in
+    let k = g in
+    segment-scan _ _ k.empty_slots.ensures k.scan_unit-first.ensures g.scan_unit-second.ensures
 
-pub scan-segment-spec : {M : Type 1} → statement M
-scan-segment-spec = tie.close (tie.spec (λ c κs. search rules) (λ c κs. search rules) (λ c κs. search rules) returns)
+pub scan_segment_spec : {M : Type 1} → statement M
+scan_segment_spec = tie.close (tie.spec (λ c κs. search rules) (λ c κs. search rules) (λ c κs. search rules) returns)

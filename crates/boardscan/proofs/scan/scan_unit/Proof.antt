@@ -5,37 +5,37 @@ use Rattle.boardscan.proofs.ScanLaws.{scan-own, scan-led, scan-headless}
 use Rattle.boardscan.proofs.scan.scan_unit.Statement.{statement}
 use Rattle.boardscan.proofs.scan.scan_unit.Tie as tie
 
-returns : tie.Need-returns
+returns : tie.Need-returns-then-has_header
 returns c =
-    let p = c.before in
-    let i = p.before in
-    let h = i.before in
-    c.scan-frames.ensures
-    ∙ scan-own _ _ _ p.first-payload.ensures (sym h.has-header.ensures ∙ i.if1.true)
+    let p = c in
+    let i = p in
+    let h = i in
+    c.scan_frames.ensures
+    ∙ scan-own _ _ _ p.first_payload.ensures (sym h.has_header.ensures ∙ i.if-has_header.true)
 
-returns-2 : tie.Need-returns-2
+returns-2 : tie.Need-returns-then-has_header-2
 returns-2 c =
-    let p = c.before in
-    let i = p.before in
-    let h = i.before in
-    let j = h.before in
-    let g = j.before in
-    c.scan-frames2.ensures
-    ∙ scan-led _ _ _ p.first-payload2.ensures (sym g.has-header.ensures ∙ j.if1.false) (sym h.has-header2.ensures ∙ i.if2.true)
+    let p = c in
+    let i = p in
+    let h = i in
+    let j = h in
+    let g = j in
+    c.scan_frames-then-has_header-2.ensures
+    ∙ scan-led _ _ _ p.first_payload-then-has_header-2.ensures (sym g.has_header.ensures ∙ j.if-has_header.false) (sym h.has_header-2.ensures ∙ i.if-has_header-2.true)
 
-returns-3 : tie.Need-returns-3
+returns-3 : tie.Need-returns
 returns-3 c =
-    let p = c.before in
-    let i = p.before in
-    let h = i.before in
-    let j = h.before in
-    let g = j.before in
+    let p = c in
+    let i = p in
+    let h = i in
+    let j = h in
+    let g = j in
     c.stopped.ensures
     ∙ ap (stopped _) p.headless.ensures
-    ∙ scan-headless _ _ _ (sym g.has-header.ensures ∙ j.if1.false) (sym h.has-header2.ensures ∙ i.if2.false)
+    ∙ scan-headless _ _ _ (sym g.has_header.ensures ∙ j.if-has_header.false) (sym h.has_header-2.ensures ∙ i.if-has_header-2.false)
 
-pub scan-unit-spec : {M : Type 1} → statement M
-scan-unit-spec =
+pub scan_unit_spec : {M : Type 1} → statement M
+scan_unit_spec =
     tie.close
     (tie.spec
     (λ c κs. search rules)

@@ -5,16 +5,16 @@ use Rattle.listing.proofs.TextLaws.{length-counted}
 use Rattle.boardscan.proofs.text.put_named.Statement.{statement}
 use Rattle.boardscan.proofs.text.put_named.Tie as tie
 
-put-counted-requires : tie.Need-put-counted-requires
+put-counted-requires : tie.Need-put_counted-requires
 put-counted-requires c κs =
-    let s = c.before.before.before in
+    let s = c in
     omega (arith, s.requires, length-counted s.args.word.now s.args.v s.args.last, decimal-most s.args.v (omega arith))
 
 returns : tie.Need-returns
 returns c =
-    let f = c.before.before in
-    let s = f.before.before.before.before in
-    omega (arith, length-counted s.args.word.now s.args.v s.args.last, decimal-most s.args.v (omega arith), f.put-counted.ensures.next)
+    let f = c in
+    let s = f in
+    omega (arith, length-counted s.args.word.now s.args.v s.args.last, decimal-most s.args.v (omega arith), f.put_counted.ensures.next)
 
-pub put-named-spec : {M : Type 1} → statement M
-put-named-spec = tie.close (tie.spec put-counted-requires (λ c. search rules) returns)
+pub put_named_spec : {M : Type 1} → statement M
+put_named_spec = tie.close (tie.spec put-counted-requires (λ c. search rules) returns)
