@@ -5,5 +5,4 @@ pub mod PlanLaws
 pub mod MultiLaws
 pub mod WholeLaws
 pub mod RecordLaws
-pub mod Handed
 pub mod ExampleLaws

@@ -31,10 +31,7 @@ header-ext d at t f e l =
     let h = 8 * t + 4 + f in
     rw (q, pasted-one d at h (omega arith)) (pasted-set d at (h ∷ []) e l)
 
--- what a copy of all of s into a part as long holds
-pub copied : (s m : List ℕ) {ys : List ℕ} → length m ≡ length s → ys ≡ take (length s) s ++ drop (length s) m → ys ≡ s
-copied s m l e = e ∙ ap₂ ◌++◌ (take_all (length s) s (omega arith)) (drop_of_length-le m {i = length s} (omega arith)) ∙ append-nil s
-
+-- what a copy of all of s into a part as long leaves
 pub copied-there : (d s : List ℕ) (at : ℕ) {ys : List ℕ} → ys ≡ s → put_mid at (at + length s - at) d ys ≡ pasted d at s
 unfolding pasted
 copied-there d s at e = rw (e, Post-is at (at + length s) d (omega arith))
