@@ -8,7 +8,7 @@ use mathlib.Core.Bool.{cond as pick}
 use lib.ListN.{length, length-append, length-map}
 use lib.Dec.{ltb}
 use borrow.Author.Tests.{lt-ltb, le-ltb}
-use Rattle.bitio.specs.Parse.{Answer, refused, accepted, answer, stop, within, before, many}
+use Rattle.bitio.specs.Parse.{Answer, refused, accepted, answer, stop, before, many}
 use Rattle.bitio.specs.Leb.{sized}
 use Rattle.bitio.proofs.LebLaws.{bytes_most}
 use Rattle.obu.specs.Obu.{Obu, obu_bytes, unit_bytes}

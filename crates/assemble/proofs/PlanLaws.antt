@@ -8,7 +8,7 @@ use mathlib.Core.Option.{Option, none, some}
 use lib.ListN.{length, replicate}
 use lib.Dec.{eqb}
 use borrow.Author.Tests.{lt-ltb, le-ltb, le-leb, eqb-true}
-use Rattle.bitio.specs.Parse.{Answer, refused, accepted, answer, and_next}
+use Rattle.bitio.specs.Parse.{Answer, refused, accepted, and_next}
 use Rattle.bitio.specs.Limits.{limit, capped}
 use Rattle.bitio.specs.Lent.{span, pasted}
 use Rattle.bitio.proofs.LentLaws.{placed-room, lent-room, pasted_length, pasted-front}

@@ -5,7 +5,6 @@ use Rattle.obu.specs.Unit.{count}
 use mir.Val.{bool_byte}
 use Rattle.pictures.specs.Assemble.{Output}
 use Rattle.assemble.specs.Examples.{picture_kg, ranges_kg, output_kg, output_two}
-use Rattle.player.specs.Player.{start}
 use Rattle.listing.specs.File.{is_file, FileReading, read_layout, full, bad, read_into, file_numbers_after}
 use Rattle.listing.specs.Decimal.{decimal}
 use Rattle.listing.specs.Text.{listing, refused_text, refused_in_text}

@@ -4,8 +4,6 @@ use native.Mathlib.Omega.{arith}
 use mathlib.Core.Path.{◌≡◌, refl, ap}
 use mathlib.Core.Bool.{Bool, true, false, cond as pick, and-false}
 use Rattle.bitio.specs.Parse.{refused, accepted}
-use Rattle.header.specs.SequenceOpening.{opening}
-use Rattle.header.specs.SequenceCoding.{coding}
 use Rattle.header.specs.Support.{has_point_info, support}
 use Rattle.header.specs.Timed.{retimed, with_timing, timed}
 use Rattle.header.specs.declared.seq_header.SequenceHeader.{SequenceHeader}

@@ -3,11 +3,10 @@ use Prim.Native.Nat.{ℕ, ◌+◌, ◌-◌, ◌*◌, ◌≤◌, ◌<◌}
 use borrow.Rule.Slice.PartMut.{put_mid, Post-is}
 use native.Mathlib.Omega.{arith}
 use mathlib.Core.Path.{◌≡◌, ap, ap₂, ◌∙◌}
-use mathlib.Core.List.{List, [], ◌∷◌, ◌++◌, append_assoc, append-nil}
+use mathlib.Core.List.{List, [], ◌∷◌, ◌++◌, append_assoc}
 use mathlib.Core.Option.{Option, none, some}
 use mathlib.Core.Bool.{true, false}
-use lib.ListN.{length, take, drop, set, length-append, drop_of_length-le}
-use lib.Seq.{take_all}
+use lib.ListN.{length, set, length-append}
 use Rattle.bitio.specs.Parse.{accepted, refused}
 use Rattle.bitio.specs.Lent.{pasted}
 use Rattle.bitio.specs.Leb.{leb_bytes, framed}

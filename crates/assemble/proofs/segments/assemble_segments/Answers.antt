@@ -3,7 +3,7 @@ use Rattle.blocks.specs.declared.numbers.Segment.{Segment}
 use Rattle.pictures.specs.declared.settings.Settings.{Settings}
 use Rattle.pictures.specs.Assemble.{Outcome, Output}
 use Rattle.assemble.specs.declared.multi.Assembled.{Assembled}
-use Rattle.assemble.specs.Whole.{Lent, six, counts_of, lent_after, Handed}
+use Rattle.assemble.specs.Whole.{Lent, counts_of, lent_after, Handed}
 use Rattle.assemble.specs.Records.{numbers_after, copied_outcome, records_outcome}
 use Rattle.assemble.proofs.RecordLaws.{copied_is}
 use Rattle.assemble.proofs.segments.assemble_segments.Goals as goal

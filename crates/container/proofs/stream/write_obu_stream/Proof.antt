@@ -1,6 +1,5 @@
 use borrow.Author.Rules.{rules}
 use native.Mathlib.Omega.{arith}
-use borrow.Author.Tests.{not-true, not-false}
 use mathlib.Core.Path.{sym, ◌∙◌}
 use Rattle.container.proofs.ListLaws.{write-long, write-none, write-full, write_done}
 use Rattle.container.proofs.stream.write_obu_stream.Statement.{statement}

@@ -3,7 +3,6 @@ use native.Mathlib.Omega.{arith}
 use Rattle.emittable.proofs.seq_header.emit_fits.is_emittable.Statement.{statement}
 use Rattle.emittable.proofs.seq_header.emit_fits.is_emittable.Tie as tie
 use mathlib.Core.Path.{sym, ◌∙◌}
-use borrow.Author.Tests.{not-true, not-false}
 use Rattle.emittable.proofs.EmitSteps.{opening-bad, opening-good}
 use Rattle.emittable.proofs.BackSequence.{opening-delay, opening-count}
 
