@@ -1,5 +1,5 @@
 /* What the measurements, the tests on real streams and the comparison through C call: the exported stream reading of
-   `rt staticlib capi`, and what `rt staticlib bench` exports for them alone. */
+   `tools/built capi`, and what `tools/built bench` exports for them alone. */
 #ifndef BENCH_OURS_H
 #define BENCH_OURS_H
 

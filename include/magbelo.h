@@ -1,5 +1,5 @@
 /*
- * Stream reading and assembly for a packaging host. Link with the archive that `rt staticlib capi` writes.
+ * Stream reading and assembly for a packaging host. Link with the archive that `tools/built capi` makes.
  *
  * For both functions:
  * - A length counts elements, not bytes: of `uint32_t *ends` it is how many ends there is room for. Pointers are

@@ -1,5 +1,4 @@
 // Assembly from a lent list of range records (document 01): each is copied into the flat numbers that the core takes.
-// A slice of structs is proved by hand, so that copy_segments and assemble_segments do no more than they must.
 ghost use Rattle.std.specs.Prelude.{◌≡◌, ◌+◌, ◌*◌, ◌<◌, length};
 ghost use Rattle.bitio.specs.Lent.{pasted};
 ghost use Rattle.blocks.specs.Numbers.{width, record_of, segment_count};

@@ -1,5 +1,5 @@
 // Assembly by way of the entry on segment structs, for comparisons: flat numbers are put into a local array of structs,
-// whose front is lent. A caller that lends a slice of structs is proved by hand, so that assemble_boards does no more.
+// whose front is lent.
 ghost use Rattle.std.specs.Prelude.{◌≡◌, ◌≤◌, take};
 ghost use Rattle.blocks.specs.Numbers.{segment_count};
 ghost use Rattle.assemble.specs.Whole.{six, Handed};

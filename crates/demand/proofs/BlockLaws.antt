@@ -16,7 +16,7 @@ use Rattle.blocks.proofs.BlockLaws.{length-blocks}
 use Rattle.blocks.specs.Blocks.{Kind, Key, Golden, Show, block, blocks, kinds, Entry, layout, total}
 use Rattle.demand.specs.Kinds.{segment_behind}
 use Rattle.demand.proofs.Following.{entry, first, Behind, Ordered, Following}
-use Rattle.demand.proofs.ListLaws.{get_d-map-lt}
+use Rattle.demand.proofs.ListLaws.{get_or-map-lt}
 
 -- ---- one segment's units
 
@@ -61,7 +61,7 @@ segment-is i (ks ∷ kss) k d h = go (λ j w. segment-is (suc i) kss j d w) (ltb
     go more true e =
         let w = ltb-true k (length ks) e in
         let x = get_or-append (map (entry i) ks) (stacked (suc i) kss) d k (omega (arith, size)) in
-        let y = get_d-map-lt (entry i) ks k d Key w in
+        let y = get_or-map-lt (entry i) ks k d Key w in
         ap (λ (z : Entry). z.segment) (x ∙ y) ∙ omega arith
     go more false e =
         let w = ltb-false k (length ks) e in

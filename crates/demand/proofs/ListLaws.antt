@@ -17,10 +17,10 @@ use Rattle.demand.proofs.Following.{first}
 
 -- ---- maps
 
-pub get_d-map-lt : {A B : Type 0} (f : A → B) (l : List A) (k : ℕ) (d : B) (d' : A) → k < length l → get_or (map f l) k d ≡ f (get_or l k d')
-get_d-map-lt f [] k d d' h = absurd (omega arith)
-get_d-map-lt f (x ∷ l) zero d d' h = refl
-get_d-map-lt f (x ∷ l) (suc k) d d' h = get_d-map-lt f l k d d' (omega arith)
+pub get_or-map-lt : {A B : Type 0} (f : A → B) (l : List A) (k : ℕ) (d : B) (d' : A) → k < length l → get_or (map f l) k d ≡ f (get_or l k d')
+get_or-map-lt f [] k d d' h = absurd (omega arith)
+get_or-map-lt f (x ∷ l) zero d d' h = refl
+get_or-map-lt f (x ∷ l) (suc k) d d' h = get_or-map-lt f l k d d' (omega arith)
 
 pub map_both : {A B C : Type 0} (f : B → C) (g : A → B) (h : A → C) (l : List A) (d : A) → ((k : ℕ) → k < length l → f (g (get_or l k d)) ≡ h (get_or l k d)) → map f (map g l) ≡ map h l
 map_both f g h [] d e = refl

@@ -32,7 +32,7 @@ use Rattle.demand.specs.Premises.{Premise}
 use Rattle.demand.specs.Courses.{Course, done, plays, noise, Throughout}
 use Rattle.demand.specs.Demand.{Rising, empty_segment, IsUnit, Listed, PlaysRight}
 use Rattle.demand.proofs.Following.{entry, first, Following, first_key, segment-in, Since, show-led}
-use Rattle.demand.proofs.ListLaws.{get_d-map-lt, map_both, is_key, positions-map, positions-ext, positions-pass, pass-positions, Passes, positions-rising, cues-are, every-from}
+use Rattle.demand.proofs.ListLaws.{get_or-map-lt, map_both, is_key, positions-map, positions-ext, positions-pass, pass-positions, Passes, positions-rising, cues-are, every-from}
 use Rattle.demand.proofs.HandedLaws.{no_units, unit_of, unit_by, UnitsWithin, named-is}
 use Rattle.frame.proofs.FrameLaws.{flags-lt, shown-showable}
 use Rattle.demand.proofs.HeaderLaws.{show-frame}
@@ -188,7 +188,7 @@ module _ (set : Settings) (xs : List Segment) (m : Boards set xs) (short : Units
 
   module _ (p : ℕ) (lo : 1 ≤ p) (hi : p ≤ length es) where
     entry-is : get_or (map number es) (p - 1) 0 ≡ number (E p)
-    entry-is = get_d-map-lt number es (p - 1) 0 first (omega arith)
+    entry-is = get_or-map-lt number es (p - 1) 0 first (omega arith)
 
     segment-here : (E p).segment ≡ segment_of ns p
     segment-here = follows.segments (p - 1) (omega arith)
@@ -197,7 +197,7 @@ module _ (set : Settings) (xs : List Segment) (m : Boards set xs) (short : Units
     in_list = omega (arith, segment-here, segment-in ns (p - 1) (omega (arith, follows.within)), length-prepared)
 
     unit-is : U p ≡ unit_of (E p).kind (segment_units (E p).segment)
-    unit-is = get_d-map-lt (unit_by m.prepared) es (p - 1) [] first (omega arith)
+    unit-is = get_or-map-lt (unit_by m.prepared) es (p - 1) [] first (omega arith)
 
     ok : Paired q (renewal set m.first) m.payload (get_or xs (E p).segment empty_segment) (segment_units (E p).segment)
     ok = matches-at m.pairs (E p).segment empty_segment no_units in_list

@@ -1,6 +1,6 @@
 use borrow.Author.Rules.{rules}
 use native.Mathlib.Omega.{arith}
-use Rattle.bitio.proofs.EndsLaws.{get_d_past}
+use Rattle.bitio.proofs.EndsLaws.{get_or_past}
 use Rattle.bitio.proofs.ends.end_of.Statement.{statement}
 use Rattle.bitio.proofs.ends.end_of.Tie as tie
 
@@ -17,7 +17,7 @@ returns : tie.Need-returns-then-i-ends
 returns c = search rules
 
 returns-2 : tie.Need-returns
-returns-2 c = get_d_past c.args.ends.now c.args.i c.if-i-ends.false
+returns-2 c = get_or_past c.args.ends.now c.args.i c.if-i-ends.false
 
 pub end_of_spec : {M : Type 1} → statement M
 end_of_spec =
