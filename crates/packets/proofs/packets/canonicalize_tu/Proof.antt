@@ -1,6 +1,5 @@
 use borrow.Author.Rules.{rules}
 use native.Mathlib.Omega.{arith}
-use mathlib.Core.Path.{sym, ◌∙◌}
 use Rattle.packets.proofs.CanonicalLaws.{canon-long}
 use Rattle.packets.proofs.packets.canonicalize_tu.Statement.{statement}
 use Rattle.packets.proofs.packets.canonicalize_tu.Tie as tie
@@ -9,10 +8,10 @@ returns : tie.Need-returns-then-unit-gt-LIMIT
 returns c = canon-long _ _ (omega arith)
 
 clean-unit-requires : tie.Need-clean_unit-requires
-clean-unit-requires c κs = (omega arith, sym c.has_stray_delimiter.ensures ∙ c.if-has_stray_delimiter.true)
+clean-unit-requires c κs = (omega arith, cc)
 
 copy-unit-requires : tie.Need-copy_unit-requires
-copy-unit-requires c κs = record { short = omega arith; clean = sym c.has_stray_delimiter.ensures ∙ c.if-has_stray_delimiter.false }
+copy-unit-requires c κs = record { short = omega arith; clean = cc }
 
 pub canonicalize_tu_spec : {M : Type 1} → statement M
 canonicalize_tu_spec =
