@@ -1,8 +1,5 @@
 -- Nothing is to be known of a turn. The turns are counted down.
 use Rattle.replay.proofs.serve.Given as goal
 
-abbrev pub invariant-loop-turns : goal.invariant-loop-turns
-invariant-loop-turns g l = Unit {0}
-
 abbrev pub decreases-loop-turns : goal.decreases-loop-turns
 decreases-loop-turns g l = l.turns
