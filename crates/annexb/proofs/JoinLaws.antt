@@ -16,7 +16,7 @@ use Rattle.obu.specs.Obu.{Obu, passes, ext_bytes, header, head_obu, obus_of, obu
 use Rattle.obu.specs.Place.{wrong, place_of, obu_place}
 use Rattle.obu.specs.Write.{obu}
 use Rattle.obu.proofs.ObuLaws.{obu-shrinks}
-use Rattle.obu.proofs.PlaceLaws.{slice-to-end, Placed, IsPlaced}
+use Rattle.obu.proofs.PlaceLaws.{slice-to-end, Placed, IsPlaced, is-wrong}
 use Rattle.container.specs.AnnexB.{inner_bytes, annexb_unit, wrote, annexb_bytes}
 use Rattle.bitio.specs.Limits.{limit}
 use Rattle.container.specs.Units.{units_at, count_of, out_after}
@@ -127,8 +127,10 @@ module _ {s : List ℕ} {at n : ℕ} (c : Counting s at n) where
         few = omega (arith, c.few, p.after, p.ends);
       }
 
-  pub counting-stop : (k : ℕ) → at < length s → obu_place s at ≡ wrong k → refused k ≡ counts s
-  counting-stop k l q = rw (obus-are s ∙ passed-stop head_obu (obu-shrinks passes) s 0 (length s) c.passed l (omega arith) k (stop-at s at k l q))
+  pub counting-stop : (k : ℕ) → obu_place s at ≡ wrong k → refused k ≡ counts s
+  counting-stop k q =
+      let l = (is-wrong s at k q).0 in
+      rw (obus-are s ∙ passed-stop head_obu (obu-shrinks passes) s 0 (length s) c.passed l (omega arith) k (stop-at s at k l q))
 
   pub counting-end : length s ≤ at → accepted n ≡ counts s
   counting-end l = rw (obus-are s ∙ passed-end head_obu (obu-shrinks passes) s 0 (length s) c.passed l) (ap accepted c.bytes-are)

@@ -4,10 +4,7 @@ use native.Mathlib.Omega.{arith}
 use mathlib.Core.Path.{◌≡◌, refl, sym, ap, ◌∙◌}
 use mathlib.Core.List.{List, [], ◌∷◌, ◌++◌, map, flat_map, append-nil}
 use mathlib.Core.Option.{Option}
-use mathlib.Core.Bool.{cond as pick}
 use lib.ListN.{length, length-append, length-map}
-use lib.Dec.{ltb}
-use borrow.Author.Tests.{lt-ltb, le-ltb}
 use Rattle.bitio.specs.Parse.{Answer, refused, accepted, answer, stop, before, many}
 use Rattle.bitio.specs.Leb.{sized}
 use Rattle.bitio.proofs.LebLaws.{bytes_most}
@@ -233,12 +230,6 @@ module _ {s : List ℕ} {at start end p first last q bytes units : ℕ} (b : Obu
         few = omega (arith, b.few, b.passed.low);
       }
 
--- how the loops are left: all units are read, or there is a fault
-pub data Left (s : List ℕ) (at bytes units fault : ℕ) : Type 0 where
-  ended : length s ≤ at → UnitsDone s at bytes units → Left s at bytes units fault
-  faulted : at < length s → many temporal_unit s ≡ refused fault → Left s at bytes units fault
-
-pub left-answer : {s : List ℕ} {at bytes units fault : ℕ} → Left s at bytes units fault
-    → pick (ltb at (length s)) (refused fault) (accepted (record { bytes = bytes; units = units })) ≡ sizes_of (units_read s)
-left-answer {s} {at} (ended k u) = rw (le-ltb at (length s) k) (units-sizes u k)
-left-answer {s} {at} (faulted k e) = rw (lt-ltb at (length s) k, e)
+-- the first fault is the answer
+pub fault-says : (s : List ℕ) {k : ℕ} → many temporal_unit s ≡ refused k → refused k ≡ sizes_of (units_read s)
+fault-says s e = rw e

@@ -4,45 +4,41 @@ use native.Mathlib.Omega.{arith}
 use mathlib.Core.Path.{◌≡◌, refl, sym, ap, ap₂, ◌∙◌}
 use mathlib.Core.List.{List, [], ◌∷◌, ◌++◌, append_assoc}
 use mathlib.Core.Option.{Option, none, some}
-use mathlib.Core.Bool.{true, false}
+use mathlib.Core.Bool.{true}
 use lib.ListN.{length, get_or, take, drop, length-append}
 use lib.Dec.{eqb}
 use borrow.Author.Tests.{lt-leb, le-leb, ne_eqb, eq-eqb}
 use Rattle.bitio.specs.Parse.{Answer, refused, accepted, Head, stop, item, before, within}
 use Rattle.bitio.specs.Leb.{Number, no_leb, leb_then, read_leb, leb_answer, sized}
-use Rattle.bitio.specs.declared.leb128.Leb.TheVariants.{Value}
+use Rattle.std.specs.Prelude.{Some, Result, Ok, Err}
+use Rattle.bitio.specs.Refusal.{number, says}
+use Rattle.bitio.specs.declared.refusal.Refusal.{Refusal}
+use Rattle.obu.specs.declared.reader.Obu.{Obu as Found}
+use Rattle.std.specs.declared.ops.Range.{Range}
 use Rattle.bitio.proofs.ParseLaws.{pick-both, pick-cases, Parts}
 use Rattle.bitio.proofs.LebLaws.{LebParts, read-parts, Sized, sized-parts, is_number}
 use Rattle.bitio.specs.Lent.{span}
 use Rattle.obu.specs.Obu.{Obu, flag, obu_type, passes, obu_with}
-use types.Run.{OneOf}
-use denote.Enum.Declared.{tag_of}
-use Rattle.obu.specs.Place.{wrong, lies, place_refusal}
+use Rattle.obu.specs.Place.{wrong, lies, found_says}
 use Rattle.container.specs.AnnexB.{with_size, typed, extended_b, inner_obu_of, inner_obu, length_obu_of, length_obu}
-use Rattle.annexb.specs.code.Spans.{no_spot, spot, spot_of, place_to, place_up_to, spot_refusal, part_says, inner_says}
-use Rattle.annexb.specs.declared.annexb.part.PartAt.{PartAt}
-use Rattle.annexb.specs.declared.annexb.part.PartAt.TheVariants.{Part, Refused as PartRefused}
-use Rattle.annexb.specs.declared.annexb.part.InnerAt.{InnerAt}
-use Rattle.annexb.specs.declared.annexb.part.InnerAt.TheVariants.{Found, Refused as InnerRefused}
-use Rattle.annexb.specs.contracts.annexb.part.PartAt.{the_type as part_type}
-use Rattle.annexb.specs.contracts.annexb.part.InnerAt.{the_type as inner_type}
+use Rattle.annexb.specs.code.Spans.{part_to, place_to, place_up_to}
 use Rattle.annexb.proofs.SpanLaws.{span-length, span-drop, span-take, span_none, span-cons, Spanned, parts_at}
 
 -- ---- the outcomes of a sized part
 
 module _ (s : List ℕ) (at e x y : ℕ) where
-  pub part_none : read_leb (span s at e) ≡ no_leb → no_spot x ≡ spot_of e (sized x y (span s at e))
+  pub part_none : read_leb (span s at e) ≡ no_leb → refused x ≡ part_to e (sized x y (span s at e))
   unfolding sized
   part_none b = rw b
 
   module _ (m : e ≤ length s) (n q : ℕ) (b : read_leb (span s at e) ≡ leb_then n (span s q e)) where
-    pub part-over : e - q < n → no_spot y ≡ spot_of e (sized x y (span s at e))
+    pub part-over : e - q < n → refused y ≡ part_to e (sized x y (span s at e))
     unfolding sized
     part-over l =
         let k : length (span s q e) < n = rw (span-length s q e m) l in
         rw (b, lt-leb n (length (span s q e)) k)
 
-    pub part-got : q ≤ e → n ≤ e - q → spot q (q + n) ≡ spot_of e (sized x y (span s at e))
+    pub part-got : q ≤ e → n ≤ e - q → accepted (record { start = q; end = q + n }) ≡ part_to e (sized x y (span s at e))
     unfolding sized
     part-got w l =
         let k : n ≤ length (span s q e) = rw (span-length s q e m) l in
@@ -53,7 +49,7 @@ module _ (s : List ℕ) (at e x y : ℕ) where
         rw (b, le-leb n (length (span s q e)) k, d, t, j, i)
 
 -- a number in the part from a to e
-pub number_at : (s : List ℕ) (a e v n : ℕ) → a ≤ e → e ≤ length s → leb_answer (span s a e) (read_leb (span s a e)) ≡ Value v n
+pub number_at : (s : List ℕ) (a e v n : ℕ) → a ≤ e → e ≤ length s → leb_answer (span s a e) (read_leb (span s a e)) ≡ Some (v, n)
     → (read_leb (span s a e) ≡ leb_then v (span s (a + n) e)) × (a + n ≤ e)
 number_at s a e v n l m q =
     let i = is_number (span s a e) v n q in
@@ -67,28 +63,27 @@ pub record IsPart (x y : ℕ) (s : List ℕ) (at e a b : ℕ) : Type 0 where
   pub within : b ≤ e
 
 module _ (x y : ℕ) (s : List ℕ) (at e : ℕ) where
-  pub is-part : at ≤ e → e ≤ length s → {a b : ℕ} → spot_of e (sized x y (span s at e)) ≡ spot a b → IsPart x y s at e a b
-  is-part l m {a} {b} q = go (sized x y (span s at e)) refl (sized-parts x y (span s at e)) q
+  pub is-part : at ≤ e → e ≤ length s → {r : Range ℕ} → part_to e (sized x y (span s at e)) ≡ accepted r → IsPart x y s at e r.start r.end
+  is-part l m {r = o} q = go (sized x y (span s at e)) refl (sized-parts x y (span s at e)) q
     where
-      go : (h : Head (List ℕ)) → sized x y (span s at e) ≡ h → Sized (span s at e) h → spot_of e h ≡ spot a b → IsPart x y s at e a b
+      go : (h : Head (List ℕ)) → sized x y (span s at e) ≡ h → Sized (span s at e) h → part_to e h ≡ accepted o → IsPart x y s at e o.start o.end
       go (stop k) p z q = let z : ◌≡◌ {A = ℕ} 0 1 = cc in absurd (omega arith)
       go (item t r) p z q =
-          let ea : e - length r - length t ≡ a = cc in
-          let eb : e - length r ≡ b = cc in
-          let w : Spanned s at e t r a b = rw (ea, eb) at (parts_at s at e l m z) in
+          let f : record { start = e - length r - length t; end = e - length r } ≡ o = cc in
+          let w : Spanned s at e t r o.start o.end = rw (ap (λ (x : Range ℕ). x.start) f, ap (λ (x : Range ℕ). x.end) f) at (parts_at s at e l m z) in
           record { head = p ∙ ap₂ item (sym w.here) (sym w.rest); after = w.after; ends = w.ends; within = w.within }
 
-  pub is-no-part : {k : ℕ} → spot_of e (sized x y (span s at e)) ≡ no_spot k → sized x y (span s at e) ≡ stop k
+  pub is-no-part : {k : ℕ} → part_to e (sized x y (span s at e)) ≡ refused k → sized x y (span s at e) ≡ stop k
   is-no-part {k} q = go (sized x y (span s at e)) q
     where
-      go : (h : Head (List ℕ)) → spot_of e h ≡ no_spot k → h ≡ stop k
+      go : (h : Head (List ℕ)) → part_to e h ≡ refused k → h ≡ stop k
       go (stop j) q = let z : j ≡ k = cc in rw z
       go (item t r) q = let z : ◌≡◌ {A = ℕ} 0 1 = cc in absurd (omega arith)
 
-  -- an answer that is no part is a refusal
-  pub not-part : (r : PartAt) → OneOf (1 ∷ []) (tag_of part_type r) → part_says r ≡ spot_of e (sized x y (span s at e)) → sized x y (span s at e) ≡ stop (spot_refusal (part_says r))
-  not-part (Part a b) k q = absurd (omega arith)
-  not-part (PartRefused n) k q = is-no-part (sym q)
+  -- where there is such a part, the code answers with one
+  pub part-answer : (r : Result (Range ℕ) Refusal) → says r ≡ part_to e (sized x y (span s at e)) → ((k : ℕ) → sized x y (span s at e) ≡ stop k → ⊥) → (p : Range ℕ) × (r ≡ Ok p)
+  part-answer (Ok p) q n = (p, refl)
+  part-answer (Err k) q n = absurd (n (number k) (is-no-part (sym q)))
 
 -- ---- the outcomes of an OBU that fills its bytes
 
@@ -114,13 +109,7 @@ module _ (s : List ℕ) (e : ℕ) (m : e ≤ length s) where
           let k : n ≡ length (span s q e) = d ∙ sym (span-length s q e m) in
           rw (b, eq-eqb n (length (span s q e)) k) (payload-from h x q l)
 
-    pub typed-none : passes (obu_type h) ≡ false → wrong 2 ≡ place_up_to e (typed true h x (span s p e))
-    typed-none a = rw a
-
     module _ (a : passes (obu_type h) ≡ true) where
-      pub typed-sized : h / 2 % 2 ≡ 1 → place_up_to e (with_size h x (read_leb (span s p e))) ≡ place_up_to e (typed true h x (span s p e))
-      typed-sized q = rw (a, q)
-
       pub typed-rest : p ≤ e → (h / 2 % 2 ≡ 1 → ⊥) → lies (obu_type h) x p e ≡ place_up_to e (typed true h x (span s p e))
       typed-rest l q = rw (a, ne_eqb (h / 2 % 2) 1 q) (payload-from h x p l)
 
@@ -260,10 +249,10 @@ module _ (s : List ℕ) (at e : ℕ) where
       go (stop j) q = let z : j ≡ k = cc in rw z
       go (item t r) q = let z : ◌≡◌ {A = ℕ} 0 1 = cc in absurd (omega arith)
 
-  -- an answer that is no OBU is a refusal
-  pub not-obu : (r : InnerAt) → OneOf (1 ∷ []) (tag_of inner_type r) → inner_says r ≡ place_to e (length_obu (span s at e)) → length_obu (span s at e) ≡ stop (place_refusal (inner_says r))
-  not-obu (Found o) k q = absurd (omega arith)
-  not-obu (InnerRefused n) k q = is-no-obu (sym q)
+  -- where there is such an OBU, the code answers with one
+  pub obu-answer : (r : Result Found Refusal) → found_says r ≡ place_to e (length_obu (span s at e)) → ((k : ℕ) → length_obu (span s at e) ≡ stop k → ⊥) → (o : Found) × (r ≡ Ok o)
+  obu-answer (Ok o) q n = (o, refl)
+  obu-answer (Err k) q n = absurd (n (number k) (is-no-obu (sym q)))
 
 -- the outcomes of an OBU behind its length
 module _ (s : List ℕ) (at e : ℕ) where

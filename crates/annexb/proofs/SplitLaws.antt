@@ -7,8 +7,6 @@ use mathlib.Core.Bool.{true, false, cond as pick, ◌&&◌}
 use lib.ListN.{length, length-map}
 use lib.Dec.{leb}
 use borrow.Author.Tests.{le-leb, lt-leb, leb-true}
-use types.Run.{OneOf}
-use denote.Enum.Declared.{tag_of}
 use Rattle.bitio.specs.Parse.{Answer, refused, accepted, answer, many}
 use Rattle.bitio.proofs.ParseLaws.{and_both}
 use Rattle.obu.specs.Obu.{Obu, unit_bytes}
@@ -17,11 +15,9 @@ use Rattle.container.specs.AnnexB.{temporal_unit, annexb_units_of, annexb_units}
 use Rattle.bitio.specs.Limits.{limit}
 use Rattle.container.specs.Limits.{Room, fits, fit_units, room_in}
 use Rattle.container.specs.Container.{annexb, read}
-use Rattle.container.specs.Units.{Sizes, sizes_of, bytes_after, ends_after, split_says}
+use Rattle.container.specs.declared.units.Sizes.{Sizes}
+use Rattle.container.specs.Units.{sizes_of, bytes_after, ends_after}
 use Rattle.annexb.specs.code.Fill.{UnitsRoom, Filled, units_read}
-use Rattle.container.specs.declared.units.Split.{Split}
-use Rattle.container.specs.declared.units.Split.TheVariants.{Units, Refused}
-use Rattle.container.specs.contracts.units.Split.{the_type}
 use Rattle.container.proofs.AnnexBLaws.{annexb-some}
 
 -- an answer's three parts, as a reader's three clauses ask them
@@ -101,8 +97,3 @@ measured {d = d} {e} {n} {u} c q =
 -- what was written is what was read
 pub says-whole : (room : Room) {s d e d' e' : List ℕ} {a : Answer Sizes} → read annexb room s ≡ units_read s → a ≡ sizes_of (units_read s) → Filled s d e d' e' → Says (read annexb room s) a d e d' e'
 says-whole room q m w = rw q (m, (w.out, w.ends))
-
--- an answer without units is a refusal
-pub not-units : {x : Answer Sizes} (r : Split) → OneOf (1 ∷ []) (tag_of the_type r) → split_says r ≡ x → (k : ℕ) × (split_says r ≡ refused k) × (x ≡ refused k)
-not-units (Units n u) t q = absurd (omega arith)
-not-units (Refused k) t q = (k, refl, sym q)

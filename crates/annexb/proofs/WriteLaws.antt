@@ -1,26 +1,21 @@
 -- The outcomes of writing Annex B into lent memory.
 use Prim.Native.Nat.{ℕ, ◌≤◌, ◌<◌}
 use native.Mathlib.Omega.{arith}
-use mathlib.Core.Path.{◌≡◌, refl, sym, ◌∙◌}
-use mathlib.Core.List.{List, [], ◌∷◌}
+use mathlib.Core.Path.{◌≡◌, refl, ◌∙◌}
+use mathlib.Core.List.{List}
 use mathlib.Core.Bool.{true, false, cond as pick, ◌&&◌}
 use lib.ListN.{length}
 use lib.Dec.{leb}
 use borrow.Author.Tests.{le-leb, lt-leb, leb-true}
-use types.Run.{OneOf}
-use denote.Enum.Declared.{tag_of}
 use Rattle.bitio.specs.Parse.{Answer, refused, accepted, and_next, accepted_list}
 use Rattle.container.specs.AnnexB.{annexb_bytes}
 use Rattle.bitio.specs.Limits.{limit}
 use Rattle.container.specs.Limits.{Room, bytes_room, fits, fit_bytes}
 use Rattle.container.specs.Container.{annexb, write_at}
-use Rattle.container.specs.Units.{units_at, count_of, out_after, byte_count_says}
+use Rattle.container.specs.Units.{units_at, count_of, out_after}
 use Rattle.container.proofs.ListLaws.{units-refused}
 use Rattle.container.specs.Lists.{accepts}
 use Rattle.annexb.specs.code.Join.{AnnexbRoom}
-use Rattle.container.specs.declared.units.ByteCount.{ByteCount}
-use Rattle.container.specs.declared.units.ByteCount.TheVariants.{Bytes, Refused}
-use Rattle.container.specs.contracts.units.ByteCount.{the_type}
 use Rattle.bitio.proofs.ParseLaws.{and_both}
 use Rattle.annexb.proofs.CutLaws.{accepted-is}
 
@@ -34,11 +29,6 @@ writes-refused d q = (rw q, rw q)
 
 pub writes-whole : {x y : Answer (List ℕ)} {a : Answer ℕ} (d : List ℕ) {d' : List ℕ} → x ≡ y → a ≡ count_of y → d' ≡ out_after y d → WriterSays x a d d'
 writes-whole d q m w = (rw q m, rw q w)
-
--- an answer without bytes is a refusal
-pub not-bytes : {x : Answer ℕ} (r : ByteCount) → OneOf (1 ∷ []) (tag_of the_type r) → byte_count_says r ≡ x → (k : ℕ) × (byte_count_says r ≡ refused k) × (x ≡ refused k)
-not-bytes (Bytes n) t q = absurd (omega arith)
-not-bytes (Refused k) t q = (k, refl, sym q)
 
 module _ (room : Room) (s es : List ℕ) where
   pub write-long : limit < length s → write_at annexb room s es ≡ refused 34

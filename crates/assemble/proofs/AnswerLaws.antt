@@ -3,10 +3,13 @@ use Prim.Native.Nat.{ℕ}
 use native.Mathlib.Omega.{arith}
 use mathlib.Core.Path.{◌≡◌, refl, sym, ap, ◌∙◌}
 use mathlib.Core.Option.{Option}
+use Rattle.std.specs.Prelude.{Result}
 use denote.Triple.Both.{Both}
 use Rattle.pictures.specs.Assemble.{Outcome, stopped, made, and_also, Output}
-use Rattle.assemble.specs.Whole.{assembled_says, counts_of, Lent, lent_after, Handed}
-use Rattle.assemble.specs.declared.multi.Assembled.{Assembled}
+use Rattle.pictures.specs.declared.fault.Fault.{Fault}
+use Rattle.pictures.specs.Says.{outcome_of}
+use Rattle.assemble.specs.Whole.{counts_of, Lent, lent_after, Handed}
+use Rattle.assemble.specs.declared.multi.Counts.{Counts}
 
 -- an outcome whose counts are a refusal is that refusal
 pub stopped-is : (x : Outcome Output) (k : ℕ) (i : Option ℕ) → stopped k i ≡ counts_of x → x ≡ stopped k i
@@ -18,9 +21,9 @@ stopped-is (stopped n j) k i e =
 stopped-is (made o) k i e = let z : ◌≡◌ {A = ℕ} 0 1 = cc in absurd (omega arith)
 
 -- a refusal leaves the lent slices as they were
-pub kept : (x : Lent → Outcome Output) (d : Lent) (r : Assembled) {k : ℕ} {i : Option ℕ} → assembled_says r ≡ stopped k i → x d ≡ stopped k i → Handed x r (record { entry = d; exit = d })
+pub kept : (x : Lent → Outcome Output) (d : Lent) (r : Result Counts Fault) {k : ℕ} {i : Option ℕ} → outcome_of r ≡ stopped k i → x d ≡ stopped k i → Handed x r (record { entry = d; exit = d })
 unfolding and_also
 kept x d r e w = record { answer = e ∙ sym (ap counts_of w); lent = sym (ap (λ (o : Outcome Output). lent_after o d) w) }
 
-pub retold : {x y : Lent → Outcome Output} {r : Assembled} {d : Both Lent Lent} → x d.entry ≡ y d.entry → Handed x r d → Handed y r d
+pub retold : {x y : Lent → Outcome Output} {r : Result Counts Fault} {d : Both Lent Lent} → x d.entry ≡ y d.entry → Handed x r d → Handed y r d
 retold {d = d} e h = record { answer = h.answer ∙ ap counts_of e; lent = h.lent ∙ ap (λ (o : Outcome Output). lent_after o d.entry) e }

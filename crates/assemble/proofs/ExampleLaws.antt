@@ -11,7 +11,7 @@ use Rattle.bitio.specs.Lent.{span}
 use Rattle.obu.specs.Obu.{passes, head_obu_of, obus_of, obu_bytes, unit_bytes}
 use Rattle.obu.specs.Unit.{is_type, has, last_payload, count, first_payload}
 use Rattle.obu.specs.Place.{part}
-use Rattle.header.specs.Fields.{read_flag, read_or, flag_or, uvlc_or}
+use Rattle.bitio.specs.Fields.{read_flag, read_or, flag_or, uvlc_or}
 use Rattle.header.specs.SequenceOpening.{timing_info, decoder_model_info, opening}
 use Rattle.header.specs.SequencePoints.{operating_point, operating_points}
 use Rattle.header.specs.SequenceCoding.{frame_size, frame_ids, coding_tools, screen_tools, filters, color_description, color_sampling, coding}

@@ -1,23 +1,22 @@
 -- Laws of what is written: how much there is, that it output_fits, and that it is what assembly hands out.
 use Prim.Native.Nat.{ℕ, ◌+◌, ◌≤◌, ◌<◌}
 use native.Mathlib.Omega.{arith}
-use mathlib.Core.Path.{◌≡◌, refl, sym, ap, ◌∙◌}
+use mathlib.Core.Path.{◌≡◌, refl, ◌∙◌}
 use mathlib.Core.List.{List}
-use mathlib.Core.Bool.{Bool, true, false, cond as pick, ◌&&◌}
+use mathlib.Core.Bool.{Bool, true, false, ◌&&◌}
 use lib.ListN.{length, length-map}
 use lib.Dec.{leb}
 use borrow.Author.Tests.{lt-leb, leb-true, leb-false}
 use Rattle.bitio.specs.Limits.{limit, capped}
-use Rattle.obu.specs.Obu.{passes, obu_bytes}
-use Rattle.obu.specs.Place.{extension_says}
+use Rattle.obu.specs.Obu.{passes}
 use Rattle.obu.specs.Write.{obu_length, obu}
 use Rattle.obu.proofs.LengthLaws.{obu-length}
 use Rattle.bitio.proofs.ParseLaws.{and_both}
 use Rattle.blocks.specs.Blocks.{layout, number, list_of, total}
 use Rattle.pictures.specs.Assemble.{Output, OutputRoom, output_fits}
-use Rattle.assemble.specs.code.Stages.{header_in, own_in, fits_in}
+use Rattle.assemble.specs.code.Stages.{header_in, extension_in, payload_in, fits_in}
 use Rattle.assemble.specs.declared.multi.Counts.{Counts}
-use Rattle.assemble.specs.declared.plan.Basis.{Basis}
+use Rattle.assemble.specs.declared.headers.Headers.{Headers}
 use Rattle.blocks.proofs.BlockLaws.{length-layout}
 
 -- ---- the header OBU
@@ -26,24 +25,10 @@ pub one_passes : passes 1 ≡ true
 unfolding passes
 one_passes = refl
 
-module _ (s rs new : List ℕ) (b : Basis) where
-  -- the OBU with payload p
-  abbrev with-payload : List ℕ → List ℕ
-  with-payload p = obu_bytes (obu 1 (extension_says b.extension) p)
-
-  pub header-is-new : b.rewriting ≡ true → header_in s rs new b ≡ with-payload new
-  unfolding header_in
-  header-is-new e = ap (λ (t : Bool). with-payload (pick t new (own_in s rs b))) e
-
-  pub header-is-own : b.rewriting ≡ false → header_in s rs new b ≡ with-payload (own_in s rs b)
-  unfolding header_in
-  header-is-own e = ap (λ (t : Bool). with-payload (pick t new (own_in s rs b))) e
-
-  pub length-new : b.rewriting ≡ true → obu_length (extension_says b.extension) (length new) ≡ length (header_in s rs new b)
-  length-new e = sym (ap length (header-is-new e) ∙ obu-length (obu 1 (extension_says b.extension) new))
-
-  pub length-own : b.rewriting ≡ false → obu_length (extension_says b.extension) (length (own_in s rs b)) ≡ length (header_in s rs new b)
-  length-own e = sym (ap length (header-is-own e) ∙ obu-length (obu 1 (extension_says b.extension) (own_in s rs b)))
+-- how many bytes it has
+pub header_length : (s rs : List ℕ) (h : Headers) → length (header_in s rs h) ≡ obu_length (extension_in h) (length (payload_in s rs h))
+unfolding header_in
+header_length s rs h = obu-length (obu 1 (extension_in h) (payload_in s rs h))
 
 -- ---- how much there is
 
@@ -61,9 +46,9 @@ same-counts a b d i j k l = rw (a, b, d, i, j, k, l)
 
 -- ---- room
 
-pub over-limit : (room : OutputRoom) (n : Counts) → limit < n.picture + n.shows + n.header → false ≡ fits_in room n
+pub over_limit : (room : OutputRoom) (n : Counts) → limit < n.picture + n.shows + n.header → false ≡ fits_in room n
 unfolding fits_in
-over-limit room n h = rw (lt-leb (n.picture + n.shows + n.header) limit h)
+over_limit room n h = rw (lt-leb (n.picture + n.shows + n.header) limit h)
 
 pub in-limit : (room : OutputRoom) (n : Counts) (r : Bool)
     → r ≡ (leb (n.picture + n.shows + n.header) limit && leb n.units room.list && leb n.cues room.cues && leb n.picture room.picture && leb n.ends room.ends && leb n.shows room.shows && leb n.header room.header)

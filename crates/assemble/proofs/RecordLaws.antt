@@ -23,12 +23,6 @@ use Rattle.assemble.specs.Records.{numbers_of, copy_count, numbers_after, no_roo
 
 -- ---- how many are copied
 
-pub copy-all : (count room : ℕ) → count ≤ room / width → count ≡ copy_count count room
-copy-all count room h = simp (le-leb count (room / width) h)
-
-pub copy-none : (count room : ℕ) → room / width < count → 0 ≡ copy_count count room
-copy-none count room h = simp (lt-leb count (room / width) h)
-
 pub copied-within : (count room : ℕ) → copy_count count room ≤ count
 copied-within count room = pick-cases (λ n. n ≤ count) (leb count (room / width)) (λ e. omega arith) (λ e. omega arith)
 
@@ -51,18 +45,16 @@ unfolding numbers_of
 numbers-cons x xs = refl
 
 -- the numbers of i segments stand in d, which held d₀
-pub record Copying (xs : List SegmentStruct) (d₀ d : List ℕ) (at i : ℕ) : Type 0 where
+pub record Copying (xs : List SegmentStruct) (d₀ d : List ℕ) (i : ℕ) : Type 0 where
   pub within : i ≤ copy_count (length xs) (length d₀)
-  pub place : at ≡ i
   pub len : length d ≡ length d₀
-  pub rest : pasted d (width * at) (numbers_of (drop i (take (copy_count (length xs) (length d₀)) xs))) ≡ numbers_after xs d₀
+  pub rest : pasted d (width * i) (numbers_of (drop i (take (copy_count (length xs) (length d₀)) xs))) ≡ numbers_after xs d₀
 
-pub copy_start : (xs : List SegmentStruct) (d : List ℕ) → Copying xs d d 0 0
+pub copy_start : (xs : List SegmentStruct) (d : List ℕ) → Copying xs d d 0
 unfolding numbers_after
 copy_start xs d =
     record {
       within = omega arith;
-      place = refl;
       len = refl;
       rest = go (leb (length xs) (segment_count d));
     }
@@ -71,36 +63,35 @@ copy_start xs d =
     go true = ap (λ (l : List SegmentStruct). pasted d 0 (numbers_of l)) (take_all (length xs) xs (omega arith))
     go false = ap (pasted d 0) numbers-nil ∙ pasted-nil d 0
 
-module _ {xs : List SegmentStruct} {d₀ d : List ℕ} {at i : ℕ} (r : Copying xs d₀ d at i) where
+module _ {xs : List SegmentStruct} {d₀ d : List ℕ} {i : ℕ} (r : Copying xs d₀ d i) where
   pub copy-end : copy_count (length xs) (length d₀) ≤ i → d ≡ numbers_after xs d₀
   copy-end h =
       let n = copy_count (length xs) (length d₀) in
       let e : drop i (take n xs) ≡ [] = drop_of_length-le (take n xs) {i = i} (omega (arith, length-take n xs)) in
-      sym (pasted-nil d (width * at)) ∙ ap (pasted d (width * at)) (sym (ap numbers_of e ∙ numbers-nil)) ∙ r.rest
+      sym (pasted-nil d (width * i)) ∙ ap (pasted d (width * i)) (sym (ap numbers_of e ∙ numbers-nil)) ∙ r.rest
 
   module _ (h : i < copy_count (length xs) (length d₀)) where
     pub copy-less : i < length xs
     copy-less = omega (arith, copied-within (length xs) (length d₀))
 
-    pub copy-room : at < segment_count d
-    copy-room = omega (arith, copied-room (length xs) (length d₀), r.place, r.len)
+    pub copy-room : i < segment_count d
+    copy-room = omega (arith, copied-room (length xs) (length d₀), r.len)
 
-    pub copy-turn : (m : ℕ) (d' : List ℕ) → m ≡ at + 1 → d' ≡ pasted d (width * at) (record_of (get_or xs i no_segment)) → Copying xs d₀ d' m (i + 1)
-    copy-turn m d' e f =
+    pub copy-turn : (d' : List ℕ) → d' ≡ pasted d (width * i) (record_of (get_or xs i no_segment)) → Copying xs d₀ d' (i + 1)
+    copy-turn d' f =
         let n = copy_count (length xs) (length d₀) in
         let x = get_or xs i no_segment in
-        let k : width * m ≡ width * at + width = omega (arith, e) in
+        let k : width * (i + 1) ≡ width * i + width = omega arith in
         let l : i < length (take n xs) = omega (arith, length-take n xs, copied-within (length xs) (length d₀)) in
         let behind : drop i (take n xs) ≡ x ∷ drop (i + 1) (take n xs) =
         drop-cons (take n xs) i no_segment l ∙ ap₂ (λ (y : SegmentStruct) (k : ℕ). y ∷ drop k (take n xs)) (get_or-take n xs i no_segment h) (sym (add-one i)) in
         record {
           within = omega arith;
-          place = omega (arith, r.place, e);
-          len = ap length f ∙ pasted_length d (width * at) (record_of x) (omega (arith, copy-room)) ∙ r.len;
+          len = ap length f ∙ pasted_length d (width * i) (record_of x) (omega (arith, copy-room)) ∙ r.len;
           rest =
               ap₂ (λ (y : List ℕ) (k : ℕ). pasted y k (numbers_of (drop (i + 1) (take n xs)))) f k
-              ∙ pasted-more d (width * at) (record_of x) (omega (arith, copy-room)) (numbers_of (drop (i + 1) (take n xs)))
-              ∙ ap (pasted d (width * at)) (sym (ap numbers_of behind ∙ numbers-cons x (drop (i + 1) (take n xs))))
+              ∙ pasted-more d (width * i) (record_of x) (omega (arith, copy-room)) (numbers_of (drop (i + 1) (take n xs)))
+              ∙ ap (pasted d (width * i)) (sym (ap numbers_of behind ∙ numbers-cons x (drop (i + 1) (take n xs))))
               ∙ r.rest;
         }
 

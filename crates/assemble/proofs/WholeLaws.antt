@@ -4,12 +4,13 @@ use native.Mathlib.Omega.{arith}
 use mathlib.Core.Path.{◌≡◌, refl, sym, ap, ◌∙◌}
 use mathlib.Core.List.{List, map, flat_map}
 use mathlib.Core.Bool.{Bool, true, false, cond as pick}
-use mathlib.Core.Option.{Option, none, some}
+use mathlib.Core.Option.{Option, none}
 use lib.ListN.{length}
+use Rattle.std.specs.Prelude.{None, Result, Ok, Err}
+use Rattle.bitio.specs.declared.refusal.Refusal.TheVariants.{NoRoom}
 use Rattle.bitio.specs.Limits.{limit, capped}
 use Rattle.bitio.specs.Lent.{pasted}
-use Rattle.header.specs.Sequence.{Sequence, sequence_of}
-use Rattle.header.specs.declared.seq_header.OperatingPoint.{OperatingPoint}
+use Rattle.header.specs.Sequence.{Sequence, sequence_in}
 use Rattle.blocks.specs.Blocks.{list_of, cues_of}
 use Rattle.blocks.specs.Numbers.{head_key, head_golden, segment_count, records_from, frames_in}
 use Rattle.blocks.specs.code.Lay.{CanLayAll}
@@ -17,33 +18,23 @@ use Rattle.pictures.specs.Segments.{segment_in}
 use Rattle.pictures.specs.Prepare.{Prepared, show_unit}
 use Rattle.pictures.specs.declared.settings.Settings.{Settings}
 use Rattle.pictures.specs.Assemble.{Outcome, stopped, made, and_also, picture_of, ends_from, shows_of, first_slot, Output, output_of, OutputRoom, output_fits, fitted}
-use Rattle.pictures.specs.Flat.{all_segments, judged, answer_or, all_prepared, all_sent, slots_of}
-use Rattle.assemble.specs.Whole.{counts, counts_of, assembled_says, Lent, outcome, lent_after, Handed, output_room}
-use Rattle.assemble.specs.code.Stages.{Going, planned, header_in, new_in, basis_says, answer_says, plan_says, needed, fits_in}
+use Rattle.pictures.specs.Flat.{all_segments, judged, answer_or, rewriting, all_prepared, all_sent, slots_of}
+use Rattle.assemble.specs.Whole.{counts, counts_of, Lent, outcome, lent_after, Handed, output_room}
+use Rattle.assemble.specs.code.Stages.{Going, planned, renewal_in, header_in, plan_going, plan_says, needed, fits_in}
 use Rattle.assemble.specs.declared.multi.Counts.{Counts}
-use Rattle.assemble.specs.declared.multi.Assembled.{Assembled}
-use Rattle.assemble.specs.declared.multi.Assembled.TheVariants.{Made, Refused as AllRefused, RefusedIn as SegmentRefused}
-use Rattle.assemble.specs.declared.plan.Basis.{Basis}
-use Rattle.assemble.specs.declared.plan.Planned.TheVariants.{Ready, Refused, RefusedIn}
+use Rattle.pictures.specs.declared.fault.Fault.{Fault}
 use Rattle.assemble.specs.declared.plan.Plan.{Plan}
 use Rattle.assemble.proofs.AnswerLaws.{kept}
 use Rattle.pictures.proofs.PrepareLaws.{picture-sent, ends-sent, shows-slots, length-prepared, length-ends, length-shows, length-all}
 use Rattle.assemble.proofs.StageLaws.{Sound, fitted_out, assemble-staged, planned-sound, planned-weighed}
-use Rattle.assemble.proofs.PlanLaws.{says-refused, says-refused-in}
 use Rattle.assemble.proofs.MultiLaws.{length-list, same-counts, fits-same, RoomForAll, fits-roomy}
 
--- a plan that is ready, its new payload being `new`
-pub plan-ready : (s rs : List ℕ) (p : Plan) (b : Basis) (n : ℕ) (new : List ℕ) (x : Outcome Going) → p.answer ≡ Ready b n → new ≡ new_in p.new b → plan_says s rs p ≡ x
-    → x ≡ made (basis_says s rs p.points new b n)
-unfolding plan_says
-plan-ready s rs p b n new x e i f = sym f ∙ ap (answer_says s rs p.points p.new) e ∙ ap (λ (l : List ℕ). made (basis_says s rs p.points l b n)) (sym i)
-
 -- the first segment's slot
-slot-first : (s rs : List ℕ) (q : Sequence) (rewriting : Bool) (new : List ℕ) (n : ℕ) → 1 ≤ n
-    → answer_or 0 (judged q rewriting (head_key s rs) (head_golden s rs)) ≡ first_slot (all_prepared q rewriting new (map (segment_in s) (records_from n rs)))
+slot-first : (s rs : List ℕ) (q : Sequence) (new : Option (List ℕ)) (n : ℕ) → 1 ≤ n
+    → answer_or 0 (judged q (rewriting new) (head_key s rs) (head_golden s rs)) ≡ first_slot (all_prepared q new (map (segment_in s) (records_from n rs)))
 unfolding records_from
-slot-first s rs q rewriting new zero h = absurd (omega arith)
-slot-first s rs q rewriting new (suc n) h = refl
+slot-first s rs q new zero h = absurd (omega arith)
+slot-first s rs q new (suc n) h = refl
 
 -- lent slices that agree in each
 same-lent : {l l' c c' p p' e e' w w' h h' : List ℕ} → l ≡ l' → c ≡ c' → p ≡ p' → e ≡ e' → w ≡ w' → h ≡ h'
@@ -62,45 +53,42 @@ module _ (s rs : List ℕ) (set : Settings) (d : Lent) where
   whole-staged = assemble-staged room set s rs
 
   -- the answer r, the lent slices being d' at exit
-  abbrev Gives : Assembled → Lent → Type 0
+  abbrev Gives : Result Counts Fault → Lent → Type 0
   Gives r d' = Handed (outcome s rs set) r (record { entry = d; exit = d' })
 
   -- ---- refusals
 
-  planned-stopped : (r : Assembled) (k : ℕ) (i : Option ℕ) → assembled_says r ≡ stopped k i → planned s rs set ≡ stopped k i → Gives r d
+  pub plan-refused : (f : Fault) → plan_says s rs (Err f) ≡ planned s rs set → Gives (Err f) d
   unfolding and_also
-  planned-stopped r k i e w = kept (outcome s rs set) d r e (whole-staged ∙ ap (λ (x : Outcome Going). and_also x (fitted_out room set (frames_in rs))) w)
-
-  module _ (p : Plan) (f : plan_says s rs p ≡ planned s rs set) where
-    pub plan-refused : (k : ℕ) → p.answer ≡ Refused k → Gives (AllRefused k) d
-    plan-refused k e = planned-stopped _ k none refl (sym f ∙ says-refused s rs p k e)
-
-    pub plan-refused-in : (k i : ℕ) → p.answer ≡ RefusedIn k i → Gives (SegmentRefused k i) d
-    plan-refused-in k i e = planned-stopped _ k (some i) refl (sym f ∙ says-refused-in s rs p k i e)
+  plan-refused f e =
+      kept (outcome s rs set) d _ refl (whole-staged ∙ ap (λ (x : Outcome Going). and_also x (fitted_out room set (frames_in rs))) (sym e))
 
   -- ---- what goes out
 
-  module _ (points : List OperatingPoint) (new : List ℕ) (b : Basis) (n : ℕ) (ready : planned s rs set ≡ made (basis_says s rs points new b n)) where
+  module _ (p : Plan) (ready : made (plan_going s rs p) ≡ planned s rs set) where
+    abbrev new : Option (List ℕ)
+    new = renewal_in p.headers
+
     abbrev prepared : List Prepared
-    prepared = all_prepared (sequence_of b.header points) b.rewriting new (all_segments s rs)
+    prepared = all_prepared (sequence_in p.sequence) new (all_segments s rs)
 
     abbrev sents : List Prepared
-    sents = all_sent b.rewriting new (all_segments s rs)
+    sents = all_sent new (all_segments s rs)
 
     abbrev output : Output
-    output = output_of set.gop (frames_in rs) (header_in s rs new b) prepared
+    output = output_of set.gop (frames_in rs) (header_in s rs p.headers) prepared
 
     abbrev need : Counts
-    need = needed set.gop s rs points new b n
+    need = needed set.gop s rs p
 
     pub sound : Sound set.gop rs
-    sound = planned-sound s rs set (basis_says s rs points new b n) ready
+    sound = planned-sound s rs set (plan_going s rs p) (sym ready)
 
-    weighed : n ≡ capped (length (picture_of prepared))
-    weighed = planned-weighed s rs set (basis_says s rs points new b n) ready
+    weighed : p.bytes ≡ capped (length (picture_of prepared))
+    weighed = planned-weighed s rs set (plan_going s rs p) (sym ready)
 
     length-units : length prepared ≡ segment_count rs
-    length-units = length-prepared (sequence_of b.header points) b.rewriting new (all_segments s rs) ∙ length-all s rs
+    length-units = length-prepared (sequence_in p.sequence) new (all_segments s rs) ∙ length-all s rs
 
     ends-are : 2 * segment_count rs ≡ length (ends_from 0 prepared)
     ends-are = omega (arith, length-ends 0 prepared, length-units)
@@ -110,13 +98,13 @@ module _ (s rs : List ℕ) (set : Settings) (d : Lent) where
 
     whole_is : whole ≡ fitted room output
     unfolding and_also
-    whole_is = whole-staged ∙ ap (λ (x : Outcome Going). and_also x (fitted_out room set (frames_in rs))) ready
+    whole_is = whole-staged ∙ ap (λ (x : Outcome Going). and_also x (fitted_out room set (frames_in rs))) (sym ready)
 
     fit_is : fits_in room need ≡ output_fits room output
     fit_is = fits-same room need output refl refl weighed ends-are shows-are refl
 
     -- 35
-    pub full : false ≡ fits_in room need → Gives (AllRefused 35) d
+    pub full : false ≡ fits_in room need → Gives (Err (record { refusal = NoRoom; segment = None })) d
     full e = kept (outcome s rs set) d _ refl (whole_is ∙ ap (λ (t : Bool). pick t (made output) (stopped 35 none)) (sym (e ∙ fit_is)))
 
     module _ (fit : true ≡ fits_in room need) where
@@ -129,7 +117,7 @@ module _ (s rs : List ℕ) (set : Settings) (d : Lent) where
       counts-are : need ≡ counts output
       counts-are =
           same-counts refl refl (omega (arith, weighed, roomy.bytes)) ends-are shows-are (omega (arith, roomy.bytes))
-          (slot-first s rs (sequence_of b.header points) b.rewriting new (segment_count rs) sound.some-there)
+          (slot-first s rs (sequence_in p.sequence) new (segment_count rs) sound.some-there)
 
       pub can-lay : CanLayAll d.list d.cues set.gop rs
       can-lay =
@@ -142,29 +130,29 @@ module _ (s rs : List ℕ) (set : Settings) (d : Lent) where
 
       pub can-pictures : (length (picture_of sents) ≤ limit) × ((length (picture_of sents) ≤ length d.pictures) × (2 * length (all_segments s rs) ≤ length d.ends))
       can-pictures =
-          let l = ap length (picture-sent (sequence_of b.header points) b.rewriting new (all_segments s rs)) in
+          let l = ap length (picture-sent (sequence_in p.sequence) new (all_segments s rs)) in
           (omega (arith, l, roomy.bytes), (omega (arith, l, roomy.picture), omega (arith, length-all s rs, ends-are, roomy.ends)))
 
       pub can-shows : 5 * length (all_segments s rs) ≤ length d.shows
       can-shows = omega (arith, length-all s rs, shows-are, roomy.shows)
 
-      pub can-header : (1 ≤ segment_count rs) × (length (header_in s rs new b) ≤ length d.header)
+      pub can-header : (1 ≤ segment_count rs) × (length (header_in s rs p.headers) ≤ length d.header)
       can-header = (sound.some-there, roomy.header)
 
       pub all_made : (r : Counts) (d' : Lent) → r ≡ need → d'.list ≡ pasted d.list 0 (list_of set.gop (frames_in rs)) → d'.cues ≡ pasted d.cues 0 (cues_of (list_of set.gop (frames_in rs)))
           → d'.pictures ≡ pasted d.pictures 0 (picture_of sents) → d'.ends ≡ pasted d.ends 0 (ends_from 0 sents)
-          → d'.shows ≡ pasted d.shows 0 (flat_map show_unit (slots_of (sequence_of b.header points) b.rewriting (all_segments s rs))) → d'.header ≡ pasted d.header 0 (header_in s rs new b)
-          → Gives (Made r) d'
+          → d'.shows ≡ pasted d.shows 0 (flat_map show_unit (slots_of (sequence_in p.sequence) (rewriting new) (all_segments s rs))) → d'.header ≡ pasted d.header 0 (header_in s rs p.headers)
+          → Gives (Ok r) d'
       unfolding and_also
       all_made r d' i il ic ip ie iw ih =
-          let q = sequence_of b.header points in
+          let q = sequence_in p.sequence in
           record {
             answer = ap (λ (x : Counts). made x) (i ∙ counts-are) ∙ sym (ap counts_of made-is);
             lent =
                 same-lent il ic
-                (ip ∙ sym (ap (pasted d.pictures 0) (picture-sent q b.rewriting new (all_segments s rs))))
-                (ie ∙ sym (ap (pasted d.ends 0) (ends-sent q b.rewriting new 0 (all_segments s rs))))
-                (iw ∙ sym (ap (pasted d.shows 0) (shows-slots q b.rewriting new (all_segments s rs))))
+                (ip ∙ sym (ap (pasted d.pictures 0) (picture-sent q new (all_segments s rs))))
+                (ie ∙ sym (ap (pasted d.ends 0) (ends-sent q new 0 (all_segments s rs))))
+                (iw ∙ sym (ap (pasted d.shows 0) (shows-slots q new (all_segments s rs))))
                 ih
                 ∙ sym (ap (λ (x : Outcome Output). lent_after x d) made-is);
           }

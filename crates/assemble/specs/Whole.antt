@@ -1,13 +1,13 @@
 -- The whole of assembly, answered: its counts, and its outcome into lent slices.
-use Rattle.std.specs.Prelude.{ℕ, ◌+◌, ◌*◌, ◌%◌, ◌≡◌, List, length}
+use Rattle.std.specs.Prelude.{ℕ, ◌+◌, ◌*◌, ◌%◌, ◌≡◌, List, length, Result}
 use Rattle.std.proofs.Math.Option.{none, some}
 use denote.Triple.Both.{Both}
 use Rattle.bitio.specs.Lent.{pasted}
 use Rattle.pictures.specs.declared.settings.Settings.{Settings}
+use Rattle.pictures.specs.declared.fault.Fault.{Fault}
+use Rattle.pictures.specs.Says.{outcome_of}
 use Rattle.pictures.specs.Assemble.{Outcome, stopped, made, and_also, Output, OutputRoom, assemble}
 use Rattle.assemble.specs.declared.multi.Counts.{Counts}
-use Rattle.assemble.specs.declared.multi.Assembled.{Assembled}
-use Rattle.assemble.specs.declared.multi.Assembled.TheVariants.{Made, Refused as AllRefused, RefusedIn as SegmentRefused}
 
 -- how much is handed out, and the first golden slot
 abbrev pub counts : Output → Counts
@@ -24,11 +24,6 @@ counts o =
 
 abbrev pub counts_of : Outcome Output → Outcome Counts
 counts_of x = and_also x (λ o. made (counts o))
-
-abbrev pub assembled_says : Assembled → Outcome Counts
-assembled_says (Made c) = made c
-assembled_says (AllRefused k) = stopped k none
-assembled_says (SegmentRefused k i) = stopped k (some i)
 
 -- for C: 0, or 01's number; where 01 adds the segment, its number from 1 stands above 32 bits. Nothing is cut off below 2^32 - 1 segments
 abbrev pub assembled_code : Outcome Counts → ℕ
@@ -72,6 +67,6 @@ lent_after (made o) d =
     }
 
 -- the answer, and the lent slices at exit, by the outcome into what they were at entry
-pub record Handed (x : Lent → Outcome Output) (r : Assembled) (d : Both Lent Lent) : Type 0 where
-  pub answer : assembled_says r ≡ counts_of (x d.entry)
+pub record Handed (x : Lent → Outcome Output) (r : Result Counts Fault) (d : Both Lent Lent) : Type 0 where
+  pub answer : outcome_of r ≡ counts_of (x d.entry)
   pub lent : d.exit ≡ lent_after (x d.entry) d.entry

@@ -1,6 +1,7 @@
 // The unit list and the cue list of segments (document 01).
 #![tactic(auto)]
 
+pub mod headers;
 pub mod multi;
 pub mod plan;
 pub mod segments;

@@ -1,44 +1,30 @@
 // Assembly from a lent list of range records (document 01): each is copied into the flat numbers that the core takes.
 ghost use Rattle.std.specs.Prelude.{◌≡◌, ◌+◌, ◌*◌, ◌<◌, length};
 ghost use Rattle.bitio.specs.Lent.{pasted};
-ghost use Rattle.blocks.specs.Numbers.{width, record_of, segment_count};
+ghost use Rattle.blocks.specs.Numbers.{width};
 ghost use Rattle.assemble.specs.Whole.{six, Handed};
 ghost use Rattle.assemble.specs.Records.{copy_count, numbers_after, copied_outcome, records_outcome};
 
-use crate::multi::{Assembled, assemble_multi};
+use crate::multi::{Counts, assemble_multi};
 use bitio::limits::LIMIT;
+use bitio::refusal::Refusal;
 use blocks::numbers::{Segment, WIDTH, put_record};
+use pictures::fault::Fault;
 use pictures::settings::Settings;
 
 // How many of count segments are copied: all, or none where there is no room for their numbers.
 fn copy_count(count: usize, room: usize) -> usize
     ensures { result ≡ copy_count count room }
 {
-    if count <= room / WIDTH {
-        return count;
-    }
-    0
-}
-
-// One segment, as record `at`. Says which is the next.
-fn put_numbers(at: usize, segment: Segment, numbers: &mut [u64]) -> usize
-    requires { at < segment_count numbers.old }
-    ensures { (result ≡ at + 1) × (numbers.new ≡ pasted numbers.old (width * at) (record_of segment)) }
-{
-    put_record(numbers, at, segment);
-    at + 1
+    if count <= room / WIDTH { count } else { 0 }
 }
 
 // All segments, or none without room. Says how many there are.
 fn copy_segments(segments: &[Segment], numbers: &mut [u64]) -> usize
     ensures { (result ≡ length segments.now) × (numbers.new ≡ numbers_after segments.now numbers.old) }
 {
-    let end = copy_count(segments.len(), numbers.len());
-    let mut at: usize = 0;
-    let mut i: usize = 0;
-    while i < end {
-        at = put_numbers(at, segments[i], &mut *numbers);
-        i += 1;
+    for i in 0..copy_count(segments.len(), numbers.len()) {
+        put_record(numbers, i, segments[i]);
     }
     segments.len()
 }
@@ -55,7 +41,7 @@ fn assemble_copied(
     ends: &mut [u32],
     shows: &mut [u8],
     header: &mut [u8],
-) -> Assembled
+) -> Result<Counts, Fault>
     ensures handed { Handed (copied_outcome picture.now count numbers.old settings) result (record {
       entry = six list.old cues.old pictures.old ends.old shows.old header.old;
       exit = six list.new cues.new pictures.new ends.new shows.new header.new;
@@ -64,9 +50,9 @@ fn assemble_copied(
 {
     if count > numbers.len() / WIDTH {
         if picture.len() > LIMIT {
-            return Assembled::Refused(34);
+            return Err(Fault::overall(Refusal::InputTooLong));
         }
-        return Assembled::Refused(35);
+        return Err(Fault::overall(Refusal::NoRoom));
     }
     assemble_multi(
         picture,
@@ -94,7 +80,7 @@ pub fn assemble_segments(
     ends: &mut [u32],
     shows: &mut [u8],
     header: &mut [u8],
-) -> Assembled
+) -> Result<Counts, Fault>
     ensures handed { Handed (records_outcome picture.now segments.now numbers.old settings) result (record {
       entry = six list.old cues.old pictures.old ends.old shows.old header.old;
       exit = six list.new cues.new pictures.new ends.new shows.new header.new;

@@ -1,7 +1,7 @@
 -- An answer as one number for C: what was counted, or 0 after a refusal.
 use Rattle.std.specs.Prelude.{ℕ}
 use Rattle.bitio.specs.Parse.{Answer, refused, accepted}
-use Rattle.container.specs.Units.{Sizes}
+use Rattle.container.specs.declared.units.Sizes.{Sizes}
 
 abbrev pub units_or_none : Answer Sizes → ℕ
 units_or_none (refused k) = 0

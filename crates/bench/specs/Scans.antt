@@ -9,18 +9,12 @@ use Rattle.frame.specs.Frame.{modelled, removals}
 use Rattle.geometry.specs.declared.slots.RefSlot.{RefSlot}
 use Rattle.uheader.specs.Scan.{scan_header, slots_after, empty_slots}
 use Rattle.uheader.specs.declared.scan.HeaderScan.{HeaderScan}
-use Rattle.uheader.specs.declared.scan.ScanAnswer.{ScanAnswer}
-use Rattle.uheader.specs.declared.scan.ScanAnswer.TheVariants.{Scanned, Refused}
 use Rattle.bench.specs.Counts.{bytes_or_none}
 
 -- where a header ends, 0 for a refused one
 abbrev pub end_or : Answer HeaderScan → ℕ
 end_or (refused k) = 0
 end_or (accepted x) = x.end_pos
-
-abbrev pub end_said : ScanAnswer → ℕ
-end_said (Refused k) = 0
-end_said (Scanned x) = x.end_pos
 
 -- t and the ends of k frames from i on, modulo 2^64, each with n removal times
 unfoldable pub sum_from : SequenceHeader → ℕ → List ℕ → List ℕ → (k i : ℕ) → List RefSlot → ℕ → ℕ

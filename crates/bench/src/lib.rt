@@ -17,14 +17,16 @@ ghost use Rattle.bench.specs.Boards.{boards_outcome, Told};
 ghost use Rattle.bench.specs.Counts.{units_or_none, bytes_or_none};
 ghost use Rattle.bench.specs.Scans.{scan_sum};
 
-use assemble::multi::Assembled;
+use annexb::annexb::{split_annexb, write_annexb};
 use boards::assemble_numbers;
-use container::units::{ByteCount, Split};
-use packets::packets::Merged;
+use container::stream::write_obu_stream;
+use obu::writer::put_bytes;
+use packets::packets::{canonicalize_tu, merge_frameless_packets};
 use pictures::settings::Settings;
 use scans::scan_sum;
 
 // The copy that every writer makes: src to the front of out, or nothing and 0 if it has no room.
+#[tactic(auto, unfolding(bitio::specs::Lent::lent, bitio::specs::Lent::has_room))]
 #[unsafe(no_mangle)]
 pub extern "C" fn bench_put_bytes(src: &[u8], out: &mut [u8]) -> usize
     ensures value { result ≡ pick (nat_le (length src.now) (length out.old)) (length src.now) 0 }
@@ -33,7 +35,7 @@ pub extern "C" fn bench_put_bytes(src: &[u8], out: &mut [u8]) -> usize
     if out.len() < src.len() {
         return 0;
     }
-    obu::writer::put_bytes(out, 0, src)
+    put_bytes(out, 0, src)
 }
 
 // The units of Annex B: how many there are, or 0 after a refusal.
@@ -43,10 +45,7 @@ pub extern "C" fn bench_split_annexb(data: &[u8], out: &mut [u8], ends: &mut [u3
     ensures out_after { out.new ≡ bytes_after (read annexb (room_in out.old ends.old) «data».now) out.old }
     ensures ends_after { ends.new ≡ ends_after (read annexb (room_in out.old ends.old) «data».now) ends.old }
 {
-    match annexb::annexb::split_annexb(data, out, ends) {
-        Split::Refused(_) => 0,
-        Split::Units(_, u) => u,
-    }
+    split_annexb(data, out, ends).map_or(0, |sizes| sizes.units)
 }
 
 // A stream of units: how many bytes it has, or 0 after a refusal.
@@ -55,10 +54,7 @@ pub extern "C" fn bench_write_obu_stream(units: &[u8], unit_ends: &[u32], out: &
     ensures value { result ≡ bytes_or_none (count_of (write_at stream (bytes_room (length out.old)) units.now unit_ends.now)) }
     ensures out_after { out.new ≡ out_after (write_at stream (bytes_room (length out.old)) units.now unit_ends.now) out.old }
 {
-    match container::stream::write_obu_stream(units, unit_ends, out) {
-        ByteCount::Refused(_) => 0,
-        ByteCount::Bytes(n) => n,
-    }
+    write_obu_stream(units, unit_ends, out).unwrap_or(0)
 }
 
 // Annex B of units: how many bytes it has, or 0 after a refusal.
@@ -67,10 +63,7 @@ pub extern "C" fn bench_write_annexb(units: &[u8], unit_ends: &[u32], out: &mut 
     ensures value { result ≡ bytes_or_none (count_of (write_at annexb (bytes_room (length out.old)) units.now unit_ends.now)) }
     ensures out_after { out.new ≡ out_after (write_at annexb (bytes_room (length out.old)) units.now unit_ends.now) out.old }
 {
-    match annexb::annexb::write_annexb(units, unit_ends, out) {
-        ByteCount::Refused(_) => 0,
-        ByteCount::Bytes(n) => n,
-    }
+    write_annexb(units, unit_ends, out).unwrap_or(0)
 }
 
 // Packets, those without a frame joined: how many there are, or 0 after a refusal.
@@ -88,17 +81,10 @@ pub extern "C" fn bench_merge_packets(
     ensures out_ends_after { out_ends.new ≡ ends_after (answer bytes_of (merged_at (lent_room out.old out_ends.old out_times.old) packets.now packet_ends.now times.now)) out_ends.old }
     ensures out_times_after { out_times.new ≡ times_after (merged_at (lent_room out.old out_ends.old out_times.old) packets.now packet_ends.now times.now) out_times.old }
 {
-    match packets::packets::merge_frameless_packets(
-        packets,
-        packet_ends,
-        times,
-        out,
-        out_ends,
-        out_times,
-    ) {
-        Merged::Refused(_) => 0,
-        Merged::Packets(_, n) => n,
-    }
+    merge_frameless_packets(packets, packet_ends, times, out, out_ends, out_times).map_or(
+        0,
+        |sizes| sizes.units,
+    )
 }
 
 // A unit without stray delimiters: how many bytes it has, or 0 after a refusal.
@@ -107,10 +93,7 @@ pub extern "C" fn bench_canonicalize_tu(unit: &[u8], out: &mut [u8]) -> usize
     ensures value { result ≡ bytes_or_none (count_of (canonical_at (bytes_room (length out.old)) unit.now)) }
     ensures out_after { out.new ≡ out_after (canonical_at (bytes_room (length out.old)) unit.now) out.old }
 {
-    match packets::packets::canonicalize_tu(unit, out) {
-        ByteCount::Refused(_) => 0,
-        ByteCount::Bytes(n) => n,
-    }
+    canonicalize_tu(unit, out).unwrap_or(0)
 }
 
 // Assembly by way of segment structs, at most 64: answered as magbelo_assemble does, or 4294967295 where the numbers are
@@ -134,25 +117,14 @@ pub extern "C" fn bench_assemble_segments(
       exit = six list.new cues.new pictures.new ends.new shows.new header.new;
     }) }
 {
-    match assemble_numbers(
-        picture,
-        segments,
-        Settings {
-            gop: gop_size,
-            fps: fps,
-            den: fps_den,
-        },
-        list,
-        cues,
-        pictures,
-        ends,
-        shows,
-        header,
-    ) {
-        Assembled::Refused(k) => k as u64,
-        Assembled::RefusedIn(k, i) => k as u64 + (i as u64 % 4294967295 + 1) * 4294967296,
-        Assembled::Made(_) => 0,
-    }
+    let settings = Settings {
+        gop: gop_size,
+        fps,
+        den: fps_den,
+    };
+    assemble_numbers(
+        picture, segments, settings, list, cues, pictures, ends, shows, header,
+    )
 }
 
 // The ends of all frame headers, in bits, each frame scanned from the slots that those before it left: summed modulo 2^64,

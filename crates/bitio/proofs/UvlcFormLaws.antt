@@ -1,13 +1,13 @@
 -- Laws of the form of uvlc: its width, and its bits.
-use mathlib.Core.Path.{◌≡◌, refl, ap, ap₂, ◌∙◌}
-use Prim.Native.Nat.{ℕ, zero, suc, ◌+◌, ◌-◌, ◌*◌, ◌/◌, ◌^◌, ◌<◌, ◌≤◌}
+use mathlib.Core.Path.{◌≡◌, refl, sym, ap, ap₂, ◌∙◌}
+use Prim.Native.Nat.{ℕ, zero, suc, ◌+◌, ◌-◌, ◌*◌, ◌/◌, ◌^◌, ◌<◌, ◌≤◌, max}
 use native.Mathlib.Omega.{arith}
 use native.Mathlib.Nat.{pow-suc}
 use native.Mathlib.Numerals.{add-one}
 use native.Mathlib.Decide.{dec_lt}
 use mathlib.Core.List.{[], ◌∷◌, ◌++◌, append_assoc}
 use borrow.Author.Tests.{le-leb, lt-leb}
-use lib.Pow.{pow_mono}
+use lib.Pow.{pow_mono, pow_pos}
 use lib.Arith.{digits_div}
 use lib.ListN.{replicate, replicate-append-replicate}
 use Rattle.bitio.proofs.UnpackLaws.{bits-join, bits-low}
@@ -59,29 +59,16 @@ halve-le (suc k) x =
       | no m ↦ let g : 2 ≤ x = omega arith in rw (halve-more k x g) (omega (arith, halve-le k (x / 2)))
     ]
 
--- x was halved n times and came to y, as log2 has them
-pub record Halved (x y n : ℕ) : Type 0 where
-  pub left : ℕ
-  pub all : n + left ≡ 32
-  pub small : y ≤ 2 ^ left
-  pub same : halvings 32 x ≡ n + halvings left y
-
--- at first
-pub halve-start : (x : ℕ) → x ≤ 2 ^ 32 → Halved x x 0
-halve-start x h = record { left = 32; all = refl; small = h; same = omega arith }
-
--- once more
-pub halve-turn : {x y n : ℕ} → 2 ≤ y → Halved x y n → Halved x (y / 2) (n + 1)
-halve-turn {x} {y} {n} h r = go r.left r.all r.small r.same
-  where
-    go : (k : ℕ) → n + k ≡ 32 → y ≤ 2 ^ k → halvings 32 x ≡ n + halvings k y → Halved x (y / 2) (n + 1)
-    go zero a b e = absurd (omega arith)
-    go (suc k) a b e =
-        record { left = k; all = omega arith; small = omega (arith, pow-suc 2 k); same = e ∙ ap (λ (j : ℕ). n + j) (halve-more k y h) ∙ omega arith }
-
--- at last
-pub halve-done : {x y n : ℕ} → y < 2 → Halved x y n → n ≡ halvings 32 x
-halve-done {x} {y} {n} h r = omega (arith, r.same, halve-none r.left y h)
+-- halving as often as the highest bit of x says
+pub halvings_of : (z k x : ℕ) → 2 ^ z ≤ max x 1 → max x 1 < 2 * 2 ^ z → x ≤ 2 ^ k → z ≡ halvings k x
+halvings_of zero k x a b h = sym (halve-none k x (omega arith))
+halvings_of (suc z) zero x a b h = absurd (omega (arith, pow-suc 2 z, pow_pos z))
+halvings_of (suc z) (suc k) x a b h =
+    let p : 1 ≤ 2 ^ z = omega (arith, pow_pos z) in
+    let e : 2 ^ suc z ≡ 2 ^ z * 2 = pow-suc 2 z in
+    let f : 2 ^ suc k ≡ 2 ^ k * 2 = pow-suc 2 k in
+    let l : 2 ≤ x = omega arith in
+    rw (halve-more k x l) (ap suc (halvings_of z k (x / 2) (omega arith) (omega arith) (omega arith)))
 
 -- ---- uvlc
 

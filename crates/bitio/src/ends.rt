@@ -5,18 +5,12 @@ ghost use Rattle.std.specs.Prelude.{◌≡◌, ◌∷◌, get_or};
 pub fn end_of(ends: &[u32], i: usize) -> usize
     ensures { result ≡ get_or ends.now i 0 }
 {
-    if i < ends.len() {
-        return ends[i] as usize;
-    }
-    0
+    ends.get(i).map_or(0, |end| *end as usize)
 }
 
 // Where string i starts: where the one before it ends, the first at 0.
 pub fn start_of(ends: &[u32], i: usize) -> usize
     ensures { result ≡ get_or (0 ∷ ends.now) i 0 }
 {
-    if i == 0 {
-        return 0;
-    }
-    end_of(ends, i - 1)
+    if i == 0 { 0 } else { end_of(ends, i - 1) }
 }

@@ -1,11 +1,9 @@
 -- The blocks of a segment, the unit list and the cue list (01, 'Unit list and cue list').
 use Rattle.std.specs.Prelude.{ℕ, zero, suc, ◌+◌, ◌*◌, ◌-◌, ◌%◌, min, List, [], ◌∷◌, ◌++◌, map, Bool, false, not, cond as pick, ◌||◌, replicate, leb, eqb}
 use Rattle.blocks.specs.declared.blocks.Block.{Block}
+pub use Rattle.blocks.specs.declared.blocks.Kind.{Kind}
+pub use Rattle.blocks.specs.declared.blocks.Kind.TheVariants.{Key, Golden, Show}
 use Rattle.blocks.specs.declared.blocks.Standing.{Standing}
-
--- 01: the kinds of a list's units
-pub data Kind : Type 0 where
-  Key Golden Show : Kind
 
 -- ---- the blocks of one segment
 

@@ -1,13 +1,20 @@
 // The unit list and the cue list, laid out in lent memory in one pass. An entry is four times its segment plus its kind: 0 for
 // a key, 1 for a golden, 2 for a show unit; cues count units from 1.
-ghost use Rattle.std.specs.Prelude.{◌≡◌, cond as pick, ◌+◌, ◌≤◌, ◌<◌, length, replicate};
+ghost use Rattle.std.specs.Prelude.{◌≡◌, ◌+◌, ◌≤◌, ◌<◌, length};
 ghost use Rattle.bitio.specs.Lent.{pasted};
-ghost use Rattle.blocks.specs.Blocks.{Show, Key, code, block, next_block, kinds, list_of, cues_of, total};
+ghost use Rattle.blocks.specs.Blocks.{block, next_block, kinds, list_of, cues_of, total};
 ghost use Rattle.blocks.specs.Numbers.{frames_in};
 ghost use Rattle.blocks.specs.code.Lay.{entries_of, cues_from, block_cue, CanLay, Laid, CanLayAll};
 
 use crate::numbers::{frames_of, segment_count};
-use bitio::numbers::least;
+
+// The kinds of a list's units, by document 01's numbers.
+#[derive(Clone, Copy)]
+pub enum Kind {
+    Key = 0,
+    Golden = 1,
+    Show = 2,
+}
 
 // Where a segment stands: its frames left, and whether it has had a golden.
 #[derive(Clone, Copy)]
@@ -28,37 +35,15 @@ struct Block {
 fn next_block(gop: usize, s: Standing) -> Block
     ensures { result ≡ next_block gop s }
 {
-    let n = least(s.left, gop);
+    let n = s.left.min(gop);
     Block {
         size: n,
-        key: !s.after | (n >= 2),
+        key: !s.after || n >= 2,
         behind: Standing {
             left: s.left - n,
-            after: s.after | (n >= 2),
+            after: s.after || n >= 2,
         },
     }
-}
-
-// Writes n times v.
-fn fill(list: &mut [u32], at: usize, n: usize, v: u32)
-    requires { at + n ≤ length list.old }
-    ensures { list.new ≡ pasted list.old at (replicate n v) }
-{
-    let mut i: usize = 0;
-    while i < n {
-        list[at + i] = v;
-        i = i + 1;
-    }
-}
-
-// The kind of a block's only unit.
-fn lone(key: bool) -> u32
-    ensures { result ≡ code (pick key Key Show) }
-{
-    if key {
-        return 0;
-    }
-    2
 }
 
 // Writes the entries of a block of n units.
@@ -70,13 +55,13 @@ fn put_block(list: &mut [u32], at: usize, segment: u32, key: bool, n: usize)
 {
     let first = segment * 4;
     if n < 2 {
-        list[at] = first + lone(key);
+        let kind = if key { Kind::Key } else { Kind::Show };
+        list[at] = first + kind as u32;
         return;
     }
-    list[at] = first;
-    let golden = at + 1;
-    list[golden] = first + 1;
-    fill(list, at + 2, n - 2, first + 2);
+    list[at] = first + Kind::Key as u32;
+    list[at + 1] = first + Kind::Golden as u32;
+    list[at + 2..at + n].fill(first + Kind::Show as u32);
 }
 
 // Writes the cue of a block behind `at` units, if it starts with a key, and returns the place of the next cue.
@@ -118,7 +103,7 @@ fn put_segment(
         let b = next_block(gop, s);
         put_block(list, p, segment, b.key, b.size);
         q = put_cue(cues, q, p, b.key);
-        p = p + b.size;
+        p += b.size;
         s = b.behind;
     }
     q
@@ -129,28 +114,14 @@ pub fn put_list(list: &mut [u32], cues: &mut [u32], gop: u64, segments: &[u64]) 
     requires { CanLayAll list.old cues.old gop segments.now }
     ensures { Laid list.old cues.old list.new cues.new 0 0 result (list_of gop (frames_in segments.now)) }
 {
-    let count = segment_count(segments);
-    let mut i: usize = 0;
     let mut at: usize = 0;
     let mut c: usize = 0;
-    while i < count {
+    for i in 0..segment_count(segments) {
         let frames = frames_of(segments, i) as usize;
         c = put_segment(list, cues, at, c, i as u32, gop as usize, frames);
-        at = at + frames;
-        i = i + 1;
+        at += frames;
     }
     c
-}
-
-// One more for a block that starts with a key.
-fn count_cue(n: usize, key: bool) -> usize
-    requires { n < 18446744073709551615 }
-    ensures { result ≡ n + length (block_cue key 0) }
-{
-    if key {
-        return n + 1;
-    }
-    n
 }
 
 // How many cues a segment has, with nothing laid out.
@@ -165,7 +136,7 @@ fn count_segment(gop: usize, frames: usize) -> usize
     let mut count: usize = 0;
     while s.left > 0 {
         let b = next_block(gop, s);
-        count = count_cue(count, b.key);
+        count += usize::from(b.key);
         s = b.behind;
     }
     count
@@ -177,13 +148,10 @@ pub fn count_cues(gop: u64, segments: &[u64]) -> usize
     requires small { total (frames_in segments.now) ≤ 5000000 }
     ensures { result ≡ length (cues_of (list_of gop (frames_in segments.now))) }
 {
-    let count = segment_count(segments);
-    let mut i: usize = 0;
     let mut n: usize = 0;
-    while i < count {
+    for i in 0..segment_count(segments) {
         let frames = frames_of(segments, i) as usize;
-        n = n + count_segment(gop as usize, frames);
-        i = i + 1;
+        n += count_segment(gop as usize, frames);
     }
     n
 }

@@ -63,50 +63,57 @@ pub fn frames_of(segments: &[u64], i: usize) -> u64
     requires { i < segment_count segments.now }
     ensures { result ≡ frames_at segments.now i }
 {
-    let segment = segment_of(segments, i);
-    segment.frames
-}
-
-pub fn key_of<'a, 'b>(picture: &'a [u8], segments: &'b [u64], i: usize) -> &'a [u8]
-    requires { i < segment_count segments.now }
-    ensures { result.now ≡ key_at picture.now segments.now i }
-{
-    let segment = segment_of(segments, i);
-    payload(
-        picture,
-        segment.key_start as usize,
-        segment.key_end as usize,
-    )
-}
-
-pub fn golden_of<'a, 'b>(picture: &'a [u8], segments: &'b [u64], i: usize) -> &'a [u8]
-    requires { i < segment_count segments.now }
-    ensures { result.now ≡ golden_at picture.now segments.now i }
-{
-    let segment = segment_of(segments, i);
-    payload(
-        picture,
-        segment.golden_start as usize,
-        segment.golden_end as usize,
-    )
+    segment_of(segments, i).frames
 }
 
 // Whether the bytes from a to e lie within the picture bytes.
 fn is_inside(picture: &[u8], a: u64, e: u64) -> bool
     ensures { result ≡ inside picture.now a e }
 {
-    (a <= e) & (e <= picture.len() as u64)
+    a <= e && e <= picture.len() as u64
 }
 
-// Whether both units of a segment do.
-pub fn is_within(picture: &[u8], segments: &[u64], i: usize) -> bool
-    requires { i < segment_count segments.now }
-    ensures { result ≡ head_inside picture.now (record_at segments.now i) }
-{
-    let segment = segment_of(segments, i);
-    let key = is_inside(picture, segment.key_start, segment.key_end);
-    let golden = is_inside(picture, segment.golden_start, segment.golden_end);
-    key & golden
+// Segments in lent memory: the bytes that their units stand in, and their flat numbers.
+#[derive(Clone, Copy)]
+pub struct Segments<'a> {
+    pub picture: &'a [u8],
+    pub numbers: &'a [u64],
+}
+
+impl<'a> Segments<'a> {
+    pub fn key(self, i: usize) -> &'a [u8]
+        requires { i < segment_count self.numbers.now }
+        ensures { result.now ≡ key_at self.entry.picture.now self.entry.numbers.now i }
+    {
+        let segment = segment_of(self.numbers, i);
+        payload(
+            self.picture,
+            segment.key_start as usize,
+            segment.key_end as usize,
+        )
+    }
+
+    pub fn golden(self, i: usize) -> &'a [u8]
+        requires { i < segment_count self.numbers.now }
+        ensures { result.now ≡ golden_at self.entry.picture.now self.entry.numbers.now i }
+    {
+        let segment = segment_of(self.numbers, i);
+        payload(
+            self.picture,
+            segment.golden_start as usize,
+            segment.golden_end as usize,
+        )
+    }
+
+    // Whether both units of segment i lie within the picture bytes.
+    pub fn is_within(self, i: usize) -> bool
+        requires { i < segment_count self.numbers.now }
+        ensures { result ≡ head_inside self.entry.picture.now (record_at self.entry.numbers.now i) }
+    {
+        let segment = segment_of(self.numbers, i);
+        is_inside(self.picture, segment.key_start, segment.key_end)
+            && is_inside(self.picture, segment.golden_start, segment.golden_end)
+    }
 }
 
 // Writes record i, where its room is known.

@@ -4,7 +4,6 @@ use mathlib.Core.Path.{◌≡◌, refl}
 use mathlib.Core.List.{List}
 use mathlib.Core.Bool.{Bool, true, false, cond as pick}
 use mathlib.Core.Option.{none}
-use native.Mathlib.Omega.{arith}
 use lib.ListN.{length}
 use lib.Dec.{ltb}
 use Rattle.bitio.specs.Limits.{limit}
@@ -18,7 +17,7 @@ use Rattle.assemble.proofs.MultiLaws.{RoomForAll, fits-roomy}
 -- what was made last, made a
 last : {A B : Type 0} (x : Outcome A) (f : A → Outcome B) (b : B) → and_also x f ≡ made b → (a : A) × (f a ≡ made b)
 unfolding and_also
-last (stopped n i) f b e = let z : ◌≡◌ {A = ℕ} 0 1 = cc in absurd (omega arith)
+last (stopped n i) f b e = cc
 last (made a) f b e = (a, e)
 
 fitted-fits : (room : OutputRoom) (r o : Output) → fitted room r ≡ made o → output_fits room o ≡ true
@@ -26,12 +25,12 @@ fitted-fits room r o e = go (output_fits room r) refl e
   where
     go : (t : Bool) → output_fits room r ≡ t → pick t (made r) (stopped 35 none) ≡ made o → output_fits room o ≡ true
     go true w e = let k : r ≡ o = cc in rw (← k) w
-    go false w e = let z : ◌≡◌ {A = ℕ} 0 1 = cc in absurd (omega arith)
+    go false w e = cc
 
-pub outcome-held : (s rs : List ℕ) (set : Settings) (d : Lent) (o : Output) → outcome s rs set d ≡ made o → RoomForAll (output_room d) o
+pub outcome_held : (s rs : List ℕ) (set : Settings) (d : Lent) (o : Output) → outcome s rs set d ≡ made o → RoomForAll (output_room d) o
 unfolding outcome assemble
-outcome-held s rs set d o =
-    pick-cases (λ x. x ≡ made o → RoomForAll (output_room d) o) (ltb limit (length s)) (λ t e. let z : ◌≡◌ {A = ℕ} 0 1 = cc in absurd (omega arith))
+outcome_held s rs set d o =
+    pick-cases (λ x. x ≡ made o → RoomForAll (output_room d) o) (ltb limit (length s)) (λ t e. cc)
     (λ t e.
     let (xs, f) = last (overall (segments_of s rs)) _ o e in
     let (r, g) = last (assembled set xs) _ o f in

@@ -1,23 +1,22 @@
 -- What boardlist prints for any bytes (01, 'Unit list and cue list').
-use Rattle.std.specs.Prelude.{ℕ, ◌≤◌, ◌≡◌, List, length}
-use Rattle.std.proofs.Math.Option.{none, some}
+use Rattle.std.specs.Prelude.{ℕ, ◌≤◌, ◌≡◌, List, length, take, Result}
 use denote.Triple.Both.{Both}
 use Rattle.bitio.specs.Lent.{span, placed, lent}
-use Rattle.bitio.specs.Leb.{put_says}
-use Rattle.bitio.specs.declared.leb128.Put.{Put}
+use Rattle.bitio.specs.Refusal.{says}
+use Rattle.bitio.specs.declared.refusal.Refusal.{Refusal}
 use Rattle.pictures.specs.Assemble.{Outcome, stopped, made, Output}
 use Rattle.pictures.specs.declared.settings.Settings.{Settings}
-use Rattle.assemble.specs.Whole.{Lent, outcome, lent_after}
+use Rattle.assemble.specs.Whole.{Lent, six, outcome, lent_after}
 use Rattle.assemble.specs.declared.multi.Counts.{Counts}
 use Rattle.listing.specs.File.{FileReading, bad, full, read_layout, file_numbers, read_into, file_numbers_after}
-use Rattle.listing.specs.Text.{listing, refused_text, refused_in_text, bad_file}
+use Rattle.listing.specs.Text.{listing, stopped_text, refused_text, bad_file}
 use Rattle.listing.specs.declared.file.Layout.{Layout}
+use Rattle.boardlist.specs.declared.answer.Memory.{Memory}
 
 -- the listing of what was made; a refusal, with its segment where it has one
 abbrev pub text_of : Outcome Output → List ℕ
 text_of (made o) = listing o.list (length o.cues) o.picture o.ends o.shows
-text_of (stopped k none) = refused_text k
-text_of (stopped k (some i)) = refused_in_text k i
+text_of (stopped k i) = stopped_text k i
 
 abbrev pub settings_of : Layout → Settings
 settings_of l = record { gop = l.gop_size; fps = l.fps; den = l.fps_den }
@@ -42,31 +41,35 @@ slices_after s numbers d = slices_after_of (read_into numbers s) s d
 
 -- ---- what the inner functions are told
 
--- the listing of what counts tell of lent memory
-abbrev pub made_text : Counts → (list pictures ends shows : List ℕ) → List ℕ
-made_text c list pictures ends shows =
-    listing (span list 0 c.units) c.cues (span pictures 0 c.picture) (span ends 0 c.ends) (span shows 0 c.shows)
+-- the slices that are lent to assembly
+abbrev pub lent_of : Memory → Lent
+lent_of m = six m.list m.cues m.pictures m.ends m.shows m.header
 
-pub record CountsFit (c : Counts) (list pictures ends shows : List ℕ) : Type 0 where
-  pub units : c.units ≤ length list
-  pub picture : c.picture ≤ length pictures
-  pub ends_there : c.ends ≤ length ends
-  pub shows-there : c.shows ≤ length shows
+-- the listing of what counts tell of lent memory
+abbrev pub made_text : Counts → Lent → List ℕ
+made_text c d = listing (take c.units d.list) c.cues (take c.picture d.pictures) (take c.ends d.ends) (take c.shows d.shows)
+
+pub record CountsFit (c : Counts) (d : Lent) : Type 0 where
+  pub units : c.units ≤ length d.list
+  pub picture : c.picture ≤ length d.pictures
+  pub ends_there : c.ends ≤ length d.ends
+  pub shows_there : c.shows ≤ length d.shows
 
 -- ---- what the functions say
 
 -- the text t goes to the head of lent memory: the answer, and that memory
-pub record Texted (t : List ℕ) (r : Put) (out : Both (List ℕ) (List ℕ)) : Type 0 where
-  pub answer : put_says r ≡ placed out.entry 0 t
+pub record Texted (t : List ℕ) (r : Result ℕ Refusal) (out : Both (List ℕ) (List ℕ)) : Type 0 where
+  pub answer : says r ≡ placed out.entry 0 t
   pub bytes : out.exit ≡ lent out.entry 0 t
 
--- the text of assembly's outcome x into the lent slices d, and what they hold then
-pub record Prints (x : Lent → Outcome Output) (r : Put) (out : Both (List ℕ) (List ℕ)) (d : Both Lent Lent) : Type 0 where
-  pub text : Texted (text_of (x d.entry)) r out
-  pub slices : d.exit ≡ lent_after (x d.entry) d.entry
+-- the text of assembly's outcome x into the lent slices, and what the memory holds then
+pub record Prints (x : Lent → Outcome Output) (r : Result ℕ Refusal) (out : Both (List ℕ) (List ℕ)) (memory : Both Memory Memory) : Type 0 where
+  pub text : Texted (text_of (x (lent_of memory.entry))) r out
+  pub slices : lent_of memory.exit ≡ lent_after (x (lent_of memory.entry)) (lent_of memory.entry)
+  pub kept : memory.exit.numbers ≡ memory.entry.numbers
 
--- the text for the bytes s, the numbers read from them, and what the lent slices hold then
-pub record Answers (s : List ℕ) (r : Put) (out numbers : Both (List ℕ) (List ℕ)) (d : Both Lent Lent) : Type 0 where
-  pub text : Texted (printed s numbers.entry d.entry) r out
-  pub stored : numbers.exit ≡ file_numbers_after numbers.entry s
-  pub slices : d.exit ≡ slices_after s numbers.entry d.entry
+-- the text for the bytes s, and what the memory holds then: the numbers read from them, and the lent slices
+pub record Answers (s : List ℕ) (r : Result ℕ Refusal) (out : Both (List ℕ) (List ℕ)) (memory : Both Memory Memory) : Type 0 where
+  pub text : Texted (printed s memory.entry.numbers (lent_of memory.entry)) r out
+  pub stored : memory.exit.numbers ≡ file_numbers_after memory.entry.numbers s
+  pub slices : lent_of memory.exit ≡ slices_after s memory.entry.numbers (lent_of memory.entry)

@@ -1,110 +1,99 @@
 // The text that boardlist prints for any bytes, made in lent memory.
-ghost use Rattle.std.specs.Prelude.{◌*◌};
 ghost use Rattle.bitio.specs.Lent.{span};
-ghost use Rattle.blocks.specs.Numbers.{width};
-ghost use Rattle.assemble.specs.Whole.{outcome, six};
+ghost use Rattle.blocks.specs.Numbers.{first_records};
+ghost use Rattle.assemble.specs.Whole.{outcome};
 ghost use Rattle.listing.specs.File.{LayoutFits};
-ghost use Rattle.boardlist.specs.Printed.{settings_of, made_text, CountsFit, Texted, Prints, Answers};
+ghost use Rattle.boardlist.specs.Printed.{lent_of, settings_of, made_text, CountsFit, Texted, Prints, Answers};
 
-use assemble::multi::{Assembled, Counts, assemble_multi};
-use bitio::leb128::Put;
+use assemble::multi::{Counts, assemble_multi};
+use bitio::refusal::Refusal;
 use blocks::numbers::WIDTH;
-use listing::file::{FileAnswer, Layout, read_file};
-use listing::text::{put_bad_file, put_listing, put_refused, put_refused_in};
+use listing::file::{Layout, read_file};
+use listing::text::{Units, put_listing, put_refused, put_unread};
 use pictures::settings::Settings;
 
-// The listing of what was made.
-fn put_made<'a>(
-    counts: Counts,
-    list: &[u32],
-    pictures: &'a [u8],
-    ends: &[u32],
-    shows: &'a [u8],
-    out: &mut [u8],
-) -> Put
-    requires { CountsFit counts list.now pictures.now ends.now shows.now }
-    ensures { Texted (made_text counts list.now pictures.now ends.now shows.now) result (record { entry = out.old; exit = out.new }) }
-{
-    let units = counts.units;
-    let picture = counts.picture;
-    let e = counts.ends;
-    let s = counts.shows;
-    put_listing(
-        out,
-        &list[0..units],
-        counts.cues,
-        &pictures[0..picture],
-        &ends[0..e],
-        &shows[0..s],
-    )
+// Room for so many units, and for as many segments: each has two ends and a show unit of five bytes.
+const COUNT: usize = 4096;
+
+// Room for so many picture bytes, and bytes of the sequence header OBU.
+const BYTES: usize = 65536;
+
+// What is lent to assembly: the segments' numbers, and where it hands out.
+#[derive(Drop)]
+pub(crate) struct Memory {
+    numbers: [u64; WIDTH * COUNT],
+    list: [u32; COUNT],
+    cues: [u32; COUNT],
+    pictures: [u8; BYTES],
+    ends: [u32; 2 * COUNT],
+    shows: [u8; 5 * COUNT],
+    header: [u8; BYTES],
 }
 
-// The text of a file's segments, assembled or refused.
-fn put_assembly(
-    file: &[u8],
-    layout: Layout,
-    numbers: &[u64],
-    list: &mut [u32],
-    cues: &mut [u32],
-    pictures: &mut [u8],
-    ends: &mut [u32],
-    shows: &mut [u8],
-    header: &mut [u8],
-    out: &mut [u8],
-) -> Put
-    requires { LayoutFits layout file.now numbers.now }
-    ensures { Prints (outcome (span file.now layout.start layout.end) (span numbers.now 0 (width * layout.segments)) (settings_of layout)) result (record { entry = out.old; exit = out.new }) (record {
-      entry = six list.old cues.old pictures.old ends.old shows.old header.old;
-      exit = six list.new cues.new pictures.new ends.new shows.new header.new;
-    }) }
-{
-    let start = layout.start;
-    let end = layout.end;
-    let n = WIDTH * layout.segments;
-    let made = assemble_multi(
-        &file[start..end],
-        &numbers[0..n],
-        Settings {
-            gop: layout.gop_size,
-            fps: layout.fps,
-            den: layout.fps_den,
-        },
-        list,
-        cues,
-        pictures,
-        ends,
-        shows,
-        header,
-    );
-    match made {
-        Assembled::Made(counts) => put_made(counts, list, pictures, ends, shows, out),
-        Assembled::Refused(k) => put_refused(out, k),
-        Assembled::RefusedIn(k, i) => put_refused_in(out, k, i),
+impl Memory {
+    pub(crate) fn new() -> Memory {
+        Memory {
+            numbers: [0; WIDTH * COUNT],
+            list: [0; COUNT],
+            cues: [0; COUNT],
+            pictures: [0; BYTES],
+            ends: [0; 2 * COUNT],
+            shows: [0; 5 * COUNT],
+            header: [0; BYTES],
+        }
     }
-}
 
-// The text for any bytes, or nothing where it has no room.
-pub(crate) fn answer(
-    file: &[u8],
-    numbers: &mut [u64],
-    list: &mut [u32],
-    cues: &mut [u32],
-    pictures: &mut [u8],
-    ends: &mut [u32],
-    shows: &mut [u8],
-    header: &mut [u8],
-    out: &mut [u8],
-) -> Put
-    ensures { Answers file.now result (record { entry = out.old; exit = out.new }) (record { entry = numbers.old; exit = numbers.new }) (record {
-      entry = six list.old cues.old pictures.old ends.old shows.old header.old;
-      exit = six list.new cues.new pictures.new ends.new shows.new header.new;
-    }) }
-{
-    match read_file(file, numbers) {
-        FileAnswer::Read(layout) => put_assembly(
-            file, layout, numbers, list, cues, pictures, ends, shows, header, out,
-        ),
-        FileAnswer::Bad => put_bad_file(out),
-        FileAnswer::Full => put_refused(out, 35),
+    // The listing of what was made.
+    fn put_made(&self, counts: Counts, out: &mut [u8]) -> Result<usize, Refusal>
+        requires { CountsFit counts (lent_of self.now) }
+        ensures { Texted (made_text counts (lent_of self.now)) result (record { entry = out.old; exit = out.new }) }
+    {
+        let units = Units {
+            pictures: &self.pictures[..counts.picture],
+            ends: &self.ends[..counts.ends],
+            shows: &self.shows[..counts.shows],
+        };
+        put_listing(out, &self.list[..counts.units], counts.cues, units)
+    }
+
+    // The text of a file's segments, whose numbers stand here, assembled or refused.
+    fn put_assembly(
+        &mut self,
+        file: &[u8],
+        layout: Layout,
+        out: &mut [u8],
+    ) -> Result<usize, Refusal>
+        requires { LayoutFits layout file.now self.old.numbers }
+        ensures { Prints (outcome (span file.now layout.start layout.end) (first_records layout.segments self.old.numbers) (settings_of layout)) result (record { entry = out.old; exit = out.new }) (record { entry = self.old; exit = self.new }) }
+    {
+        let made = assemble_multi(
+            &file[layout.start..layout.end],
+            &self.numbers[..WIDTH * layout.segments],
+            Settings {
+                gop: layout.gop_size,
+                fps: layout.fps,
+                den: layout.fps_den,
+            },
+            &mut self.list,
+            &mut self.cues,
+            &mut self.pictures,
+            &mut self.ends,
+            &mut self.shows,
+            &mut self.header,
+        );
+        match made {
+            Ok(counts) => self.put_made(counts, out),
+            Err(fault) => put_refused(out, u32::from(fault.refusal), fault.segment),
+        }
+    }
+
+    // The text for any bytes, or nothing where it has no room.
+    pub(crate) fn answer(&mut self, file: &[u8], out: &mut [u8]) -> Result<usize, Refusal>
+        ensures { Answers file.now result (record { entry = out.old; exit = out.new }) (record { entry = self.old; exit = self.new }) }
+    {
+        match read_file(file, &mut self.numbers) {
+            Ok(layout) => self.put_assembly(file, layout, out),
+            Err(unread) => put_unread(out, unread),
+        }
     }
 }

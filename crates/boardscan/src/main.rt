@@ -5,65 +5,34 @@
 mod scan;
 mod text;
 
-ghost use Rattle.std.specs.Prelude.{◌≤◌, length};
-
-use bitio::leb128::Put;
-use blocks::numbers::{WIDTH, golden_of, key_of, segment_count};
-use listing::file::{FileAnswer, read_file};
-use listing::text::{put_bad_file, put_refused};
+use blocks::numbers::{Segments, WIDTH, segment_count};
+use listing::file::read_file;
 use scan::scan_segment;
-use text::put_segment;
-
-// Writes out the front of the text.
-fn print(text: &[u8], end: usize) {
-    if end <= text.len() {
-        io::write_all(1, &text[0..end]);
-    }
-}
-
-fn print_line(text: &[u8], put: Put) {
-    match put {
-        Put::Next(end) => print(text, end),
-        Put::Full => {}
-    }
-}
+use text::Page;
 
 // Board by board, so that the text of any number of them has room.
-fn print_segments(picture: &[u8], segments: &[u64], text: &mut [u8])
-    requires { 2048 ≤ length text.old }
-{
-    let mut i: usize = 0;
-    while i < segment_count(segments) {
-        let scan = scan_segment(
-            key_of(picture, segments, i),
-            golden_of(picture, segments, i),
-        );
-        let end = put_segment(text, i, scan);
-        print(text, end);
-        i += 1;
+fn put_segments(segments: Segments, page: &mut Page) {
+    for i in 0..segment_count(segments.numbers) {
+        page.put_segment(i, scan_segment(segments.key(i), segments.golden(i)));
     }
 }
 
+#[tactic(auto, using(listing::proofs::FileLaws::layout_fits))]
 fn main() {
     // one byte more than a file may have, so that a longer one is seen
     let mut file = [0u8; 65537];
     let mut numbers = [0u64; WIDTH * 4096];
-    let mut text = [0u8; 2048];
+    let mut page = Page::new();
     let n = io::read_full(0, &mut file);
     match read_file(&file[..n], &mut numbers) {
-        FileAnswer::Read(layout) => {
-            let start = layout.start;
-            let end = layout.end;
-            let count = WIDTH * layout.segments;
-            print_segments(&file[start..end], &numbers[0..count], &mut text);
+        Ok(layout) => {
+            let segments = Segments {
+                picture: &file[layout.start..layout.end],
+                numbers: &numbers[0..WIDTH * layout.segments],
+            };
+            put_segments(segments, &mut page);
         }
-        FileAnswer::Bad => {
-            let put = put_bad_file(&mut text);
-            print_line(&text, put);
-        }
-        FileAnswer::Full => {
-            let put = put_refused(&mut text, 35);
-            print_line(&text, put);
-        }
+        Err(unread) => page.put_unread(unread),
     }
+    page.flush();
 }

@@ -1,47 +1,26 @@
-// The lines of a board, in lent memory. Each function takes the place where its text goes and returns the place behind it.
-ghost use Rattle.std.specs.Prelude.{◌+◌, ◌≤◌, length};
+// The lines of a board, on a page that is written out before the next board's.
+#![tactic(auto, using(listing::proofs::DecimalLaws::decimal_most, listing::proofs::TextLaws::length_field, listing::proofs::TextLaws::length_counted))]
 
-use crate::scan::{SegmentScan, UnitAnswer};
+ghost use Rattle.std.specs.Prelude.{◌≡◌, ◌+◌, ◌≤◌, length};
+
+use crate::scan::{Left, SegmentScan};
+use bitio::refusal::Refusal;
 use geometry::size::Size;
 use geometry::slots::RefSlot;
 use listing::decimal::{put_counted, put_field};
+use listing::file::Unread;
+use listing::text::put_unread;
 use obu::writer::put_bytes;
 
-// A number and the character behind it: 20 digits at most.
-fn put_number(text: &mut [u8], at: usize, v: u64, last: u8) -> usize
-    requires { at + 21 ≤ length text.old }
-    ensures { result ≤ at + 21 }
-{
-    put_field(text, at, v, last)
-}
+// more than the lines of any board need
+const ROOM: usize = 2048;
 
-// The same behind a word.
-fn put_named(text: &mut [u8], at: usize, word: &[u8], v: u64, last: u8) -> usize
-    requires { at + length word.now + 21 ≤ length text.old }
-    ensures { result ≤ at + length word.now + 21 }
-{
-    put_counted(text, at, word, v, last)
-}
-
-fn put_size(text: &mut [u8], at: usize, size: Size, last: u8) -> usize
-    requires { at + 128 ≤ length text.old }
-    ensures { result ≤ at + 128 }
-{
-    let to = put_number(text, at, size.frame_width, b'x');
-    let to = put_number(text, to, size.frame_height, b' ');
-    let to = put_named(text, to, b"upscaled ", size.upscaled_width, b' ');
-    let to = put_named(text, to, b"render ", size.render_width, b'x');
-    put_number(text, to, size.render_height, last)
-}
-
-fn put_answer(text: &mut [u8], at: usize, answer: UnitAnswer) -> usize
-    requires { at + 128 ≤ length text.old }
-    ensures { result ≤ at + 128 }
-{
-    match answer {
-        UnitAnswer::Sized(size) => put_size(text, at, size, b'\n'),
-        UnitAnswer::Refused(k) => put_named(text, at, b"refused ", k as u64, b'\n'),
-    }
+#[derive(Drop)]
+pub(crate) struct Page {
+    text: [u8; ROOM],
+    // where the text that waits ends
+    end: usize,
+    ghost in_room: { end ≤ 2048 },
 }
 
 fn size_in(slot: RefSlot) -> Size {
@@ -54,51 +33,111 @@ fn size_in(slot: RefSlot) -> Size {
     }
 }
 
-fn put_hint(text: &mut [u8], at: usize, slot: RefSlot) -> usize
-    requires { at + 32 ≤ length text.old }
-    ensures { result ≤ at + 32 }
-{
-    if slot.is_key_frame {
-        let to = put_named(text, at, b"hint ", slot.order_hint, b' ');
-        return put_bytes(text, to, b"key\n");
+impl Page {
+    pub(crate) fn new() -> Page {
+        Page {
+            text: [0; ROOM],
+            end: 0,
+        }
     }
-    put_named(text, at, b"hint ", slot.order_hint, b'\n')
-}
 
-fn put_slot(text: &mut [u8], at: usize, i: usize, slot: RefSlot) -> usize
-    requires { at + 192 ≤ length text.old }
-    ensures { result ≤ at + 192 }
-{
-    let to = put_named(text, at, b"slot ", i as u64, b' ');
-    let to = put_size(text, to, size_in(slot), b' ');
-    put_hint(text, to, slot)
-}
-
-fn put_slots(text: &mut [u8], at: usize, slots: [RefSlot; 8]) -> usize
-    requires { at + 1536 ≤ length text.old }
-    ensures { result ≤ at + 1536 }
-{
-    let mut to = at;
-    let mut i: usize = 0;
-    while i < 8 {
-        to = put_slot(text, to, i, slots[i]);
-        i += 1;
+    // Writes out the text that waits.
+    pub(crate) fn flush(&mut self)
+        ensures { self.new.end ≡ 0 }
+    {
+        io::write_all(1, &self.text[..self.end]);
+        self.end = 0;
     }
-    to
-}
 
-// All lines of board i, at the start of the buffer.
-pub(crate) fn put_segment(text: &mut [u8], i: usize, scan: SegmentScan) -> usize
-    requires { 2048 ≤ length text.old }
-    ensures { result ≤ 2048 }
-{
-    let key = scan.key;
-    let golden = scan.golden;
-    let slots = scan.slots;
-    let to = put_named(text, 0, b"segment ", i as u64, b'\n');
-    let to = put_bytes(text, to, b"key ");
-    let to = put_answer(text, to, key);
-    let to = put_bytes(text, to, b"golden ");
-    let to = put_answer(text, to, golden);
-    put_slots(text, to, slots)
+    fn put_word(&mut self, word: &[u8])
+        requires { self.old.end + length word.now ≤ 2048 }
+        ensures { self.new.end ≡ self.old.end + length word.now }
+    {
+        self.end = put_bytes(&mut self.text, self.end, word);
+    }
+
+    // A number and the character behind it: 20 digits at most.
+    fn put_number(&mut self, v: u64, last: u8)
+        requires { self.old.end + 21 ≤ 2048 }
+        ensures { self.new.end ≤ self.old.end + 21 }
+    {
+        self.end = put_field(&mut self.text, self.end, v, last);
+    }
+
+    // The same behind a word.
+    fn put_named(&mut self, word: &[u8], v: u64, last: u8)
+        requires { self.old.end + length word.now + 21 ≤ 2048 }
+        ensures { self.new.end ≤ self.old.end + length word.now + 21 }
+    {
+        self.end = put_counted(&mut self.text, self.end, word, v, last);
+    }
+
+    fn put_size(&mut self, size: Size, last: u8)
+        requires { self.old.end + 128 ≤ 2048 }
+        ensures { self.new.end ≤ self.old.end + 128 }
+    {
+        self.put_number(size.frame_width, b'x');
+        self.put_number(size.frame_height, b' ');
+        self.put_named(b"upscaled ", size.upscaled_width, b' ');
+        self.put_named(b"render ", size.render_width, b'x');
+        self.put_number(size.render_height, last);
+    }
+
+    fn put_answer(&mut self, answer: Result<Left, Refusal>)
+        requires { self.old.end + 128 ≤ 2048 }
+        ensures { self.new.end ≤ self.old.end + 128 }
+    {
+        match answer {
+            Ok(left) => self.put_size(left.size, b'\n'),
+            Err(refusal) => self.put_named(b"refused ", refusal as u64, b'\n'),
+        }
+    }
+
+    fn put_hint(&mut self, slot: RefSlot)
+        requires { self.old.end + 32 ≤ 2048 }
+        ensures { self.new.end ≤ self.old.end + 32 }
+    {
+        if slot.is_key_frame {
+            self.put_named(b"hint ", slot.order_hint, b' ');
+            self.put_word(b"key\n");
+        } else {
+            self.put_named(b"hint ", slot.order_hint, b'\n');
+        }
+    }
+
+    fn put_slot(&mut self, i: usize, slot: RefSlot)
+        requires { self.old.end + 192 ≤ 2048 }
+        ensures { self.new.end ≤ self.old.end + 192 }
+    {
+        self.put_named(b"slot ", i as u64, b' ');
+        self.put_size(size_in(slot), b' ');
+        self.put_hint(slot);
+    }
+
+    fn put_slots(&mut self, slots: &[RefSlot; 8])
+        requires { self.old.end + 1536 ≤ 2048 }
+    {
+        for (i, slot) in slots.iter().enumerate() {
+            self.put_slot(i, *slot);
+        }
+    }
+
+    // All lines of board i.
+    pub(crate) fn put_segment(&mut self, i: usize, scan: SegmentScan) {
+        self.flush();
+        self.put_named(b"segment ", i as u64, b'\n');
+        self.put_word(b"key ");
+        self.put_answer(scan.key);
+        self.put_word(b"golden ");
+        self.put_answer(scan.golden);
+        self.put_slots(&scan.slots);
+    }
+
+    // Why there are no boards.
+    pub(crate) fn put_unread(&mut self, unread: Unread) {
+        self.flush();
+        if let Ok(end) = put_unread(&mut self.text, unread) {
+            self.end = end;
+        }
+    }
 }

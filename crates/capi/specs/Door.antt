@@ -3,7 +3,8 @@ use Rattle.std.specs.Prelude.{ℕ, ◌≡◌, List}
 use denote.Triple.Both.{Both}
 use Rattle.bitio.specs.Parse.{Answer, refused, accepted}
 use Rattle.container.specs.Limits.{Room, room_in}
-use Rattle.container.specs.Units.{Sizes, sizes_of, bytes_after, ends_after}
+use Rattle.container.specs.Units.{sizes_of, bytes_after, ends_after}
+use Rattle.container.specs.declared.units.Sizes.{Sizes}
 use Rattle.pictures.specs.Assemble.{Outcome, stopped, made, Output}
 use Rattle.assemble.specs.Whole.{Lent, lent_after, counts_of, assembled_code}
 use Rattle.assemble.specs.declared.multi.Counts.{Counts}

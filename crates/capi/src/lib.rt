@@ -1,13 +1,24 @@
 // What a packaging host calls from C: numbers and byte slices only. Declared in include/magbelo.h.
 #![tactic(auto)]
 
+ghost use Rattle.std.specs.Prelude.{◌≡◌, Err};
 ghost use Rattle.container.specs.Container.{stream, read};
-ghost use Rattle.assemble.specs.Whole.{outcome, six};
+ghost use Rattle.pictures.specs.Says.{outcome_of};
+ghost use Rattle.assemble.specs.Whole.{outcome, six, assembled_code};
 ghost use Rattle.capi.specs.Door.{four, UnitsRead, five, Called};
 
-use assemble::multi::{Assembled, assemble_multi};
-use container::units::Split;
+use assemble::multi::assemble_multi;
+use container::stream::split_obu_stream;
+use pictures::fault::Fault;
 use pictures::settings::Settings;
+
+// A refusal's number, and in the high bits its segment, counted from 1 so that 0 says that none is to blame.
+fn code_of(fault: Fault) -> u64
+    ensures { result ≡ assembled_code (outcome_of (Err fault)) }
+{
+    let segment = fault.segment.map_or(0, |i| i as u64 % 4294967295 + 1);
+    u32::from(fault.refusal) as u64 + segment * 4294967296
+}
 
 // The units of a stream: 0, with their bytes in `out`, the end of each in `ends`, and how many there are of both; or
 // document 01's number, and all is as it was.
@@ -24,11 +35,11 @@ pub extern "C" fn magbelo_split_obu_stream(
       exit = four out.new ends.new bytes.new units.new;
     }) }
 {
-    match container::stream::split_obu_stream(data, out, ends) {
-        Split::Refused(k) => k,
-        Split::Units(n, u) => {
-            *bytes = n;
-            *units = u;
+    match split_obu_stream(data, out, ends) {
+        Err(refusal) => refusal.into(),
+        Ok(sizes) => {
+            *bytes = sizes.bytes;
+            *units = sizes.units;
             0
         }
     }
@@ -64,24 +75,16 @@ pub extern "C" fn magbelo_assemble(
       exit = five units.new cue_count.new picture_len.new header_len.new golden_slot.new;
     }) }
 {
+    let settings = Settings {
+        gop: gop_size,
+        fps,
+        den: fps_den,
+    };
     match assemble_multi(
-        picture,
-        segments,
-        Settings {
-            gop: gop_size,
-            fps: fps,
-            den: fps_den,
-        },
-        list,
-        cues,
-        pictures,
-        ends,
-        shows,
-        header,
+        picture, segments, settings, list, cues, pictures, ends, shows, header,
     ) {
-        Assembled::Refused(k) => k as u64,
-        Assembled::RefusedIn(k, i) => k as u64 + (i as u64 % 4294967295 + 1) * 4294967296,
-        Assembled::Made(c) => {
+        Err(fault) => code_of(fault),
+        Ok(c) => {
             *units = c.units;
             *cue_count = c.cues;
             *picture_len = c.picture;

@@ -1,31 +1,48 @@
 -- Lines of replay's protocol, read and printed, in ASCII codes.
-use Rattle.std.specs.Prelude.{ℕ, List, [], ◌∷◌, Bool, true, false}
+use Rattle.std.specs.Prelude.{ℕ, List, [], ◌∷◌, Bool, true, false, Option, Some, None}
+use Rattle.std.specs.Str.{bytes_eq}
 use mir.Val.{bool_byte}
 use Rattle.bitio.specs.Parse.{Answer, accepted}
 use Rattle.protocol.specs.Answers.{parts_of}
-use Rattle.protocol.specs.Text.{word_key}
+use Rattle.protocol.specs.Text.{ascii, word}
+use Rattle.protocol.specs.Kinds.{Form, just, any, then_any, plain}
 use Rattle.protocol.specs.Room.{room_prefix}
 use Rattle.protocol.specs.Told.{Told, told}
-use Rattle.protocol.specs.Fields.{FieldsRead, fields_of}
+use Rattle.protocol.specs.Fields.{Place, FieldsRead, fields_of}
 use Rattle.protocol.specs.Printed.{answer_text}
-use Rattle.protocol.specs.declared.kinds.Format.{Format}
+use Rattle.protocol.specs.declared.kinds.Kind.TheVariants.{Bytes, Number, Count, Named, Told as Tells}
 use Rattle.protocol.specs.declared.lent.Room.{Room as LineRoom}
+use Rattle.protocol.specs.declared.lent.Prefix.{Prefix}
 use Rattle.cases.specs.Rows.{Row}
 
 -- whether a room is given, bytes, ends, times, and where the request starts
-abbrev room_numbers : LineRoom → List ℕ
-room_numbers r = bool_byte r.is_given ∷ r.bytes ∷ r.ends ∷ r.times ∷ r.next ∷ []
+abbrev room_lent : Option LineRoom → ℕ → List ℕ
+room_lent None next = 0 ∷ 0 ∷ 0 ∷ 0 ∷ next ∷ []
+room_lent (Some r) next = 1 ∷ r.bytes ∷ r.ends ∷ r.times ∷ next ∷ []
 
--- where reading stopped, how many bytes, byte strings and numbers were read; then the memory they went to
+abbrev room_numbers : Option Prefix → List ℕ
+room_numbers None = []
+room_numbers (Some p) = room_lent p.room p.next
+
+-- whether a line's first word is a name
+abbrev is_named : List ℕ → List ℕ → ℕ
+is_named name s = bool_byte (bytes_eq (word 32 s) name)
+
+-- where reading stopped, how many bytes, byte strings and numbers were read
+abbrev place_numbers : Option Place → List ℕ
+place_numbers None = []
+place_numbers (Some p) = p.next ∷ p.bytes ∷ p.ends ∷ p.numbers ∷ []
+
+-- then the memory they went to
 abbrev field_numbers : FieldsRead → List (List ℕ)
-field_numbers t = (t.fields.next ∷ t.fields.bytes ∷ t.fields.ends ∷ t.fields.numbers ∷ []) ∷ t.decoded ∷ t.ends ∷ t.numbers ∷ []
+field_numbers t = place_numbers t.fields ∷ t.decoded ∷ t.ends ∷ t.numbers ∷ []
 
-abbrev printed : Told → Format → Bool → Answer (List (List ℕ))
+abbrev printed : Told → Form → Bool → Answer (List (List ℕ))
 printed t f own = accepted (answer_text t f own ∷ [])
 
 -- the answer of `stream`, behind which one byte b is lent
 abbrev stream_answer : ℕ → Answer (List (List ℕ))
-stream_answer b = printed (told (parts_of 6 1) (0x12 ∷ 0 ∷ 0x32 ∷ 0 ∷ 0x2a ∷ 0 ∷ b ∷ []) (6 ∷ 0xa5a5a5a5 ∷ []) []) (record { kinds = 0x06; repeated = 0x01 }) false
+stream_answer b = printed (told (parts_of 6 1) (0x12 ∷ 0 ∷ 0x32 ∷ 0 ∷ 0x2a ∷ 0 ∷ b ∷ []) (6 ∷ 0xa5a5a5a5 ∷ []) []) (then_any (plain Count ∷ []) (plain Bytes ∷ [])) false
 
 -- ---- the rows
 
@@ -33,15 +50,15 @@ abbrev pub line_rows : List Row
 line_rows =
     -- `room 1 2 30 leb 00`
     (accepted (room_numbers (room_prefix (114 ∷ 111 ∷ 111 ∷ 109 ∷ 32 ∷ 49 ∷ 32 ∷ 50 ∷ 32 ∷ 51 ∷ 48 ∷ 32 ∷ 108 ∷ 101 ∷ 98 ∷ 32 ∷ 48 ∷ 48 ∷ [])) ∷ []), accepted ((1 ∷ 1 ∷ 2 ∷ 30 ∷ 12 ∷ []) ∷ []))
-    -- `leb` as a number, and no number for a name behind a NUL
-    ∷ (accepted ((word_key (108 ∷ 101 ∷ 98 ∷ []) ∷ word_key (0 ∷ 108 ∷ 101 ∷ 98 ∷ []) ∷ []) ∷ []), accepted ((0x6c6562 ∷ 0 ∷ []) ∷ []))
+    -- `leb` is named so, and not behind a NUL
+    ∷ (accepted ((is_named (ascii "leb") (108 ∷ 101 ∷ 98 ∷ 32 ∷ 48 ∷ 48 ∷ []) ∷ is_named (ascii "leb") (0 ∷ 108 ∷ 101 ∷ 98 ∷ []) ∷ []) ∷ []), accepted ((1 ∷ 0 ∷ []) ∷ []))
     -- `bits 0a0b 12 3`, whose fields start at 5
-    ∷ (accepted (field_numbers (fields_of (98 ∷ 105 ∷ 116 ∷ 115 ∷ 32 ∷ 48 ∷ 97 ∷ 48 ∷ 98 ∷ 32 ∷ 49 ∷ 50 ∷ 32 ∷ 51 ∷ []) 5 (record { kinds = 0x020201; repeated = 0 }) (1 ∷ 2 ∷ 3 ∷ []) (9 ∷ 9 ∷ []) (8 ∷ 8 ∷ 8 ∷ []))), accepted ((15 ∷ 2 ∷ 1 ∷ 2 ∷ []) ∷ (10 ∷ 11 ∷ 3 ∷ []) ∷ (2 ∷ 9 ∷ []) ∷ (12 ∷ 3 ∷ 8 ∷ []) ∷ []))
+    ∷ (accepted (field_numbers (fields_of (98 ∷ 105 ∷ 116 ∷ 115 ∷ 32 ∷ 48 ∷ 97 ∷ 48 ∷ 98 ∷ 32 ∷ 49 ∷ 50 ∷ 32 ∷ 51 ∷ []) 5 (just (plain Bytes ∷ plain Number ∷ plain Number ∷ [])) (1 ∷ 2 ∷ 3 ∷ []) (9 ∷ 9 ∷ []) (8 ∷ 8 ∷ 8 ∷ []))), accepted ((15 ∷ 2 ∷ 1 ∷ 2 ∷ []) ∷ (10 ∷ 11 ∷ 3 ∷ []) ∷ (2 ∷ 9 ∷ []) ∷ (12 ∷ 3 ∷ 8 ∷ []) ∷ []))
     -- `ok 1 120032002a00`, and with ` dirty` behind it where the byte behind the answer has changed
     ∷ (stream_answer 0xa5, accepted ((111 ∷ 107 ∷ 32 ∷ 49 ∷ 32 ∷ 49 ∷ 50 ∷ 48 ∷ 48 ∷ 51 ∷ 50 ∷ 48 ∷ 48 ∷ 50 ∷ 97 ∷ 48 ∷ 48 ∷ 10 ∷ []) ∷ []))
     ∷ (stream_answer 0xa4, accepted ((111 ∷ 107 ∷ 32 ∷ 49 ∷ 32 ∷ 49 ∷ 50 ∷ 48 ∷ 48 ∷ 51 ∷ 50 ∷ 48 ∷ 48 ∷ 50 ∷ 97 ∷ 48 ∷ 48 ∷ 32 ∷ 100 ∷ 105 ∷ 114 ∷ 116 ∷ 121 ∷ 10 ∷ []) ∷ []))
     -- `no 24 7`, assembly refused at a segment
-    ∷ (printed (told (record { refusal = 24; bytes = 0; ends = 0; numbers = 1; is_dirty = false }) [] [] (7 ∷ [])) (record { kinds = 0x070202; repeated = 0x09 }) true, accepted ((110 ∷ 111 ∷ 32 ∷ 50 ∷ 52 ∷ 32 ∷ 55 ∷ 10 ∷ []) ∷ []))
+    ∷ (printed (told (record { refusal = Some 24; bytes = 0; ends = 0; numbers = 1; is_dirty = false }) [] [] (7 ∷ [])) (then_any (plain Number ∷ plain Number ∷ plain Named ∷ []) (plain Tells ∷ [])) true, accepted ((110 ∷ 111 ∷ 32 ∷ 50 ∷ 52 ∷ 32 ∷ 55 ∷ 10 ∷ []) ∷ []))
     -- `ok 5 - no 14`, units played
-    ∷ (printed (told (record { refusal = 0; bytes = 0; ends = 0; numbers = 6; is_dirty = false }) [] [] (2 ∷ 5 ∷ 5 ∷ 256 ∷ 8 ∷ 14 ∷ [])) (record { kinds = 0; repeated = 0x09 }) true, accepted ((111 ∷ 107 ∷ 32 ∷ 53 ∷ 32 ∷ 45 ∷ 32 ∷ 110 ∷ 111 ∷ 32 ∷ 49 ∷ 52 ∷ 10 ∷ []) ∷ []))
+    ∷ (printed (told (record { refusal = None; bytes = 0; ends = 0; numbers = 6; is_dirty = false }) [] [] (2 ∷ 5 ∷ 5 ∷ 256 ∷ 8 ∷ 14 ∷ [])) (any (plain Tells ∷ [])) true, accepted ((111 ∷ 107 ∷ 32 ∷ 53 ∷ 32 ∷ 45 ∷ 32 ∷ 110 ∷ 111 ∷ 32 ∷ 49 ∷ 52 ∷ 10 ∷ []) ∷ []))
     ∷ []

@@ -1,10 +1,9 @@
 -- The player: what each kind of unit shows and leaves, and each refusal.
-use Rattle.std.specs.Prelude.{ℕ, List, [], ◌∷◌, ◌++◌, map, cond as pick, replicate}
+use Rattle.std.specs.Prelude.{ℕ, List, [], ◌∷◌, ◌++◌, map, replicate, Some, None}
 use Rattle.std.proofs.Math.Option.{Option, none, some}
 use Rattle.bitio.specs.Parse.{Answer, refused, accepted, answer}
 use mir.Val.{bool_byte}
-use Rattle.player.specs.Player.{State, start, play, state_after}
-use Rattle.player.specs.declared.slots.Slot.{Slot}
+use Rattle.player.specs.Player.{Held, State, start, play, state_after}
 use Rattle.cases.specs.Rows.{Row}
 use Rattle.assemble.specs.Examples.{payload_k}
 
@@ -14,8 +13,9 @@ shown_list none = []
 shown_list (some q) = q ∷ []
 
 -- a slot: its position, showable, key; nothing if it is empty
-abbrev slot_numbers : Slot → List ℕ
-slot_numbers s = pick s.is_filled (s.position ∷ bool_byte s.showable ∷ bool_byte s.key ∷ []) []
+abbrev slot_numbers : Held → List ℕ
+slot_numbers None = []
+slot_numbers (Some s) = s.position ∷ bool_byte s.showable ∷ bool_byte s.key ∷ []
 
 -- a unit played under a position: what is shown, and the slots afterwards
 abbrev played_as : State → ℕ → List ℕ → Answer (List (List ℕ))

@@ -2,6 +2,7 @@
 use Rattle.std.specs.Prelude.{ℕ, ◌+◌, List, [], ◌∷◌, ◌++◌, map, ℤ, pos, negsuc, replicate}
 use mir.Val.{bool_byte}
 use Rattle.bitio.specs.Parse.{Answer, refused, accepted}
+use Rattle.frame.specs.FrameType.{type_number}
 use Rattle.geometry.specs.declared.slots.RefSlot.{RefSlot}
 use Rattle.uheader.specs.Scan.{scan_payloads, slots_after, empty_slots}
 use Rattle.uheader.specs.declared.scan.HeaderScan.{HeaderScan}
@@ -19,7 +20,7 @@ numbers (refused k) = k ∷ []
 numbers (accepted x) =
     x.removal_insert_pos
     ∷ x.end_pos
-    ∷ x.frame.frame_type
+    ∷ type_number x.frame.frame_type
     ∷ bool_byte x.frame.show_frame
     ∷ bool_byte x.frame.showable_frame
     ∷ x.frame.refresh_frame_flags

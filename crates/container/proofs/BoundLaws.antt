@@ -1,16 +1,13 @@
 -- Units have no more bytes than all OBUs, and no more than one for each frame, or one.
-use Prim.Native.Nat.{ℕ, suc, ◌+◌, ◌≤◌}
+use Prim.Native.Nat.{ℕ, suc, ◌+◌, ◌≤◌, max}
 use native.Mathlib.Omega.{arith}
 use mathlib.Core.Path.{◌≡◌, refl, ap, ◌∙◌}
 use mathlib.Core.List.{List, [], ◌∷◌, ◌++◌, flat_map}
 use mathlib.Core.Bool.{Bool, true, false, cond as pick}
 use lib.ListN.{length, length-append}
-use lib.Dec.{eqb}
-use borrow.Author.Tests.{eqb-true, eqb-false}
 use Rattle.obu.specs.Obu.{Obu, unit_bytes}
 use Rattle.obu.specs.Unit.{is_delimiter, is_frame, count}
 use Rattle.container.specs.Stream.{has_frame, group, lead, others, either, join, behind, joined, units, flat}
-use Rattle.container.specs.code.Survey.{most_units}
 use Rattle.container.proofs.StreamLaws.{bytes-append, flat-group, count-append, frame-some}
 
 -- how many bytes OBUs have, written
@@ -106,23 +103,7 @@ behind-few u w (g ∷ gs) = go (has_frame g) refl (behind-few (join w g) [] gs) 
     go true e h i = omega (arith, h, frames-of g gs, frame-some g e)
     go false e h i = omega (arith, i, frames-of g gs)
 
-most-grows : (n m : ℕ) → n ≤ m → most_units n ≤ most_units m
-most-grows n m l = go (eqb n 0) (eqb m 0) refl refl
-  where
-    go : (a b : Bool) → eqb n 0 ≡ a → eqb m 0 ≡ b → pick a 1 n ≤ pick b 1 m
-    go true true p q = omega arith
-    go true false p q = let k = eqb-false m 0 q in omega arith
-    go false true p q = let z = eqb-true m 0 q in omega arith
-    go false false p q = l
-
-most-some : (n k : ℕ) → k ≤ n → 1 ≤ n → k ≤ most_units n
-most-some n k l s = go (eqb n 0) refl
-  where
-    go : (a : Bool) → eqb n 0 ≡ a → k ≤ pick a 1 n
-    go true p = let z = eqb-true n 0 p in omega arith
-    go false p = l
-
-joined-few : (w : List Obu) (gs : List (List Obu)) → length (joined w gs) ≤ most_units (count is_frame (flat gs))
+joined-few : (w : List Obu) (gs : List (List Obu)) → length (joined w gs) ≤ max (count is_frame (flat gs)) 1
 unfolding joined flat count
 joined-few [] [] = omega arith
 joined-few (o ∷ w) [] = omega arith
@@ -131,16 +112,16 @@ joined-few w (g ∷ gs) = go (has_frame g) refl (behind-few (join w g) [] gs) (j
     n : ℕ
     n = count is_frame (flat gs)
 
-    go : (b : Bool) → has_frame g ≡ b → length (behind (join w g) [] gs) ≤ suc n → length (joined (w ++ g) gs) ≤ most_units n
-        → length (pick b (behind (join w g) [] gs) (joined (w ++ g) gs)) ≤ most_units (count is_frame (g ++ flat gs))
+    go : (b : Bool) → has_frame g ≡ b → length (behind (join w g) [] gs) ≤ suc n → length (joined (w ++ g) gs) ≤ max n 1
+        → length (pick b (behind (join w g) [] gs) (joined (w ++ g) gs)) ≤ max (count is_frame (g ++ flat gs)) 1
     go true e h i =
         let f = count-append is_frame g (flat gs) in
         let k = frame-some g e in
-        most-some (count is_frame (g ++ flat gs)) (length (behind (join w g) [] gs)) (omega (arith, h)) (omega arith)
+        omega (arith, h)
     go false e h i =
         let f = count-append is_frame g (flat gs) in
-        omega (arith, i, most-grows n (count is_frame (g ++ flat gs)) (omega arith))
+        omega (arith, i)
 
-pub units-few : (os : List Obu) → length (units os) ≤ most_units (count is_frame os)
+pub units-few : (os : List Obu) → length (units os) ≤ max (count is_frame os) 1
 unfolding units
 units-few os = rw (ap (count is_frame) (flat-group os)) at (joined-few [] (group os))

@@ -18,10 +18,6 @@ is_none (o ∷ os) = false
 
 -- ---- one OBU more
 
-pub none-next : (os : List Obu) (o : Obu) → is_none (os ++ (o ∷ [])) ≡ false
-none-next [] o = refl
-none-next (a ∷ os) o = refl
-
 pub leads-next : (os : List Obu) (o : Obu) → leads (os ++ (o ∷ [])) ≡ (leads os || (is_none os && is_delimiter o))
 leads-next [] o = refl
 leads-next (a ∷ os) o = sym (or-false (is_delimiter a))

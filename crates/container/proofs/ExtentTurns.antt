@@ -4,19 +4,21 @@ use native.Mathlib.Omega.{arith}
 use mathlib.Core.Path.{◌≡◌, refl, sym, ap, ap₂, ◌∙◌}
 use mathlib.Core.List.{List, [], ◌∷◌, ◌++◌, append_assoc, append-nil}
 use mathlib.Core.Option.{Option}
-use mathlib.Core.Bool.{Bool, true, false, not, ◌||◌, ◌&&◌}
+use mathlib.Core.Bool.{Bool, true, false, ◌||◌, ◌&&◌}
 use lib.ListN.{length}
+use lib.Dec.{eqb}
+use borrow.Author.Tests.{eq-eqb, ne_eqb}
 use Rattle.obu.specs.Obu.{Obu}
 use Rattle.obu.specs.Unit.{is_delimiter, is_frame, is_type, count}
 use Rattle.obu.specs.declared.unit.Kind.TheVariants.{TemporalDelimiter, Frame}
 use Rattle.obu.proofs.UnitLaws.{count_next}
 use Rattle.obu.proofs.PlaceLaws.{IsPlaced}
-use Rattle.container.specs.Stream.{lead, either, others, units}
+use Rattle.container.specs.Stream.{opens, lead, either, others, units}
 use Rattle.container.specs.code.Ranges.{Range, here, more}
 use Rattle.container.specs.code.Extents.{last_lead, led, first_of, reopens, Frames, ToFrame, ToNext, FirstObu, FirstUnit}
 use Rattle.container.proofs.StreamLaws.{leads, count-append, alone, units-alone}
 use Rattle.container.proofs.RangeLaws.{range-le, range-within, range_same, range-append, range-one, range-end, placed-step, Took, took}
-use Rattle.container.proofs.ExtentLaws.{is_none, none-next, leads-next, led-takes, led-first, led-other, first_more, first-last, first-leads}
+use Rattle.container.proofs.ExtentLaws.{is_none, leads-next, led-takes, led-first, led-other, first_more, first-last, first-leads}
 
 -- however many frames are left
 pub frames-behind : {s : List ℕ} {at : ℕ} {os : List Obu} → Range s at (length s) os → (n : ℕ) × Frames s at n
@@ -25,7 +27,7 @@ frames-behind {os} r = (count is_frame os, record { all = os; range = r; frames 
 -- ---- to the frame
 
 -- p is reached, and what leads lies from a to b
-pub record Heading (s : List ℕ) (at p a b : ℕ) (is-first is-led : Bool) : Type 0 where
+pub record Heading (s : List ℕ) (at p a b : ℕ) (is-led : Bool) : Type 0 where
   pub front : List Obu
   pub left : List Obu
   pub range : Range s at p front
@@ -35,10 +37,9 @@ pub record Heading (s : List ℕ) (at p a b : ℕ) (is-first is-led : Bool) : Ty
   pub leading : Range s a b (led front)
   pub after : at ≤ a
   pub within : b ≤ p
-  pub firsts : is-first ≡ is_none front
   pub leds : is-led ≡ leads front
 
-pub heading-start : {s : List ℕ} {at n : ℕ} → Frames s at n → 1 ≤ n → Heading s at at at at true false
+pub heading-start : {s : List ℕ} {at n : ℕ} → Frames s at n → 1 ≤ n → Heading s at at at at false
 unfolding last_lead count
 heading-start f h =
     let l = range-le f.range in
@@ -52,16 +53,15 @@ heading-start f h =
       leading = here l;
       after = omega arith;
       within = omega arith;
-      firsts = refl;
       leds = refl;
     }
 
-both : (x y : Bool) → (x && not y) ≡ true → (x ≡ true) × (y ≡ false)
-both true true e = let z : ◌≡◌ {A = ℕ} 0 1 = cc in absurd (omega arith)
-both true false e = (refl, refl)
-both false y e = let z : ◌≡◌ {A = ℕ} 0 1 = cc in absurd (omega arith)
+-- nothing lies in front of the first OBU alone
+none-first : {s : List ℕ} {at p : ℕ} {os : List Obu} → Range s at p os → eqb p at ≡ is_none os
+none-first (here {a} l) = eq-eqb a a refl
+none-first {at} {p} (more q r) = ne_eqb p at (λ z. omega (arith, q.after, range-le r))
 
-module _ {s : List ℕ} {at p a b : ℕ} {i l : Bool} (h : Heading s at p a b i l) where
+module _ {s : List ℕ} {at p a b : ℕ} {l : Bool} (h : Heading s at p a b l) where
   -- the frame is found before the end
   pub heading-end : length s ≤ p → ⊥
   unfolding count
@@ -90,16 +90,13 @@ module _ {s : List ℕ} {at p a b : ℕ} {i l : Bool} (h : Heading s at p a b i 
           some = omega (arith, range-le h.range, g.placed.after, g.placed.ends);
         }
 
-    module _ (no-frame : is_type Frame t ≡ false) {is : Bool} (d : is ≡ is_type TemporalDelimiter t) where
+    module _ (no-frame : is_type Frame t ≡ false) where
       f : is_frame o ≡ false
       f = ap (is_type Frame) g.type ∙ no-frame
 
-      delimiter : is ≡ is_delimiter o
-      delimiter = d ∙ ap (is_type TemporalDelimiter) (sym g.type)
-
-      next : {y z : ℕ} → Range s y z (led (h.front ++ (o ∷ []))) → at ≤ y → z ≤ q → Heading s at q y z false (l || (i && is))
+      next : {y z : ℕ} {m : Bool} → Range s y z (led (h.front ++ (o ∷ []))) → at ≤ y → z ≤ q → m ≡ leads (h.front ++ (o ∷ [])) → Heading s at q y z m
       unfolding count
-      next r u v =
+      next r u v e =
           record {
             front = h.front ++ (o ∷ []);
             left = k.rest;
@@ -110,26 +107,36 @@ module _ {s : List ℕ} {at p a b : ℕ} {i l : Bool} (h : Heading s at p a b i 
             leading = r;
             after = u;
             within = v;
-            firsts = sym (none-next h.front o);
-            leds = ap₂ (λ x y. x || (y && is)) h.leds h.firsts ∙ ap (λ y. leads h.front || (is_none h.front && y)) delimiter ∙ sym (leads-next h.front o);
+            leds = e;
           }
 
-      pub heading-taken : (is && not l) ≡ true → Heading s at q p q false (l || (i && is))
-      heading-taken c =
-          let (x, y) = both is l c in
-          let m = led-takes h.front o (sym delimiter ∙ x) (sym h.leds ∙ y) in
+      -- a delimiter leads where none has led for good
+      pub heading-taken : l ≡ false → is_type TemporalDelimiter t ≡ true → Heading s at q p q (eqb p at)
+      heading-taken n d =
+          let w : is_delimiter o ≡ true = ap (is_type TemporalDelimiter) g.type ∙ d in
+          let m = led-takes h.front o w (sym h.leds ∙ n) in
           next (rw m (range-one (placed-step g.placed))) (range-le h.range) (omega arith)
-
-      pub heading-left : (is && not l) ≡ false → Heading s at q a b false (l || (i && is))
-      heading-left c = go is l refl refl c
+          (sym (leads-next h.front o ∙ rw (w, ← h.leds, n) (go (is_none h.front)) ∙ sym (none-first h.range)))
         where
-          same : led (h.front ++ (o ∷ [])) ≡ led h.front → Heading s at q a b false (l || (i && is))
-          same m = next (rw m h.leading) h.after (omega (arith, h.within, g.placed.after, g.placed.ends))
+          go : (b : Bool) → (b && true) ≡ b
+          go true = refl
+          go false = refl
 
-          go : (x y : Bool) → is ≡ x → l ≡ y → (x && not y) ≡ false → Heading s at q a b false (l || (i && is))
-          go true true m n z = same (led-first h.front o (sym h.leds ∙ n))
-          go true false m n z = let w : ◌≡◌ {A = ℕ} 0 1 = cc in absurd (omega arith)
-          go false y m n z = same (led-other h.front o (sym delimiter ∙ m))
+      same : led (h.front ++ (o ∷ [])) ≡ led h.front → l ≡ leads (h.front ++ (o ∷ [])) → Heading s at q a b l
+      same m e = next (rw m h.leading) h.after (omega (arith, h.within, g.placed.after, g.placed.ends)) e
+
+      pub heading-led : l ≡ true → Heading s at q a b l
+      heading-led n = same (led-first h.front o (sym h.leds ∙ n)) (sym (leads-next h.front o ∙ rw (← h.leds, n)))
+
+      pub heading-other : is_type TemporalDelimiter t ≡ false → Heading s at q a b l
+      heading-other d =
+          let w : is_delimiter o ≡ false = ap (is_type TemporalDelimiter) g.type ∙ d in
+          same (led-other h.front o w) (sym (leads-next h.front o ∙ rw (w, ← h.leds) (go l (is_none h.front))))
+        where
+          go : (a b : Bool) → (a || (b && false)) ≡ a
+          go true b = refl
+          go false true = refl
+          go false false = refl
 
 -- ---- to the next unit
 
@@ -153,34 +160,29 @@ module _ {s : List ℕ} {at p : ℕ} (h : Nexting s at p) where
   pub nexting-end : length s ≤ p → ToNext s at p
   nexting-end k = there (rw (range-end h.behind k))
 
-  module _ {t : ℕ} {e : Option ℕ} {x q : ℕ} (g : IsPlaced s p t e x q) {d f : Bool} (is-d : d ≡ is_type TemporalDelimiter t) (is_f : f ≡ is_type Frame t) where
+  module _ {t : ℕ} {e : Option ℕ} {x q : ℕ} (g : IsPlaced s p t e x q) where
     tk : Took s (length s) h.left g.obu q
     tk = took h.behind g.placed.here (placed-step g.placed)
 
-    is-delimiter : is_delimiter g.obu ≡ d
-    is-delimiter = ap (is_type TemporalDelimiter) g.type ∙ sym is-d
+    opened : opens true g.obu ≡ true → ToNext s at p
+    opened e = there (ap (λ l. reopens l) tk.list ∙ e)
 
-    is-frame : is_frame g.obu ≡ f
-    is-frame = ap (is_type Frame) g.type ∙ sym is_f
+    pub nexting-delimiter : is_type TemporalDelimiter t ≡ true → ToNext s at p
+    nexting-delimiter d = opened (rw (g.type, d))
 
-    pub nexting-open : (d || f) ≡ true → ToNext s at p
-    nexting-open c = there (ap (λ l. reopens l) tk.list ∙ rw (is-delimiter, is-frame) c)
+    pub nexting-frame : is_type TemporalDelimiter t ≡ false → is_type Frame t ≡ true → ToNext s at p
+    nexting-frame d f = opened (rw (g.type, d, f))
 
-    pub nexting-next : (d || f) ≡ false → Nexting s at q
-    nexting-next c = go d f is-delimiter is-frame c
-      where
-        go : (x y : Bool) → is_delimiter g.obu ≡ x → is_frame g.obu ≡ y → (x || y) ≡ false → Nexting s at q
-        go true y m n z = let w : ◌≡◌ {A = ℕ} 0 1 = cc in absurd (omega arith)
-        go false true m n z = let w : ◌≡◌ {A = ℕ} 0 1 = cc in absurd (omega arith)
-        go false false m n z =
-            record {
-              front = h.front ++ (g.obu ∷ []);
-              left = tk.rest;
-              range = range-append h.range (range-one (placed-step g.placed));
-              behind = tk.range;
-              frames = count_next is_frame h.front g.obu ∙ rw n h.frames;
-              delimiters = count_next is_delimiter h.front g.obu ∙ rw m h.delimiters;
-            }
+    pub nexting-next : is_type TemporalDelimiter t ≡ false → is_type Frame t ≡ false → Nexting s at q
+    nexting-next d f =
+        record {
+          front = h.front ++ (g.obu ∷ []);
+          left = tk.rest;
+          range = range-append h.range (range-one (placed-step g.placed));
+          behind = tk.range;
+          frames = count_next is_frame h.front g.obu ∙ rw (g.type, f) h.frames;
+          delimiters = count_next is_delimiter h.front g.obu ∙ rw (g.type, d) h.delimiters;
+        }
 
 -- ---- the first OBU
 

@@ -4,14 +4,14 @@ use native.Mathlib.Numerals.{add-one}
 use native.Mathlib.Omega.{arith}
 use mathlib.Core.Path.{◌≡◌, refl, sym, ap, ◌∙◌}
 use mathlib.Core.List.{List, [], ◌∷◌, ◌++◌}
-use mathlib.Core.Bool.{Bool, true, false, cond as pick, ◌||◌, ◌&&◌, and-false}
+use mathlib.Core.Bool.{Bool, true, false, cond as pick, ◌&&◌, and-false}
 use lib.ListN.{length, get_or, take, drop, length-drop, take-append-drop, drop_of_length-le, length-append}
 use lib.Seq.{drop-cons, drop-drop}
-use lib.Dec.{leb, ltb, eqb}
-use borrow.Author.Tests.{le-leb, lt-leb, ltb-true, ltb-false, eqb-true, eqb-false, eq-eqb, ne_eqb}
+use lib.Dec.{leb, eqb}
+use borrow.Author.Tests.{le-leb, lt-leb, eqb-true, eqb-false, eq-eqb, ne_eqb}
 use Rattle.bitio.specs.Parse.{Answer, refused, accepted, onto, and_next}
 use Rattle.bitio.specs.Lent.{pasted}
-use Rattle.bitio.proofs.ParseLaws.{or-neither, length_none, onto-is}
+use Rattle.bitio.proofs.ParseLaws.{length_none, onto-is}
 use Rattle.container.specs.Stream.{flat, stream_bytes}
 use Rattle.bitio.specs.Limits.{limit}
 use Rattle.container.specs.Limits.{Room, bytes_room}
@@ -126,21 +126,17 @@ module _ {s es : List ℕ} {at i : ℕ} (c : Checking s es at i) where
         go true x = onto-accepts x
         go false x = refl
 
-    pub checking-fall : (ltb e at || ltb (length s) e) ≡ true → false ≡ accepts (units_at s es)
-    checking-fall t = sym (turn false (go (ltb e at) (ltb (length s) e) refl refl t))
-      where
-        go : (x y : Bool) → ltb e at ≡ x → ltb (length s) e ≡ y → (x || y) ≡ true → (leb at e && leb (e - at) (length (drop at s))) ≡ false
-        go true y p q r = rw (lt-leb at e (ltb-true e at p))
-        go false true p q r =
-            let l : length (drop at s) < e - at = omega (arith, ltb-true (length s) e q, c.within, length-drop at s) in
-            rw (lt-leb (e - at) (length (drop at s)) l) (and-false (leb at e))
-        go false false p q r = let z : ◌≡◌ {A = ℕ} 0 1 = cc in absurd (omega arith)
+    -- an end that falls, and one behind the bytes
+    pub checking-fall : e < at → false ≡ accepts (units_at s es)
+    checking-fall l = sym (turn false (rw (lt-leb at e l)))
 
-    pub checking-next : (ltb e at || ltb (length s) e) ≡ false → Checking s es e (i + 1)
-    checking-next t =
-        let (x, y) = or-neither (ltb e at) (ltb (length s) e) t in
-        let p : at ≤ e = ltb-false e at x in
-        let q : e ≤ length s = ltb-false (length s) e y in
+    pub checking-over : length s < e → false ≡ accepts (units_at s es)
+    checking-over l =
+        let m : length (drop at s) < e - at = omega (arith, c.within, length-drop at s) in
+        sym (turn false (rw (lt-leb (e - at) (length (drop at s)) m) (and-false (leb at e))))
+
+    pub checking-next : at ≤ e → e ≤ length s → Checking s es e (i + 1)
+    checking-next p q =
         let l : e - at ≤ length (drop at s) = omega (arith, length-drop at s) in
         let k : at + (e - at) ≡ e = omega arith in
         record {

@@ -14,12 +14,16 @@ use Rattle.bitio.specs.Lent.{pasted, Wrote}
 use Rattle.bitio.proofs.LebLaws.{bytes-length}
 use Rattle.bitio.proofs.LentLaws.{pasted-nil, pasted-more, pasted_length}
 use Rattle.obu.specs.Obu.{Obu, passes, head_obu, obus, obu_bytes, unit_bytes}
-use Rattle.obu.specs.Place.{wrong, place_of, obu_place, part}
+use Rattle.obu.specs.Place.{wrong, place_of, obu_place, obu_says, part}
+use Rattle.obu.specs.declared.reader.Obu.{Obu as Found}
+use Rattle.std.specs.Prelude.{Result, Ok, Err, Option as Optional, Some, None}
+use Rattle.bitio.specs.Refusal.{number}
+use Rattle.bitio.specs.declared.refusal.Refusal.{Refusal}
 use Rattle.obu.specs.Write.{obu_length, obu}
 use Rattle.bitio.proofs.ParseLaws.{parts-length, onto-is}
 use Rattle.obu.proofs.ObuLaws.{is-obu, obus-nil, obus-item, obus-stop}
 use Rattle.obu.proofs.LengthLaws.{obu-length}
-use Rattle.obu.proofs.PlaceLaws.{Placed, IsPlaced, is-placed, part_placed}
+use Rattle.obu.proofs.PlaceLaws.{Placed, IsPlaced, is-placed, is-end, is-wrong, part_placed}
 use Rattle.bitio.specs.Limits.{limit}
 use Rattle.obu.specs.Unit.{is_delimiter}
 use Rattle.obu.proofs.WriteLaws.{ext-most}
@@ -102,6 +106,16 @@ module _ {s : List ℕ} {b : ℕ} where
 
   pub range-found : {at : ℕ} {os : List Obu} (k : ℕ) → Range s at b os → at < b → obu_place s at ≡ wrong k → ⊥
   range-found k r h q = found k r refl h q
+
+  -- and that is what the code answers
+  pub range-holds : {at : ℕ} {os : List Obu} → Range s at b os → at < b → (x : Result (Optional Found) Refusal) → obu_says x ≡ obu_place s at → (o : Found) × (x ≡ Ok (Some o))
+  range-holds r h (Ok (Some o)) e = (o, refl)
+  range-holds {at} r h (Ok None) e = absurd (omega (arith, is-end s at (sym e), range-within r))
+  range-holds r h (Err k) e = absurd (range-found (number k) r h (sym e))
+
+-- what reaches the end of the bytes is not refused
+pub range-sound : {s : List ℕ} {at : ℕ} {os : List Obu} (k : ℕ) → Range s at (length s) os → obu_place s at ≡ wrong k → ⊥
+range-sound {s} {at} k r q = range-found k r (is-wrong s at k q).0 q
 
 -- ---- up to the end of the bytes
 

@@ -1,5 +1,5 @@
 -- The turns of the loops over a stream's units, and what reading a stream comes to.
-use Prim.Native.Nat.{ℕ, suc, ◌+◌, ◌-◌, ◌*◌, ◌^◌, ◌≤◌, ◌<◌}
+use Prim.Native.Nat.{ℕ, suc, ◌+◌, ◌-◌, ◌*◌, ◌^◌, ◌≤◌, ◌<◌, max}
 use native.Mathlib.Omega.{arith}
 use mathlib.Core.Path.{◌≡◌, refl, sym, ap, ap₂, ◌∙◌}
 use mathlib.Core.List.{List, [], ◌∷◌, ◌++◌, map, flat_map}
@@ -15,10 +15,12 @@ use Rattle.obu.specs.Unit.{is_frame, count}
 use Rattle.container.specs.Stream.{others, units, stream_units, flat, stream_bytes}
 use Rattle.bitio.specs.Limits.{limit}
 use Rattle.container.specs.Limits.{Room, fits, fit_units, room_in}
-use Rattle.container.specs.Units.{ends_of, Sizes, sizes_of, bytes_after, ends_after}
+use Rattle.container.specs.Units.{ends_of, sizes_of, bytes_after, ends_after}
 use Rattle.container.specs.Container.{stream, read}
 use Rattle.container.specs.code.Ranges.{kept_bytes, Ranged, Measured, Roomy, WroteKept}
-use Rattle.container.specs.code.Survey.{Tally, tally_of, Surveyed, most_units, sizes_fit}
+use Rattle.container.specs.declared.units.Sizes.{Sizes}
+use Rattle.container.specs.declared.survey.Tally.{Tally}
+use Rattle.container.specs.code.Survey.{tally_of, Surveyed, sizes_fit}
 use Rattle.container.specs.code.Extents.{Frames, FirstUnit, UnitRanges, UnitLength, UnitRoom, UnitWrote, StreamFrames, StreamRoom}
 use Rattle.container.proofs.StreamLaws.{bytes-append, bytes-flat}
 use Rattle.container.proofs.RangeLaws.{range-within, range_same, range-end, range-whole, range-most}
@@ -361,15 +363,15 @@ module _ (s d e : List ℕ) where
 -- ---- whether the units have room
 
 -- they have if all OBUs have
-pub roomy-most : {s : List ℕ} {n b : ℕ} (room : Room) → Surveyed s n b → fits b (most_units n) room ≡ true → true ≡ sizes_fit (sizes_of (stream_units s)) room
+pub roomy-most : {s : List ℕ} {n b : ℕ} (room : Room) → Surveyed s n b → fits b (max n 1) room ≡ true → true ≡ sizes_fit (sizes_of (stream_units s)) room
 roomy-most {s} {n} {b} room v k =
     let f = v.stream in
-    let l = three (leb b limit) (leb b room.bytes) (leb (most_units n) room.ends) k in
+    let l = three (leb b limit) (leb b room.bytes) (leb (max n 1) room.ends) k in
     let w = units-bytes-most f.all in
     let m = units-few f.all in
     let z = v.bytes in
-    let c = ap most_units f.frames in
+    let c = f.frames in
     let i = le-leb (bytes_left f.all) limit (omega (arith, leb-true b limit l.0)) in
     let j = le-leb (bytes_left f.all) room.bytes (omega (arith, leb-true b room.bytes l.1)) in
-    let h = le-leb (length (units f.all)) room.ends (omega (arith, leb-true (most_units n) room.ends l.2)) in
+    let h = le-leb (length (units f.all)) room.ends (omega (arith, leb-true (max n 1) room.ends l.2)) in
     sym (ap (λ x. sizes_fit x room) (sizes-are s f.all f.reads) ∙ rw (i, j, h))

@@ -46,10 +46,7 @@ module _ {s : List ℕ} {at n b : ℕ} (v : Surveying s at n b) where
   pub survey-end : obu_place s at ≡ no_more → accepted (record { frames = n; bytes = b }) ≡ answer tally_of (obus s)
   survey-end q = rw (walk_end v.walked q, v.frames, v.bytes)
 
-  module _ {t : ℕ} {e : Option ℕ} {p q : ℕ} (l : at < length s) (g : IsPlaced s at t e p q) where
-    pub survey-few : n < limit
-    survey-few = omega (arith, v.few, v.short)
-
+  module _ {t : ℕ} {e : Option ℕ} {p q : ℕ} (g : IsPlaced s at t e p q) where
     pub survey-short : (p ≤ q) × (q ≤ limit)
     survey-short = omega (arith, g.placed.ends, g.placed.within, v.short)
 

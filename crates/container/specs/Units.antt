@@ -3,10 +3,7 @@ use Rattle.std.specs.Prelude.{ℕ, ◌+◌, ◌-◌, List, [], ◌∷◌, cond a
 use Rattle.bitio.specs.Parse.{Answer, refused, accepted, answer, onto}
 use Rattle.bitio.specs.Lent.{pasted}
 use Rattle.container.specs.Stream.{stream_bytes}
-use Rattle.container.specs.declared.units.Split.{Split}
-use Rattle.container.specs.declared.units.Split.TheVariants.{Units, Refused as SplitRefused}
-use Rattle.container.specs.declared.units.ByteCount.{ByteCount}
-use Rattle.container.specs.declared.units.ByteCount.TheVariants.{Bytes, Refused as CountRefused}
+pub use Rattle.container.specs.declared.units.Sizes.{Sizes}
 
 -- the end of each unit, the first of which starts at `at`
 unfoldable pub ends_of : ℕ → List (List ℕ) → List ℕ
@@ -26,10 +23,6 @@ units_at s es = units_from 0 s es
 -- ---- what a reader answers, and what lent memory holds afterwards
 
 -- how many bytes the units have, and how many units there are
-pub record Sizes : Type 0 where
-  pub bytes : ℕ
-  pub units : ℕ
-
 abbrev pub sizes_of : Answer (List (List ℕ)) → Answer Sizes
 sizes_of x = answer (λ us. record { bytes = length (stream_bytes us); units = length us }) x
 
@@ -41,11 +34,6 @@ abbrev pub ends_after : Answer (List (List ℕ)) → List ℕ → List ℕ
 ends_after (refused k) d = d
 ends_after (accepted us) d = pasted d 0 (ends_of 0 us)
 
--- 01's number and values for each case of Split
-abbrev pub split_says : Split → Answer Sizes
-split_says (Units n u) = accepted (record { bytes = n; units = u })
-split_says (SplitRefused k) = refused k
-
 -- ---- what a writer answers, and what lent memory holds afterwards
 
 abbrev pub count_of : Answer (List ℕ) → Answer ℕ
@@ -54,8 +42,3 @@ count_of x = answer length x
 abbrev pub out_after : Answer (List ℕ) → List ℕ → List ℕ
 out_after (refused k) d = d
 out_after (accepted bs) d = pasted d 0 bs
-
--- 01's number and values for each case of ByteCount
-abbrev pub byte_count_says : ByteCount → Answer ℕ
-byte_count_says (Bytes n) = accepted n
-byte_count_says (CountRefused k) = refused k

@@ -4,7 +4,6 @@
 mod extents;
 pub mod lists;
 pub mod ranges;
-pub mod room;
 pub mod stream;
 mod survey;
 pub mod units;

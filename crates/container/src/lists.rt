@@ -7,16 +7,13 @@ ghost use Rattle.container.specs.Units.{units_at};
 pub fn check_ends(units: &[u8], ends: &[u32]) -> bool
     ensures { result ≡ accepts (units_at units.now ends.now) }
 {
-    let len = units.len();
     let mut at: usize = 0;
-    let mut i: usize = 0;
-    while i < ends.len() {
-        let e = ends[i] as usize;
-        if (e < at) | (e > len) {
+    for end in ends {
+        let end = *end as usize;
+        if end < at || end > units.len() {
             return false;
         }
-        at = e;
-        i = i + 1;
+        at = end;
     }
-    at == len
+    at == units.len()
 }

@@ -1,4 +1,4 @@
-// What is written of the OBUs from one position of lent bytes to another, with their delimiters or without.
+// What is written of the OBUs in a range of lent bytes, with their delimiters or without.
 ghost use Rattle.std.specs.Prelude.{◌≡◌, ◌+◌, ◌-◌, ◌≤◌, length, true, cond as pick};
 ghost use Rattle.obu.specs.Obu.{passes};
 ghost use Rattle.obu.specs.Place.{extension_says, part};
@@ -7,15 +7,17 @@ ghost use Rattle.bitio.specs.Limits.{limit};
 ghost use Rattle.bitio.specs.Lent.{Wrote};
 ghost use Rattle.container.specs.code.Ranges.{is_kept, kept_one, Ranged, Measured, Roomy, WroteKept};
 
-use obu::reader::{Obu, ObuAt, obu_at, payload};
+use obu::reader::{Obu, obu_at, payload};
 use obu::unit::{Kind, is_type};
 use obu::writer::{obu_len, put_measured};
+use std::ops::Range;
 
 // Whether an OBU of type t is kept.
+#[tactic(auto, unfolding(crate::specs::code::Ranges::is_kept))]
 fn is_kept(t: u8, keep: bool) -> bool
     ensures { result ≡ is_kept keep t }
 {
-    keep | !is_type(Kind::TemporalDelimiter, t)
+    keep || !is_type(Kind::TemporalDelimiter, t)
 }
 
 // How many bytes an OBU has, written, if it is kept.
@@ -23,26 +25,24 @@ pub fn kept_len(o: Obu, keep: bool) -> usize
     requires { (o.start ≤ o.end) × (o.end ≤ limit) }
     ensures { result ≡ pick (is_kept keep o.obu_type) (obu_length (extension_says o.extension) (o.end - o.start)) 0 }
 {
-    let size = o.end - o.start;
     if is_kept(o.obu_type, keep) {
-        let extension = o.extension;
-        return obu_len(extension, size);
+        obu_len(o.extension, o.end - o.start)
+    } else {
+        0
     }
-    0
 }
 
-// How many bytes the OBUs from a to b have, written.
-pub fn written_len(s: &[u8], a: usize, b: usize, keep: bool) -> usize
-    requires { Ranged s.now a b }
-    ensures { Measured s.now a b keep result }
+// How many bytes the OBUs in a range have, written.
+pub fn written_len(s: &[u8], range: Range<usize>, keep: bool) -> usize
+    requires { Ranged s.now range.start range.end }
+    ensures { Measured s.now range.start range.end keep result }
 {
-    let mut at = a;
+    let mut at = range.start;
     let mut n: usize = 0;
-    while at < b {
-        let ObuAt::Found(o) = obu_at(s, at) else {
-            return n;
-        };
-        n = n + kept_len(o, keep);
+    while at < range.end
+        && let Ok(Some(o)) = obu_at(s, at)
+    {
+        n += kept_len(o, keep);
         at = o.end;
     }
     n
@@ -53,24 +53,22 @@ fn put_kept(s: &[u8], o: Obu, keep: bool, out: &mut [u8], to: usize) -> usize
     requires { (passes o.obu_type ≡ true) × (to + length (kept_one keep (obu o.obu_type (extension_says o.extension) (part s.now o.start o.end))) ≤ length out.old) }
     ensures { Wrote out.old to (kept_one keep (obu o.obu_type (extension_says o.extension) (part s.now o.start o.end))) result out.new }
 {
-    if is_kept(o.obu_type, keep) {
-        let extension = o.extension;
-        return put_measured(out, to, o.obu_type, extension, payload(s, o.start, o.end));
+    if !is_kept(o.obu_type, keep) {
+        return to;
     }
-    to
+    put_measured(out, to, o.obu_type, o.extension, payload(s, o.start, o.end))
 }
 
-// Writes the OBUs from a to b at `to`, where their room is known.
-pub fn put_written(s: &[u8], a: usize, b: usize, keep: bool, out: &mut [u8], to: usize) -> usize
-    requires { Roomy s.now a b keep out.old to }
-    ensures { WroteKept s.now a b keep out.old to result out.new }
+// Writes the OBUs in a range at `to`, where their room is known.
+pub fn put_written(s: &[u8], range: Range<usize>, keep: bool, out: &mut [u8], to: usize) -> usize
+    requires { Roomy s.now range.start range.end keep out.old to }
+    ensures { WroteKept s.now range.start range.end keep out.old to result out.new }
 {
-    let mut at = a;
+    let mut at = range.start;
     let mut w = to;
-    while at < b {
-        let ObuAt::Found(o) = obu_at(s, at) else {
-            return w;
-        };
+    while at < range.end
+        && let Ok(Some(o)) = obu_at(s, at)
+    {
         w = put_kept(s, o, keep, out, w);
         at = o.end;
     }

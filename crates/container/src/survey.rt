@@ -1,49 +1,37 @@
 // A stream read through once: whether it is refused, its frames, and what its OBUs come to in written form.
-ghost use Rattle.std.specs.Prelude.{◌≡◌, cond as pick, suc, ◌≤◌, ◌<◌, length};
+ghost use Rattle.std.specs.Prelude.{◌≡◌, ◌≤◌, length};
 ghost use Rattle.bitio.specs.Limits.{limit};
 ghost use Rattle.bitio.specs.Parse.{answer};
+ghost use Rattle.bitio.specs.Refusal.{says};
 ghost use Rattle.obu.specs.Obu.{obus};
-ghost use Rattle.container.specs.code.Survey.{tally_of, seen_says};
+ghost use Rattle.container.specs.code.Survey.{tally_of};
 
 use crate::ranges::kept_len;
-use obu::reader::{ObuAt, obu_at, refusal};
+use bitio::refusal::Refusal;
+use obu::reader::obu_at;
 use obu::unit::{Kind, is_type};
 
+// How many frames there are, and how many bytes all OBUs have, written.
 #[derive(Clone, Copy)]
-pub(crate) enum Seen {
-    // how many frames there are, and how many bytes all OBUs have, written
-    Stream(usize, usize),
-    // document 01's number, 1 to 5
-    Refused(u32),
-}
-
-// One more where `is`.
-fn one_more(n: usize, is: bool) -> usize
-    requires { n < limit }
-    ensures { result ≡ pick is (suc n) n }
-{
-    if is {
-        return n + 1;
-    }
-    n
+pub(crate) struct Tally {
+    pub(crate) frames: usize,
+    pub(crate) bytes: usize,
 }
 
 // All OBUs of a stream.
-pub(crate) fn survey(s: &[u8]) -> Seen
+pub(crate) fn survey(s: &[u8]) -> Result<Tally, Refusal>
     requires { length s.now ≤ limit }
-    ensures { seen_says result ≡ answer tally_of (obus s.now) }
+    ensures { says result ≡ answer tally_of (obus s.now) }
 {
     let mut at: usize = 0;
     let mut frames: usize = 0;
     let mut bytes: usize = 0;
-    while at < s.len() {
-        let found = obu_at(s, at);
-        let ObuAt::Found(o) = found else {
-            return Seen::Refused(refusal(found));
-        };
-        frames = one_more(frames, is_type(Kind::Frame, o.obu_type));
-        bytes = bytes + kept_len(o, true);
+    while let Some(o) = obu_at(s, at)? {
+        if is_type(Kind::Frame, o.obu_type) {
+            frames += 1;
+        }
+        bytes += kept_len(o, true);
         at = o.end;
     }
-    Seen::Stream(frames, bytes)
+    Ok(Tally { frames, bytes })
 }

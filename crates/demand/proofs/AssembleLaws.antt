@@ -7,7 +7,8 @@ use mathlib.Core.Bool.{Bool, true, false, cond as pick, ◌&&◌}
 use mathlib.Core.Option.{Option, none, some}
 use lib.ListN.{length, get_or}
 use lib.Dec.{eqb, ltb}
-use borrow.Author.Tests.{eqb-true, eqb-false, ltb-false, leb-true}
+use borrow.Author.Tests.{eqb-false, ltb-false, leb-true}
+use Rattle.std.specs.Cmp.{first_so}
 use Rattle.bitio.specs.Parse.{Answer, refused, accepted, and_next}
 use Rattle.bitio.specs.Limits.{limit}
 use Rattle.bitio.specs.Every.{Every}
@@ -21,7 +22,8 @@ use Rattle.header.specs.Sequence.{Sequence, parse_sequence}
 use Rattle.header.specs.Support.{support}
 use Rattle.header.specs.Timed.{is_timed}
 use Rattle.emit.specs.Emit.{sequence_bytes}
-use Rattle.frame.specs.Frame.{key_frame, parse_frame}
+use Rattle.frame.specs.FrameType.{is_key}
+use Rattle.frame.specs.Frame.{parse_frame}
 use Rattle.frame.specs.declared.frame_header.FrameInfo.{FrameInfo}
 use Rattle.frame.specs.declared.frame_header.FrameHeaderInfo.{FrameHeaderInfo}
 use Rattle.frame.specs.declared.frame_header.FrameHeaderInfo.TheVariants.{Existing, Frame}
@@ -43,51 +45,51 @@ use Rattle.demand.proofs.UnitLaws.{first-is, outgoing, ShortPayload, Out, goes-o
 pub link-made : {A B R : Type 0} (t : Outcome A) (k : A → Outcome B) (b : B) → and_also t k ≡ made b → ((a : A) → t ≡ made a → k a ≡ made b → R) → R
 unfolding and_also
 link-made (made a) k b e f = f a refl e
-link-made (stopped n i) k b e f = let z : ◌≡◌ {A = ℕ} 0 1 = cc in absurd (omega arith)
+link-made (stopped n i) k b e f = cc
 
 of-segment : {A : Type 0} (i : ℕ) (t : Answer A) (a : A) → in_segment i t ≡ made a → t ≡ accepted a
 unfolding in_segment
 of-segment i (accepted x) a e = let z : x ≡ a = cc in rw z
-of-segment i (refused n) a e = let z : ◌≡◌ {A = ℕ} 0 1 = cc in absurd (omega arith)
+of-segment i (refused n) a e = cc
 
 -- ---- what the tests on frames let through
 
 pub record KeyIs (y : FrameHeaderInfo) : Type 0 where
   pub info : FrameInfo
   pub is : y ≡ Frame info
-  pub type : info.frame_type ≡ key_frame
+  pub type : is_key info.frame_type ≡ true
   pub shown : info.show_frame ≡ true
 
 key-is : (y : FrameHeaderInfo) (u : Unit) → key_ok y ≡ accepted u → KeyIs y
-key-is (Existing i) u e = let z : ◌≡◌ {A = ℕ} 0 1 = cc in absurd (omega arith)
-key-is (Frame f) u e = go (eqb f.frame_type key_frame) refl f.show_frame refl e
+key-is (Existing i) u e = cc
+key-is (Frame f) u e = go (is_key f.frame_type) refl f.show_frame refl e
   where
-    go : (a : Bool) → eqb f.frame_type key_frame ≡ a → (b : Bool) → f.show_frame ≡ b → pick (a && b) (accepted tt) (refused 29) ≡ accepted u → KeyIs (Frame f)
-    go true x true y e = record { info = f; is = refl; type = eqb-true _ _ x; shown = y }
-    go true x false y e = let z : ◌≡◌ {A = ℕ} 0 1 = cc in absurd (omega arith)
-    go false x b y e = let z : ◌≡◌ {A = ℕ} 0 1 = cc in absurd (omega arith)
+    go : (a : Bool) → is_key f.frame_type ≡ a → (b : Bool) → f.show_frame ≡ b → pick (a && b) (accepted tt) (refused 29) ≡ accepted u → KeyIs (Frame f)
+    go true x true y e = record { info = f; is = refl; type = x; shown = y }
+    go true x false y e = cc
+    go false x b y e = cc
 
 pub record GoldenIs (y : FrameHeaderInfo) (flags : ℕ) : Type 0 where
   pub info : FrameInfo
   pub is : y ≡ Frame info
   pub shown : info.show_frame ≡ true
-  pub no_key : info.frame_type ≡ key_frame → ⊥
+  pub no_key : is_key info.frame_type ≡ false
   pub some-slot : 0 < info.refresh_frame_flags
   pub flags-are : flags ≡ info.refresh_frame_flags
 
 golden-is : (y : FrameHeaderInfo) (n : ℕ) → golden_flags y ≡ accepted n → GoldenIs y n
-golden-is (Existing i) n e = let z : ◌≡◌ {A = ℕ} 0 1 = cc in absurd (omega arith)
-golden-is (Frame f) n e = go f.show_frame refl (eqb f.frame_type key_frame) refl (eqb f.refresh_frame_flags 0) refl e
+golden-is (Existing i) n e = cc
+golden-is (Frame f) n e = go f.show_frame refl (is_key f.frame_type) refl (eqb f.refresh_frame_flags 0) refl e
   where
-    go : (w : Bool) → f.show_frame ≡ w → (a : Bool) → eqb f.frame_type key_frame ≡ a → (b : Bool) → eqb f.refresh_frame_flags 0 ≡ b
+    go : (w : Bool) → f.show_frame ≡ w → (a : Bool) → is_key f.frame_type ≡ a → (b : Bool) → eqb f.refresh_frame_flags 0 ≡ b
         → pick w (pick a (refused 32) (pick b (refused 33) (accepted f.refresh_frame_flags))) (refused 31) ≡ accepted n → GoldenIs (Frame f) n
     go true w false x false y e =
         let z : n ≡ f.refresh_frame_flags = cc in
         let k = eqb-false f.refresh_frame_flags 0 y in
-        record { info = f; is = refl; shown = w; no_key = eqb-false _ _ x; some-slot = omega arith; flags-are = z }
-    go true w false x true y e = let z : ◌≡◌ {A = ℕ} 0 1 = cc in absurd (omega arith)
-    go true w true x b y e = let z : ◌≡◌ {A = ℕ} 0 1 = cc in absurd (omega arith)
-    go false w a x b y e = let z : ◌≡◌ {A = ℕ} 0 1 = cc in absurd (omega arith)
+        record { info = f; is = refl; shown = w; no_key = x; some-slot = omega arith; flags-are = z }
+    go true w false x true y e = cc
+    go true w true x b y e = cc
+    go false w a x b y e = cc
 
 -- ---- a segment
 
@@ -103,7 +105,7 @@ pub record Paired (q : Sequence) (new : Option (List ℕ)) (s : List ℕ) (x : S
   -- the key unit: a shown key, and a sequence header
   pub key-info : FrameInfo
   pub key : FrameSays q s b.key (Frame key-info)
-  pub key-type : key-info.frame_type ≡ key_frame
+  pub key-type : is_key key-info.frame_type ≡ true
   pub key-shown : key-info.show_frame ≡ true
   pub key-header : has is_sequence key.unit.held ≡ true
   -- the golden unit: shown, no key, refreshing something
@@ -111,7 +113,7 @@ pub record Paired (q : Sequence) (new : Option (List ℕ)) (s : List ℕ) (x : S
   pub golden : FrameSays q s b.golden (Frame info)
   pub golden-frame : unit_frame true q x.golden ≡ accepted (Frame info)
   pub shown : info.show_frame ≡ true
-  pub no_key : info.frame_type ≡ key_frame → ⊥
+  pub no_key : is_key info.frame_type ≡ false
   pub some-slot : 0 < info.refresh_frame_flags
   pub slot_is : b.slot ≡ slot_of info.refresh_frame_flags
 
@@ -197,7 +199,7 @@ has_last s os u e = go (has is_sequence os) refl e
   where
     go : (t : Bool) → has is_sequence os ≡ t → pick (t && same_bytes (last_payload is_sequence os) s) (accepted tt) (refused 27) ≡ accepted u → t ≡ true
     go true w e = refl
-    go false w e = let z : ◌≡◌ {A = ℕ} 0 1 = cc in absurd (omega arith)
+    go false w e = cc
 
 later-headers : (s : List ℕ) (i : ℕ) (xs : List Segment) (u : Unit) → same_headers s i xs ≡ made u → Every HasHeader xs
 unfolding same_headers
@@ -219,8 +221,8 @@ sizes-ok gop ns u e = go (ltb gop 2) refl (ltb (total ns) 2) refl e
     go : (a : Bool) → ltb gop 2 ≡ a → (b : Bool) → ltb (total ns) 2 ≡ b
         → pick a (stopped 22 none) (pick b (stopped 23 none) (and_also (none_empty 0 ns) (λ _. pick (ltb 5000000 (total ns)) (stopped 25 none) (made tt)))) ≡ made u → SizesOk gop ns
     go false x false y e = record { gop-two = ltb-false gop 2 x; total-two = ltb-false (total ns) 2 y }
-    go false x true y e = let z : ◌≡◌ {A = ℕ} 0 1 = cc in absurd (omega arith)
-    go true x b y e = let z : ◌≡◌ {A = ℕ} 0 1 = cc in absurd (omega arith)
+    go false x true y e = cc
+    go true x b y e = cc
 
 -- ---- the whole
 
@@ -301,7 +303,7 @@ segment-short s rs x e = go (head_inside s rs) e
   where
     go : (t : Bool) → pick t (accepted (segment_in s rs)) (refused 36) ≡ accepted x → SegmentWithin (length s) x
     go true e = let z : segment_in s rs ≡ x = cc in rw (← z) (part-short s _ _, part-short s _ _)
-    go false e = let z : ◌≡◌ {A = ℕ} 0 1 = cc in absurd (omega arith)
+    go false e = cc
 
 from-short : (s : List ℕ) (k : ℕ) (rs : List ℕ) (xs : List Segment) → segments_from s k rs ≡ accepted xs → Every (SegmentWithin (length s)) xs
 unfolding segments_from
@@ -317,32 +319,28 @@ segments-short s rs xs e = go (is_whole rs) e
   where
     go : (t : Bool) → pick t (segments_from s (segment_count rs) rs) (refused 36) ≡ accepted xs → Every (SegmentWithin (length s)) xs
     go true e = from-short s (segment_count rs) rs xs e
-    go false e = let z : ◌≡◌ {A = ℕ} 0 1 = cc in absurd (omega arith)
+    go false e = cc
 
 within-rewritable : (n : ℕ) → n ≤ limit → {xs : List Segment} → Every (SegmentWithin n) xs → Every Rewritable xs
 within-rewritable n l nothing = nothing
 within-rewritable n l (also {a = x} w ws) = also {a = x} (omega (arith, w.0), omega (arith, w.1)) (within-rewritable n l ws)
 
-and_first : (a b : Bool) → (a && b) ≡ true → a ≡ true
-and_first true b e = refl
-and_first false b e = e
-
 fits-limit : (room : OutputRoom) (r : Output) → output_fits room r ≡ true → length r.picture ≤ limit
 unfolding output_fits
 fits-limit room r e =
-    let n : length r.picture + length r.shows + length r.header ≤ limit = leb-true _ limit (and_first _ _ (and_first _ _ (and_first _ _ (and_first _ _ (and_first _ _ (and_first _ _ e)))))) in
+    let n : length r.picture + length r.shows + length r.header ≤ limit = leb-true _ limit (first_so _ _ (first_so _ _ (first_so _ _ (first_so _ _ (first_so _ _ (first_so _ _ e)))))) in
     omega arith
 
 not-over : {A : Type 0} (n : ℕ) (k : Outcome A) (a : A) → pick (ltb limit n) (stopped 34 none) k ≡ made a → (n ≤ limit) × (k ≡ made a)
 not-over n k a e = go (ltb limit n) refl e
   where
     go : (t : Bool) → ltb limit n ≡ t → pick t (stopped 34 none) k ≡ made a → (n ≤ limit) × (k ≡ made a)
-    go true w e = let z : ◌≡◌ {A = ℕ} 0 1 = cc in absurd (omega arith)
+    go true w e = cc
     go false w e = (ltb-false limit n w, e)
 
 fitting : (t : Bool) (a b : Output) → pick t (made a) (stopped 35 none) ≡ made b → (t ≡ true) × (a ≡ b)
 fitting true a b e = (refl, cc)
-fitting false a b e = let z : ◌≡◌ {A = ℕ} 0 1 = cc in absurd (omega arith)
+fitting false a b e = cc
 
 module _ (room : OutputRoom) (set : Settings) (s rs : List ℕ) (xs : List Segment) (r : Output) where
   -- under demand 3's premises

@@ -13,10 +13,12 @@ use borrow.Author.Tests.{ltb-true, ltb-false}
 use Rattle.bitio.specs.Every.{Every}
 use Rattle.bitio.specs.Every.Every.{nothing, also}
 use Rattle.blocks.proofs.BlockLaws.{length-blocks}
-use Rattle.blocks.specs.Blocks.{Kind, Key, Golden, Show, block, blocks, kinds, Entry, layout, total}
+use Rattle.blocks.specs.Blocks.{block, blocks, kinds, Entry, layout, total}
+use Rattle.blocks.specs.declared.blocks.Kind.{Kind}
+use Rattle.blocks.specs.declared.blocks.Kind.TheVariants.{Key, Golden, Show}
 use Rattle.demand.specs.Kinds.{segment_behind}
 use Rattle.demand.proofs.Following.{entry, first, Behind, Ordered, Following}
-use Rattle.demand.proofs.ListLaws.{get_or-map-lt}
+use Rattle.std.proofs.lemmas.List.{get_or-map}
 
 -- ---- one segment's units
 
@@ -61,7 +63,7 @@ segment-is i (ks ∷ kss) k d h = go (λ j w. segment-is (suc i) kss j d w) (ltb
     go more true e =
         let w = ltb-true k (length ks) e in
         let x = get_or-append (map (entry i) ks) (stacked (suc i) kss) d k (omega (arith, size)) in
-        let y = get_or-map-lt (entry i) ks k d Key w in
+        let y = get_or-map (entry i) ks k Key d w in
         ap (λ (z : Entry). z.segment) (x ∙ y) ∙ omega arith
     go more false e =
         let w = ltb-false k (length ks) e in
@@ -92,7 +94,7 @@ ordered-stacked : (i : ℕ) (kss : List (List Kind)) → Every (proper none) kss
 unfolding stacked Ordered
 ordered-stacked i [] nothing b = tt
 ordered-stacked i (ks ∷ kss) (also p ps) b =
-    ordered-map i ks none b (stacked (suc i) kss) (λ k e. let z : ◌≡◌ {A = ℕ} 0 1 = cc in absurd (omega arith)) p (ordered-stacked (suc i) kss ps)
+    ordered-map i ks none b (stacked (suc i) kss) (λ k e. cc) p (ordered-stacked (suc i) kss ps)
 
 -- where each segment's units are proper, all entries are
 pub following-stacked : (kss : List (List Kind)) → Every (proper none) kss → Following (lengths kss) (stacked 0 kss)
@@ -117,7 +119,7 @@ unfolding proper
 proper-block zero true b rest a h = h b a
 proper-block zero false b rest a h = h b a
 proper-block (suc zero) true b rest a h = (a refl, h (some Show) (λ _. inr refl))
-proper-block (suc zero) false b rest a h = (tt, h (some Key) (λ e. let z : ◌≡◌ {A = ℕ} 0 1 = cc in absurd (omega arith)))
+proper-block (suc zero) false b rest a h = (tt, h (some Key) (λ e. cc))
 proper-block (suc (suc c)) after b rest a h = (tt, (refl, proper-shows c (some Golden) rest (inl refl) (λ b' w. h b' (λ _. w))))
 
 -- ---- today's blocks
@@ -131,7 +133,7 @@ proper-blocks (suc f) gop after left b a =
 
 proper-kinds : (gop : ℕ) (ns : List ℕ) → Every (proper none) (map (kinds gop) ns)
 proper-kinds gop [] = nothing
-proper-kinds gop (n ∷ ns) = also (proper-blocks n gop false n none (λ e. let z : ◌≡◌ {A = ℕ} 0 1 = cc in absurd (omega arith))) (proper-kinds gop ns)
+proper-kinds gop (n ∷ ns) = also (proper-blocks n gop false n none (λ e. cc)) (proper-kinds gop ns)
 
 lengths-kinds : (gop : ℕ) (ns : List ℕ) → 1 ≤ gop → lengths (map (kinds gop) ns) ≡ ns
 lengths-kinds gop [] g = refl

@@ -10,7 +10,9 @@ use lib.ListN.{length, get_or, take, length-take}
 use lib.Seq.{get_or-take}
 use lib.Dec.{ltb}
 use borrow.Author.Tests.{ltb-true, ltb-false}
-use Rattle.blocks.specs.Blocks.{Kind, Key, Golden, Show, Entry, total}
+use Rattle.blocks.specs.Blocks.{Entry, total}
+use Rattle.blocks.specs.declared.blocks.Kind.{Kind}
+use Rattle.blocks.specs.declared.blocks.Kind.TheVariants.{Key, Golden, Show}
 use Rattle.demand.specs.Kinds.{segment_behind}
 
 abbrev pub entry : ℕ → Kind → Entry
@@ -65,9 +67,9 @@ first_key (x ∷ es) f = go x.kind f.0
   where
     go : (k : Kind) → Behind none x.segment k → k ≡ Key
     go Key b = refl
-    go Golden b = let z : ◌≡◌ {A = ℕ} 0 1 = cc in absurd (omega arith)
-    go Show (inl b) = let z : ◌≡◌ {A = ℕ} 0 1 = cc in absurd (omega arith)
-    go Show (inr b) = let z : ◌≡◌ {A = ℕ} 0 1 = cc in absurd (omega arith)
+    go Golden b = cc
+    go Show (inl b) = cc
+    go Show (inr b) = cc
 
 -- ---- whose segment a position is
 
@@ -104,8 +106,8 @@ module _ (e : ℕ → Entry) where
   Known b p = (i : ℕ) → Behind b i Show → (q : ℕ) × Since e i q p
 
   known-none : (p : ℕ) → Known none p
-  known-none p i (inl b) = let z : ◌≡◌ {A = ℕ} 0 1 = cc in absurd (omega arith)
-  known-none p i (inr b) = let z : ◌≡◌ {A = ℕ} 0 1 = cc in absurd (omega arith)
+  known-none p i (inl b) = cc
+  known-none p i (inr b) = cc
 
   known_next : (x : Entry) (p : ℕ) (b : Option Entry) → e p ≡ x → Known b p → Behind b x.segment x.kind → Known (some x) (suc p)
   known_next x p b at kn f i (inl g) = let v : x ≡ entry i Golden = cc in (p, since-golden i p (at ∙ v))

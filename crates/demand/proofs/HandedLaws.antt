@@ -10,7 +10,9 @@ use lib.Dec.{eqb, ltb}
 use borrow.Author.Tests.{le-leb}
 use Rattle.bitio.specs.Lent.{span}
 use Rattle.obu.specs.Place.{part, part_in}
-use Rattle.blocks.specs.Blocks.{Kind, Key, Golden, Show, Entry, code, number, cues_of}
+use Rattle.blocks.specs.Blocks.{Entry, code, number, cues_of}
+use Rattle.blocks.specs.declared.blocks.Kind.{Kind}
+use Rattle.blocks.specs.declared.blocks.Kind.TheVariants.{Key, Golden, Show}
 use Rattle.pictures.specs.Prepare.{Prepared, show_unit}
 use Rattle.pictures.specs.Assemble.{picture_of, ends_from, shows_of, named}
 use Rattle.demand.specs.Demand.{Given}

@@ -2,7 +2,7 @@
 use Prim.Native.Nat.{ℕ, ◌*◌, ◌^◌, ◌<◌}
 use native.Mathlib.Omega.{arith}
 use mathlib.Core.Path.{◌≡◌, sym, ap, ◌∙◌}
-use mathlib.Core.List.{List, [], ◌∷◌, ◌++◌, append-nil}
+use mathlib.Core.List.{List, [], ◌++◌, append-nil}
 use mathlib.Core.Bool.{true}
 use lib.ListN.{length}
 use Rattle.bitio.specs.Parse.{accepted}
@@ -10,19 +10,12 @@ use Rattle.header.specs.Sequence.{Sequence, parse_sequence}
 use Rattle.header.specs.Support.{support}
 use Rattle.emit.specs.Emit.{sequence_bytes}
 use Rattle.emittable.specs.Emittable.{emittable}
-use Rattle.frame.specs.Frame.{parse_frame, show_byte}
-use Rattle.frame.specs.declared.frame_header.FrameHeaderInfo.TheVariants.{Existing}
 use Rattle.header.proofs.TimedLaws.{supports, timed-of, timed-supported}
 use Rattle.emit.proofs.EmitLaws.{parse-emittable, payload-length}
 use Rattle.emit.proofs.TimedEmitLaws.{timed-emittable, timed-back as timed-read}
-use Rattle.frame.proofs.FrameShowLaws.{supported-show}
 use Rattle.pictures.specs.Prepare.{timed_sequence}
 use Rattle.pictures.specs.declared.settings.Settings.{Settings}
 use Rattle.demand.specs.Premises.{InFields}
-
--- a show unit's byte shows its slot, under a supported header
-pub show-frame : (q : Sequence) → support q.header ≡ accepted tt → (slot : ℕ) → slot < 8 → parse_frame q (show_byte slot ∷ []) ≡ accepted (Existing slot)
-show-frame q e slot l = supported-show q e slot l []
 
 -- ---- a header that was read and is supported, timed
 

@@ -1,5 +1,5 @@
 -- Laws of positions in a list, and of an entry's number.
-use Prim.Native.Nat.{ℕ, zero, suc, ◌+◌, ◌-◌, ◌/◌, ◌%◌, ◌≤◌, ◌<◌}
+use Prim.Native.Nat.{ℕ, suc, ◌+◌, ◌-◌, ◌/◌, ◌%◌, ◌≤◌, ◌<◌}
 use native.Mathlib.Omega.{arith}
 use mathlib.Core.Path.{◌≡◌, refl, ◌∙◌}
 use mathlib.Core.List.Memᴰ
@@ -11,16 +11,13 @@ use borrow.Author.Tests.{eqb-true, eqb-false}
 use Rattle.bitio.specs.Every.{Every}
 use Rattle.bitio.specs.Every.Every.{nothing, also}
 use Rattle.blocks.proofs.BlockLaws.{code-small}
-use Rattle.blocks.specs.Blocks.{Kind, Key, Golden, Show, Entry, code, number, positions, is_key_entry, cues_of}
+use Rattle.blocks.specs.Blocks.{Entry, code, number, positions, is_key_entry, cues_of}
+use Rattle.blocks.specs.declared.blocks.Kind.{Kind}
+use Rattle.blocks.specs.declared.blocks.Kind.TheVariants.{Key, Golden, Show}
 use Rattle.demand.specs.Demand.{Rising}
 use Rattle.demand.proofs.Following.{first}
 
 -- ---- maps
-
-pub get_or-map-lt : {A B : Type 0} (f : A → B) (l : List A) (k : ℕ) (d : B) (d' : A) → k < length l → get_or (map f l) k d ≡ f (get_or l k d')
-get_or-map-lt f [] k d d' h = absurd (omega arith)
-get_or-map-lt f (x ∷ l) zero d d' h = refl
-get_or-map-lt f (x ∷ l) (suc k) d d' h = get_or-map-lt f l k d d' (omega arith)
 
 pub map_both : {A B C : Type 0} (f : B → C) (g : A → B) (h : A → C) (l : List A) (d : A) → ((k : ℕ) → k < length l → f (g (get_or l k d)) ≡ h (get_or l k d)) → map f (map g l) ≡ map h l
 map_both f g h [] d e = refl
@@ -87,8 +84,7 @@ pass-positions {A} is p (a ∷ l) d c h = go (λ w. pass-positions is (suc p) l 
         let v = eqb-true c p w in
         let z : c - p ≡ 0 = omega arith in
         let y : is a ≡ true = rw z at h.holds in
-        let x : ◌≡◌ {A = ℕ} 0 1 = cc in
-        absurd (omega arith)
+        cc
     go more false e false w = more (passes-down is p a l d c h (eqb-false c p w))
 
 rising-lower : (lo hi : ℕ) (l : List ℕ) → lo ≤ hi → Rising hi l → Rising lo l
@@ -107,10 +103,10 @@ positions-rising is p (a ∷ l) = go (is a) (positions-rising is (suc p) l)
 
 -- ---- an entry's number
 
-abbrev pub is_key : Kind → Bool
-is_key Key = true
-is_key Golden = false
-is_key Show = false
+abbrev pub key_kind : Kind → Bool
+key_kind Key = true
+key_kind Golden = false
+key_kind Show = false
 
 pub number-kind : (e : Entry) → number e % 4 ≡ code e.kind
 number-kind e = let k = code-small e.kind in omega arith
@@ -118,15 +114,15 @@ number-kind e = let k = code-small e.kind in omega arith
 pub number-segment : (e : Entry) → number e / 4 ≡ e.segment
 number-segment e = let k = code-small e.kind in omega arith
 
-key-number : (e : Entry) → is_key_entry (number e) ≡ is_key e.kind
+key-number : (e : Entry) → is_key_entry (number e) ≡ key_kind e.kind
 key-number e = rw (number-kind e) (go e.kind)
   where
-    go : (k : Kind) → eqb (code k) 0 ≡ is_key k
+    go : (k : Kind) → eqb (code k) 0 ≡ key_kind k
     go Key = refl
     go Golden = refl
     go Show = refl
 
-pub cues-are : (es : List Entry) → cues_of (map number es) ≡ positions (λ e. is_key e.kind) 1 es
+pub cues-are : (es : List Entry) → cues_of (map number es) ≡ positions (λ e. key_kind e.kind) 1 es
 cues-are es = positions-map is_key_entry number 1 es ∙ positions-ext _ _ 1 es first (λ k w. key-number (get_or es k first))
 
 -- ---- every

@@ -18,7 +18,7 @@ use Rattle.bitio.specs.Lent.{span}
 use Rattle.obu.specs.Obu.{Obu, passes, head_obu_of, obus_of, obu_bytes, unit_bytes, Written}
 use Rattle.obu.specs.Unit.{is_type, count, has, first_payload}
 use Rattle.obu.specs.Place.{part}
-use Rattle.header.specs.Fields.{read_flag, read_or, flag_or, uvlc_or}
+use Rattle.bitio.specs.Fields.{read_flag, read_or, flag_or, uvlc_or}
 use Rattle.header.specs.SequenceOpening.{timing_info, decoder_model_info, opening}
 use Rattle.header.specs.SequencePoints.{operating_point, operating_points}
 use Rattle.header.specs.SequenceCoding.{frame_size, frame_ids, coding_tools, screen_tools, filters, color_description, color_sampling, coding}
@@ -31,7 +31,8 @@ use Rattle.frame.specs.Frame.{show_existing, frame_start, frame_modes, frame_fro
 use Rattle.container.specs.Stream.{cut, group, others, join, behind, joined, units, stream_units, flat, stream_bytes}
 use Rattle.container.specs.AnnexB.{inner_obu_of, length_obu_of, frame_unit_of, temporal_unit_of, annexb_units_of, annexb_unit, annexb_bytes}
 use Rattle.container.specs.Container.{Container, stream, annexb, read, write}
-use Rattle.blocks.specs.Blocks.{Kind, Key, Golden, Show}
+use Rattle.blocks.specs.declared.blocks.Kind.{Kind}
+use Rattle.blocks.specs.declared.blocks.Kind.TheVariants.{Key, Golden, Show}
 use Rattle.pictures.specs.Segments.{Segment, segment_at, segments_from, segments_of}
 use Rattle.pictures.specs.Prepare.{effective, show_unit}
 use Rattle.pictures.specs.declared.settings.Settings.{Settings}
@@ -140,8 +141,8 @@ key-formed s f u w =
       written = w;
       delimited = (refl, refl);
       single = refl;
-      same = also {a = obu 2 []} (λ e. let z : ◌≡◌ {A = ℕ} 0 1 = cc in absurd (omega arith))
-          (also {a = obu 1 s} (λ e. refl) (also {a = obu 6 f} (λ e. let z : ◌≡◌ {A = ℕ} 0 1 = cc in absurd (omega arith)) nothing));
+      same = also {a = obu 2 []} (λ e. cc)
+          (also {a = obu 1 s} (λ e. refl) (also {a = obu 6 f} (λ e. cc) nothing));
     }
 
 golden-formed : (s f u : List ℕ) → Written u (obu 2 [] ∷ obu 6 f ∷ []) → Premise s u
@@ -152,7 +153,7 @@ golden-formed s f u w =
       written = w;
       delimited = (refl, refl);
       single = refl;
-      same = also {a = obu 2 []} (λ e. let z : ◌≡◌ {A = ℕ} 0 1 = cc in absurd (omega arith)) (also {a = obu 6 f} (λ e. let z : ◌≡◌ {A = ℕ} 0 1 = cc in absurd (omega arith)) nothing);
+      same = also {a = obu 2 []} (λ e. cc) (also {a = obu 6 f} (λ e. cc) nothing);
     }
 
 -- 01's list; the two that differ; and these timed

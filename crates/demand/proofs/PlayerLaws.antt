@@ -20,12 +20,11 @@ use Rattle.frame.specs.Frame.{parse_frame}
 use Rattle.frame.specs.declared.frame_header.FrameHeaderInfo.{FrameHeaderInfo}
 use Rattle.frame.specs.UnitFrame.{frame_payload}
 use Rattle.frame.specs.Refresh.{refresh}
-use Rattle.player.specs.Player.{empty, Shown, act, State, keep_as, keep, play}
-use Rattle.player.specs.declared.slots.Slot.{Slot}
+use Rattle.player.specs.Player.{Held, empty, Shown, act, State, keep_as, keep, play}
 use Rattle.demand.specs.Premises.{SequenceIs}
 
 -- a frame fills the slots whose bits are set
-pub filled_at : (flags i : ℕ) (new : Slot) (ss : List Slot) → i < length ss → flags / 2 ^ i % 2 ≡ 1 → get_or (refresh flags new ss) i empty ≡ new
+pub filled_at : (flags i : ℕ) (new : Held) (ss : List Held) → i < length ss → flags / 2 ^ i % 2 ≡ 1 → get_or (refresh flags new ss) i empty ≡ new
 unfolding refresh
 filled_at flags i new [] h e = absurd (omega arith)
 filled_at flags zero new (s ∷ ss) h e = let b : flags % 2 ≡ 1 = omega arith in rw b
@@ -54,7 +53,7 @@ module _ (s : List ℕ) (q : Sequence) (read : parse_sequence s ≡ accepted q) 
 
   pub keep-first : (k : Option Sequence) {os : List Obu} → Every (SequenceIs s) os → has is_sequence os ≡ true → keep k os ≡ accepted (some q)
   unfolding keep_as and_next has
-  keep-first k nothing h = let z : ◌≡◌ {A = ℕ} 0 1 = cc in absurd (omega arith)
+  keep-first k nothing h = cc
   keep-first k (also {a = o} {l = os} e es) h = go (is_sequence o) e h (λ w. keep-first k es w)
     where
       go : (t : Bool) → (t ≡ true → o.payload ≡ s) → (t || has is_sequence os) ≡ true → (has is_sequence os ≡ true → keep k os ≡ accepted (some q))

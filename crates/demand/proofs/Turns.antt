@@ -9,7 +9,8 @@ use mathlib.Core.Option.{Option, some}
 use lib.ListN.{length, get_or, drop, length-map, length-drop}
 use lib.Seq.{drop-cons}
 use lib.Dec.{ltb}
-use borrow.Author.Tests.{ne_eqb, ltb-true, ltb-false}
+use borrow.Author.Tests.{ltb-true, ltb-false}
+use Rattle.std.proofs.lemmas.List.{get_or-map}
 use Rattle.bitio.specs.Parse.{accepted, and_next}
 use Rattle.bitio.specs.Limits.{limit}
 use Rattle.bitio.specs.Every.{Every}
@@ -18,24 +19,25 @@ use Rattle.header.specs.Sequence.{Sequence, parse_sequence}
 use Rattle.header.specs.Support.{support}
 use Rattle.frame.specs.declared.frame_header.FrameHeaderInfo.{FrameHeaderInfo}
 use Rattle.frame.specs.declared.frame_header.FrameHeaderInfo.TheVariants.{Existing}
-use Rattle.blocks.specs.Blocks.{Kind, Key, Golden, Show, Entry, number, positions, cues_of, is_key_entry}
+use Rattle.blocks.specs.Blocks.{Entry, number, positions, cues_of, is_key_entry}
+use Rattle.blocks.specs.declared.blocks.Kind.{Kind}
+use Rattle.blocks.specs.declared.blocks.Kind.TheVariants.{Key, Golden, Show}
 use Rattle.pictures.specs.Segments.{Segment, frames_of}
 use Rattle.pictures.specs.Prepare.{effective, renewal, Prepared, show_unit}
 use Rattle.pictures.specs.declared.settings.Settings.{Settings}
 use Rattle.pictures.specs.Assemble.{picture_of, ends_from, shows_of, named}
 use Rattle.frame.specs.UnitFrame.{unit_frame}
 use Rattle.frame.specs.Refresh.{refresh}
-use Rattle.player.specs.Player.{empty, filled, State, start, play, state_after}
-use Rattle.player.specs.declared.slots.Slot.{Slot}
+use Rattle.player.specs.Player.{Held, empty, filled, State, start, play, state_after}
 use Rattle.demand.specs.Kinds.{unit_kind, says_key, is_key_unit, unit_at, segment_of}
 use Rattle.demand.specs.Premises.{Premise}
 use Rattle.demand.specs.Courses.{Course, done, plays, noise, Throughout}
 use Rattle.demand.specs.Demand.{Rising, empty_segment, IsUnit, Listed, PlaysRight}
 use Rattle.demand.proofs.Following.{entry, first, Following, first_key, segment-in, Since, show-led}
-use Rattle.demand.proofs.ListLaws.{get_or-map-lt, map_both, is_key, positions-map, positions-ext, positions-pass, pass-positions, Passes, positions-rising, cues-are, every-from}
+use Rattle.demand.proofs.ListLaws.{map_both, key_kind, positions-map, positions-ext, positions-pass, pass-positions, Passes, positions-rising, cues-are, every-from}
 use Rattle.demand.proofs.HandedLaws.{no_units, unit_of, unit_by, UnitsWithin, named-is}
 use Rattle.frame.proofs.FrameLaws.{flags-lt, shown-showable}
-use Rattle.demand.proofs.HeaderLaws.{show-frame}
+use Rattle.frame.proofs.FrameShowLaws.{supported-show}
 use Rattle.frame.proofs.RefreshLaws.{length-refresh}
 use Rattle.pictures.proofs.SlotLaws.{Refreshed, slot-refreshed}
 use Rattle.demand.proofs.PlayerLaws.{filled_at, keep_same, keep-first, play-is}
@@ -60,12 +62,12 @@ module _ {q : Sequence} {new : Option (List ℕ)} {s : List ℕ} {x : Segment} {
   slot_small = rw ok.slot_is refreshed.below
 
   show-says : support q.header ≡ accepted tt → FrameSays q s (show_unit b.slot) (Existing b.slot)
-  show-says f = record { unit = show-unit s b.slot; reads = rw (show-payload s b.slot) (show-frame q f b.slot slot_small) }
+  show-says f = record { unit = show-unit s b.slot; reads = rw (show-payload s b.slot) (supported-show q f b.slot slot_small []) }
 
   kind-says : support q.header ≡ accepted tt → (k : Kind) → unit_kind q (unit_of k b) ≡ accepted k
   unfolding unit_kind and_next
   kind-says f Key = rw (says-frame ok.key, ok.key-type, ok.key-shown)
-  kind-says f Golden = rw (says-frame ok.golden, ne_eqb _ _ ok.no_key)
+  kind-says f Golden = rw (says-frame ok.golden, ok.no_key)
   kind-says f Show = rw (says-frame (show-says f))
 
   -- each is a unit of demand 3's kind
@@ -89,7 +91,7 @@ module _ {q : Sequence} {new : Option (List ℕ)} {s : List ℕ} {x : Segment} {
     play-golden n st p k =
         let w = ok.golden.unit in
         play-is st p b.golden w.held q _ _ n w.written.reads (rw k (keep_same s q read fine w.same)) w.single ok.golden.reads refl
-        ∙ rw (ok.shown, shown-showable q _ ok.golden.reads ok.shown ok.no_key, ne_eqb _ _ ok.no_key)
+        ∙ rw (ok.shown, shown-showable q _ ok.golden.reads ok.shown ok.no_key, ok.no_key)
 
     play-show : (st : State) (p o : ℕ) → st.kept ≡ some q → get_or st.slots b.slot empty ≡ filled o true false
         → play st p (show_unit b.slot) ≡ accepted (record { shown = some o; state = record { slots = st.slots; kept = some q } })
@@ -98,7 +100,7 @@ module _ {q : Sequence} {new : Option (List ℕ)} {s : List ℕ} {x : Segment} {
         play-is st p (show_unit b.slot) w.held q _ _ (omega arith) w.written.reads (rw k (keep_same s q read fine w.same)) w.single (show-says fine).reads (rw e)
 
   -- a golden fills the slot that its segment's show units name
-  golden-fills : (p : ℕ) (ss : List Slot) → length ss ≡ 8 → get_or (refresh ok.info.refresh_frame_flags (filled p true false) ss) b.slot empty ≡ filled p true false
+  golden-fills : (p : ℕ) (ss : List Held) → length ss ≡ 8 → get_or (refresh ok.info.refresh_frame_flags (filled p true false) ss) b.slot empty ≡ filled p true false
   golden-fills p ss n =
       rw ok.slot_is (filled_at _ _ (filled p true false) ss (rw n refreshed.below) refreshed.set)
 
@@ -122,18 +124,16 @@ no-key-since : (e : ℕ → Entry) (i o p c : ℕ) → Since e i o p → (e p).k
 no-key-since e i o p c s w a b k = go (ltb o c) refl (ltb c p) refl
   where
     go : (t : Bool) → ltb o c ≡ t → (t' : Bool) → ltb c p ≡ t' → ⊥
-    go true x true y = let v = s.shows c (ltb-true o c x) (ltb-true c p y) in let z : ◌≡◌ {A = ℕ} 0 1 = cc in omega arith
+    go true x true y = let v = s.shows c (ltb-true o c x) (ltb-true c p y) in cc
     go true x false y =
         let l = ltb-false c p y in
         let n : c ≡ p = omega arith in
-        let z : ◌≡◌ {A = ℕ} 0 1 = cc in
-        omega arith
+        cc
     go false x t' y =
         let l = ltb-false o c x in
         let n : c ≡ o = omega arith in
         let v : e c ≡ entry i Golden = rw n s.golden in
-        let z : ◌≡◌ {A = ℕ} 0 1 = cc in
-        omega arith
+        cc
 
 -- so a key at or before a show entry lies before its golden
 key-before : (e : ℕ → Entry) (i o p c : ℕ) → Since e i o p → (e p).kind ≡ Show → c ≤ p → (e c).kind ≡ Key → c < o
@@ -143,12 +143,12 @@ key-before e i o p c s w b k = go (ltb c o) refl
     go true t = ltb-true c o t
     go false t = absurd (no-key-since e i o p c s w (ltb-false c o t) b k)
 
-is-key : (k : Kind) → is_key k ≡ true → k ≡ Key
-is-key Key e = refl
-is-key Golden e = cc
-is-key Show e = cc
+kind-key : (k : Kind) → key_kind k ≡ true → k ≡ Key
+kind-key Key e = refl
+kind-key Golden e = cc
+kind-key Show e = cc
 
-key-says : (k : Kind) → says_key (accepted k) ≡ is_key k
+key-says : (k : Kind) → says_key (accepted k) ≡ key_kind k
 key-says Key = refl
 key-says Golden = refl
 key-says Show = refl
@@ -188,7 +188,7 @@ module _ (set : Settings) (xs : List Segment) (m : Boards set xs) (short : Units
 
   module _ (p : ℕ) (lo : 1 ≤ p) (hi : p ≤ length es) where
     entry-is : get_or (map number es) (p - 1) 0 ≡ number (E p)
-    entry-is = get_or-map-lt number es (p - 1) 0 first (omega arith)
+    entry-is = get_or-map number es (p - 1) first 0 (omega arith)
 
     segment-here : (E p).segment ≡ segment_of ns p
     segment-here = follows.segments (p - 1) (omega arith)
@@ -197,7 +197,7 @@ module _ (set : Settings) (xs : List Segment) (m : Boards set xs) (short : Units
     in_list = omega (arith, segment-here, segment-in ns (p - 1) (omega (arith, follows.within)), length-prepared)
 
     unit-is : U p ≡ unit_of (E p).kind (segment_units (E p).segment)
-    unit-is = get_or-map-lt (unit_by m.prepared) es (p - 1) [] first (omega arith)
+    unit-is = get_or-map (unit_by m.prepared) es (p - 1) first [] (omega arith)
 
     ok : Paired q (renewal set m.first) m.payload (get_or xs (E p).segment empty_segment) (segment_units (E p).segment)
     ok = matches-at m.pairs (E p).segment empty_segment no_units in_list
@@ -252,7 +252,7 @@ module _ (set : Settings) (xs : List Segment) (m : Boards set xs) (short : Units
   pub cue-is : cues ≡ positions (is_key_unit q) 1 us
   cue-is =
       cues-are es
-      ∙ positions-ext (λ e. is_key e.kind) (λ e. is_key_unit q (unit_by m.prepared e)) 1 es first
+      ∙ positions-ext (λ e. key_kind e.kind) (λ e. is_key_unit q (unit_by m.prepared e)) 1 es first
       (λ k w.
       let n : suc k - 1 ≡ k = omega arith in
       let y = kind-says (ok (suc k) (omega arith) (omega arith)) m.supported (E (suc k)).kind in
@@ -260,8 +260,8 @@ module _ (set : Settings) (xs : List Segment) (m : Boards set xs) (short : Units
       sym (rw n at z))
       ∙ sym (positions-map (is_key_unit q) (unit_by m.prepared) 1 es)
 
-  key-at : (c : ℕ) → Memᴰ c cues → Passes (λ e. is_key e.kind) 1 es first c
-  key-at c k = positions-pass (λ e. is_key e.kind) 1 es first c (rw (cues-are es) at k)
+  key-at : (c : ℕ) → Memᴰ c cues → Passes (λ e. key_kind e.kind) 1 es first c
+  key-at c k = positions-pass (λ e. key_kind e.kind) 1 es first c (rw (cues-are es) at k)
 
   pub exactly : (c : ℕ) → Memᴰ c cues ↔ ((1 ≤ c) × (c ≤ length es) × (unit_kind q (U c) ≡ accepted Key))
   exactly c = (there, back)
@@ -270,13 +270,13 @@ module _ (set : Settings) (xs : List Segment) (m : Boards set xs) (short : Units
       there k =
           let w = key-at c k in
           let hi : c ≤ length es = omega (arith, w.high) in
-          (w.low, hi, kind-is c w.low hi ∙ ap accepted (is-key (E c).kind w.holds))
+          (w.low, hi, kind-is c w.low hi ∙ ap accepted (kind-key (E c).kind w.holds))
 
       back : (1 ≤ c) × (c ≤ length es) × (unit_kind q (U c) ≡ accepted Key) → Memᴰ c cues
       back (lo, hi, k) =
           let w = kind-is c lo hi in
           let v : (E c).kind ≡ Key = cc in
-          rw (cues-are es) (pass-positions (λ e. is_key e.kind) 1 es first c (record { low = lo; high = omega arith; holds = ap is_key v }))
+          rw (cues-are es) (pass-positions (λ e. key_kind e.kind) 1 es first c (record { low = lo; high = omega arith; holds = ap key_kind v }))
 
   -- position 1 is a cue
   pub starts : 1 ≤ length es → Memᴰ 1 cues
@@ -287,7 +287,7 @@ module _ (set : Settings) (xs : List Segment) (m : Boards set xs) (short : Units
   carries c k =
       let w = key-at c k in
       let hi : c ≤ length es = omega (arith, w.high) in
-      let u = unit-of c w.low hi Key (is-key (E c).kind w.holds) in
+      let u = unit-of c w.low hi Key (kind-key (E c).kind w.holds) in
       let b = ok c w.low hi in
       let v = b.key.unit in
       ap (λ (x : List ℕ). parse_sequence (sequence_payload x)) u
@@ -333,13 +333,13 @@ module _ (set : Settings) (xs : List Segment) (m : Boards set xs) (short : Units
             size = length-refresh _ _ st.slots ∙ inv.size;
             kept = λ _. refl;
             golden-in = λ i o h s. since-last E i o p s
-                (λ _ e. let z : ◌≡◌ {A = ℕ} 0 1 = cc in absurd (omega arith))
-                (λ _ e. let z : ◌≡◌ {A = ℕ} 0 1 = cc in absurd (omega arith));
+                (λ _ e. cc)
+                (λ _ e. cc);
           };
         }
 
     -- after the cue, where the unit is no key
-    later : (k : Kind) → is_key k ≡ false → (E p).kind ≡ k → c < p
+    later : (k : Kind) → key_kind k ≡ false → (E p).kind ≡ k → c < p
     later k n e = go (ltb c p) refl
       where
         go : (t : Bool) → ltb c p ≡ t → c < p
@@ -348,9 +348,8 @@ module _ (set : Settings) (xs : List Segment) (m : Boards set xs) (short : Units
             let l = ltb-false c p t in
             let v : p ≡ c = omega (arith, inv.from) in
             let w : (E p).kind ≡ Key = rw v cue in
-            let y : is_key Key ≡ false = ap is_key (sym w ∙ e) ∙ n in
-            let z : ◌≡◌ {A = ℕ} 0 1 = cc in
-            absurd (omega arith)
+            let y : key_kind Key ≡ false = ap key_kind (sym w ∙ e) ∙ n in
+            cc
 
     turn-golden : (E p).kind ≡ Golden → Turn c p st
     turn-golden k =
@@ -373,7 +372,7 @@ module _ (set : Settings) (xs : List Segment) (m : Boards set xs) (short : Units
                 (λ n e.
                 let j : (E p).segment ≡ i = ap (λ (x : Entry). x.segment) e in
                 rw (n, ← j) (golden-fills b p st.slots inv.size))
-                (λ _ e. let z : ◌≡◌ {A = ℕ} 0 1 = cc in absurd (omega arith));
+                (λ _ e. cc);
           };
         }
 
@@ -404,8 +403,7 @@ module _ (set : Settings) (xs : List Segment) (m : Boards set xs) (short : Units
               greatest = λ j x y g.
                   let v = kind-is j (omega arith) (omega arith) in
                   let w = s.shows j x y in
-                  let z : ◌≡◌ {A = ℕ} 0 1 = cc in
-                  omega arith;
+                  cc;
               behind = behind;
               among = sym (segment-here o lo-o hi-o) ∙ ap (λ (x : Entry). x.segment) s.golden ∙ here;
               own = rw here at b.golden-sent ∙ ap accepted (sym (unit-is o lo-o hi-o ∙ ap (λ (x : Entry). unit_of x.kind (segment_units x.segment)) s.golden ∙ ap (λ (j : ℕ). (segment_units j).golden) here));
@@ -416,7 +414,7 @@ module _ (set : Settings) (xs : List Segment) (m : Boards set xs) (short : Units
             size = inv.size;
             kept = λ _. refl;
             golden-in = λ i o h s. since-last E i o p s
-                (λ _ e. let z : ◌≡◌ {A = ℕ} 0 1 = cc in absurd (omega arith))
+                (λ _ e. cc)
                 (λ s' e. inv.golden-in i o h s');
           };
         }
@@ -458,4 +456,4 @@ module _ (set : Settings) (xs : List Segment) (m : Boards set xs) (short : Units
   pub played : (c : ℕ) → Memᴰ c cues → (k : Course start c (drop (c - 1) us)) → Throughout (λ p st. PlaysRight set m.first xs us c p st) k
   played c k course =
       let w = key-at c k in
-      every c w.low (is-key (E c).kind w.holds) start c _ course (begins c) refl
+      every c w.low (kind-key (E c).kind w.holds) start c _ course (begins c) refl

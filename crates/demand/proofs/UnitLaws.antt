@@ -30,7 +30,7 @@ pub record FirstFound (pass : Obu → Bool) (os : List Obu) (o : Obu) : Type 0 w
 
 pub first-is : (n : ℕ) (pass : Obu → Bool) (os : List Obu) (o : Obu) → first_of n pass os ≡ accepted o → FirstFound pass os o
 unfolding first_of has first_payload
-first-is n pass [] o e = let z : ◌≡◌ {A = ℕ} 0 1 = cc in absurd (omega arith)
+first-is n pass [] o e = cc
 first-is n pass (x ∷ os) o e = go (pass x) refl e (λ w. first-is n pass os o w)
   where
     go : (t : Bool) → pass x ≡ t → pick t (accepted x) (first_of n pass os) ≡ accepted o → (first_of n pass os ≡ accepted o → FirstFound pass os o) → FirstFound pass (x ∷ os) o
@@ -40,7 +40,7 @@ first-is n pass (x ∷ os) o e = go (pass x) refl e (λ w. first-is n pass os o 
 -- the first sequence payload, where all are s
 pub first-same : (s : List ℕ) {os : List Obu} → Every (SequenceIs s) os → has is_sequence os ≡ true → first_payload is_sequence os ≡ s
 unfolding has first_payload
-first-same s nothing h = let z : ◌≡◌ {A = ℕ} 0 1 = cc in absurd (omega arith)
+first-same s nothing h = cc
 first-same s (also {a = o} {l = os} e es) h = go (is_sequence o) e h (λ w. first-same s es w)
   where
     go : (t : Bool) → (t ≡ true → o.payload ≡ s) → (t || has is_sequence os) ≡ true → (has is_sequence os ≡ true → first_payload is_sequence os ≡ s)
@@ -98,8 +98,8 @@ module _ (new : List ℕ) where
   same_none (o ∷ os) e = go (is_sequence o) refl e (λ w. same_none os w)
     where
       go : (t : Bool) → is_sequence o ≡ t → (t || has is_sequence os) ≡ false → (has is_sequence os ≡ false → Every (SequenceIs new) os) → Every (SequenceIs new) (o ∷ os)
-      go true w e ih = let z : ◌≡◌ {A = ℕ} 0 1 = cc in absurd (omega arith)
-      go false w e ih = also {a = o} (λ (k : is_sequence o ≡ true). let v : true ≡ false = sym k ∙ w in let z : ◌≡◌ {A = ℕ} 0 1 = cc in absurd (omega arith)) (ih e)
+      go true w e ih = cc
+      go false w e ih = also {a = o} (λ (k : is_sequence o ≡ true). let v : true ≡ false = sym k ∙ w in cc) (ih e)
 
 -- ---- as it goes out
 
@@ -174,8 +174,8 @@ show-unit s slot =
       written = rw (show-bytes slot) at (unit-written (show-allowed slot));
       delimited = (refl, refl);
       single = refl;
-      same = also {a = record { type = 2; ext = none; payload = [] }} (λ e. let z : ◌≡◌ {A = ℕ} 0 1 = cc in absurd (omega arith))
-          (also {a = record { type = 3; ext = none; payload = show_byte slot ∷ [] }} (λ e. let z : ◌≡◌ {A = ℕ} 0 1 = cc in absurd (omega arith)) nothing);
+      same = also {a = record { type = 2; ext = none; payload = [] }} (λ e. cc)
+          (also {a = record { type = 3; ext = none; payload = show_byte slot ∷ [] }} (λ e. cc) nothing);
     }
 
 -- the payload of its frame

@@ -1,6 +1,5 @@
 -- What the running `walk` hands out is what demand 3 claims.
 use Prim.Native.Nat.{ℕ, ◌+◌, ◌-◌, ◌≤◌}
-use native.Mathlib.Omega.{arith}
 use mathlib.Core.Path.{◌≡◌, sym, ap, subst, ◌∙◌}
 use mathlib.Core.List.{List, Memᴰ}
 use mathlib.Core.Bool.{Bool, true, false, cond as pick, ◌&&◌}
@@ -14,6 +13,9 @@ use Rattle.container.specs.Limits.{Room, bytes_room, fits}
 use Rattle.container.specs.Stream.{stream_bytes}
 use Rattle.container.specs.Container.{Container}
 use Rattle.blocks.specs.Blocks.{total}
+use Rattle.std.specs.Prelude.{Result, Ok}
+use Rattle.pictures.specs.Says.{outcome_of}
+use Rattle.pictures.specs.declared.fault.Fault.{Fault}
 use Rattle.pictures.specs.Segments.{Segment, frames_of, segments_of}
 use Rattle.pictures.specs.declared.settings.Settings.{Settings}
 use Rattle.pictures.specs.Assemble.{Outcome, made, overall, Output, OutputRoom, assemble, units_of}
@@ -26,16 +28,14 @@ use Rattle.playback.specs.Lent.{store_room}
 use Rattle.playback.specs.Gather.{gathered}
 use Rattle.playback.specs.Shown.{shown_by, from_cue}
 use Rattle.playback.specs.Way.{PlayLent, written, carried_units, shown}
-use Rattle.playback.specs.Walk.{walk, walked_says, Walks}
-use Rattle.playback.specs.declared.walk.Walked.{Walked}
-use Rattle.playback.specs.declared.walk.Walked.TheVariants.{Positions}
+use Rattle.playback.specs.Walk.{walk, Walks}
 use Rattle.demand.proofs.AssembleLaws.{link-made}
 use Rattle.demand.proofs.Demand3.{demand3-formed}
 use Rattle.demand.proofs.Calls.{state_at, shown-count, shown-right}
 
 picked : {A : Type 0} (t : Bool) (x y : A) (n : ℕ) → pick t (accepted x) (refused n) ≡ accepted y → x ≡ y
 picked true x y n e = cc
-picked false x y n e = let z : ◌≡◌ {A = ℕ} 0 1 = cc in absurd (omega arith)
+picked false x y n e = cc
 
 gathered-same : (vs : List (List ℕ)) (room : Room) (us : List (List ℕ)) → gathered vs room ≡ accepted us → vs ≡ us
 unfolding gathered
@@ -46,7 +46,7 @@ from_is room cue us ls e = go (leb 1 cue && leb cue (length us)) e
   where
     go : (t : Bool) → pick t (pick (leb (length (shown_by cue us)) room) (accepted (shown_by cue us)) (refused 35)) (refused 36) ≡ accepted ls → shown_by cue us ≡ ls
     go true e = picked (leb (length (shown_by cue us)) room) (shown_by cue us) ls 35 e
-    go false e = let z : ◌≡◌ {A = ℕ} 0 1 = cc in absurd (omega arith)
+    go false e = cc
 
 -- the numbers are those of the units read back
 way-is : (c : Container) (vs : List (List ℕ)) (cue : ℕ) (d : PlayLent) (ls : List ℕ) → shown c vs cue d ≡ accepted ls → (us : List (List ℕ)) × (ReadBack vs us) × (shown_by cue us ≡ ls)
@@ -68,7 +68,7 @@ way-is c vs cue d ls w =
 of-overall : {A : Type 0} (t : Answer A) (a : A) → overall t ≡ made a → t ≡ accepted a
 unfolding overall
 of-overall (accepted x) a e = let z : x ≡ a = cc in rw z
-of-overall (refused n) a e = let z : ◌≡◌ {A = ℕ} 0 1 = cc in absurd (omega arith)
+of-overall (refused n) a e = cc
 
 -- what was handed out, and the numbers ls
 pub record WalksRight (set : Settings) (xs : List Segment) (x : Outcome Output) (cue : ℕ) (ls : List ℕ) : Type 0 where
@@ -104,13 +104,13 @@ module _ (c : Container) (room : OutputRoom) (set : Settings) (picture numbers :
 same-made : {A : Type 0} (x y : A) → made x ≡ made y → x ≡ y
 same-made x y e = cc
 
--- Where the running `walk` answers Positions n, the first n numbers in its last lent slice are right.
-pub walked-right : (c : Container) (cue : ℕ) (picture numbers : List ℕ) (set : Settings) (r : Walked) (l : Both Lent Lent) (d : Both PlayLent PlayLent)
-    → Walks c cue (outcome picture numbers set) r l d → (xs : List Segment) → InFields set → segments_of picture numbers ≡ accepted xs → Formed xs → (n : ℕ) → r ≡ Positions n
+-- Where the running `walk` answers Ok n, the first n numbers in its last lent slice are right.
+pub walked-right : (c : Container) (cue : ℕ) (picture numbers : List ℕ) (set : Settings) (r : Result ℕ Fault) (l : Both Lent Lent) (d : Both PlayLent PlayLent)
+    → Walks c cue (outcome picture numbers set) r l d → (xs : List Segment) → InFields set → segments_of picture numbers ≡ accepted xs → Formed xs → (n : ℕ) → r ≡ Ok n
     → WalksRight set xs (outcome picture numbers set l.entry) cue (take n d.exit.shown)
 unfolding walk outcome
 walked-right c cue picture numbers set r l d w xs fields segments formed n is =
-    link-made _ _ n (sym w.answer ∙ ap walked_says is) (λ ls e e₁.
+    link-made _ _ n (sym w.answer ∙ ap outcome_of is) (λ ls e e₁.
     link-made _ _ ls e (λ o e₂ e₃.
     let m : d.exit.shown ≡ pasted d.entry.shown 0 ls = ap (λ (y : PlayLent). y.shown) w.way ∙ rw (e₂, of-overall _ ls e₃) in
     let h : take n d.exit.shown ≡ ls = ap (take n) m ∙ pasted-front d.entry.shown ls n (sym (same-made (length ls) n e₁)) in

@@ -12,7 +12,9 @@ use Rattle.container.specs.Limits.{Room}
 use Rattle.container.specs.Stream.{stream_bytes}
 use Rattle.container.specs.Units.{ends_of}
 use Rattle.container.specs.Container.{Container, read, write, write_at}
-use Rattle.blocks.specs.Blocks.{Kind, Key, Golden, Show, Entry, number, layout, positions, cues_of, total}
+use Rattle.blocks.specs.Blocks.{Entry, number, layout, positions, cues_of, total}
+use Rattle.blocks.specs.declared.blocks.Kind.{Kind}
+use Rattle.blocks.specs.declared.blocks.Kind.TheVariants.{Key, Golden, Show}
 use Rattle.pictures.specs.Segments.{Segment, frames_of}
 use Rattle.pictures.specs.Prepare.{effective, renewal, sent, slot_of, show_unit}
 use Rattle.pictures.specs.declared.settings.Settings.{Settings}

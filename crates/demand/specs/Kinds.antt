@@ -1,17 +1,18 @@
 -- What a unit is, as its bytes say, and whose position a position is (01, 'What demand 3 speaks of').
-use Rattle.std.specs.Prelude.{ℕ, suc, ◌-◌, List, [], ◌∷◌, Bool, false, true, cond as pick, ◌&&◌, get_or, eqb, ltb}
+use Rattle.std.specs.Prelude.{ℕ, suc, ◌-◌, List, [], ◌∷◌, Bool, false, true, cond as pick, ◌&&◌, get_or, ltb}
 use Rattle.bitio.specs.Parse.{Answer, refused, accepted, and_next}
 use Rattle.header.specs.Sequence.{Sequence}
-use Rattle.frame.specs.Frame.{key_frame}
+use Rattle.frame.specs.FrameType.{is_key}
 use Rattle.frame.specs.declared.frame_header.FrameHeaderInfo.{FrameHeaderInfo}
 use Rattle.frame.specs.declared.frame_header.FrameHeaderInfo.TheVariants.{Existing, Frame}
-use Rattle.blocks.specs.Blocks.{Kind, Key, Golden, Show}
+use Rattle.blocks.specs.declared.blocks.Kind.{Kind}
+use Rattle.blocks.specs.declared.blocks.Kind.TheVariants.{Key, Golden, Show}
 use Rattle.frame.specs.UnitFrame.{unit_frame}
 
 -- by the unit's frame: a shown key makes a key unit, showing a slot again a show unit, everything else a golden unit
 abbrev pub frame_kind : FrameHeaderInfo → Kind
 frame_kind (Existing slot) = Show
-frame_kind (Frame f) = pick (eqb f.frame_type key_frame && f.show_frame) Key Golden
+frame_kind (Frame f) = pick (is_key f.frame_type && f.show_frame) Key Golden
 
 unfoldable pub unit_kind : Sequence → List ℕ → Answer Kind
 unit_kind q u = and_next (unit_frame true q u) (λ x. accepted (frame_kind x))

@@ -14,7 +14,7 @@ use Rattle.bitio.specs.Write.{bits_of, unpack, trailing_width, trailing_bits}
 use Rattle.bitio.proofs.EveryLaws.{every_append}
 use Rattle.bitio.proofs.SeesLaws.{Sees}
 use Rattle.bitio.proofs.UnpackLaws.{length-bits, unpack-append}
-use Rattle.header.specs.Fields.{answer_of}
+use Rattle.bitio.specs.Fields.{answer_of}
 use Rattle.emittable.specs.PutFields.{fits}
 use Rattle.header.specs.SequencePoints.{point_count}
 use Rattle.header.specs.Sequence.{Sequence, read_sequence, parse_sequence}
@@ -27,7 +27,7 @@ use Rattle.emit.proofs.PackLaws.{AreBits, are-bits, unpack-pack, length-pack}
 use Rattle.emit.proofs.PutLaws.{Puts, sequence-puts}
 use Rattle.header.proofs.LimitedLaws.{within-limit}
 use Rattle.bitio.proofs.ParseLaws.{and_both}
-use Rattle.emittable.proofs.BackSequence.{opening-delay, opening-count, sequence-back}
+use Rattle.emittable.proofs.BackSequence.{opening_delay, opening_count, sequence-back}
 use Rattle.emit.proofs.FormFields.{holds}
 use Rattle.emit.proofs.FormSequence.{sequence-form}
 
@@ -63,9 +63,9 @@ emittable-puts q g =
     let (g, g3) = and_both _ _ g in
     let (g1, g2) = and_both (opening_fits q.header.opening) (eqb (length q.points) (point_count q.header.opening)) g in
     let n = eqb-true (length q.points) (point_count q.header.opening) g2 in
-    let m = opening-count q.header.opening g1 in
+    let m = opening_count q.header.opening g1 in
     let z = size-widths q.header.coding.size (coding-size q.header.opening.seq_profile (not q.header.opening.reduced_still_picture_header) q.header.coding g4) in
-    sequence-puts q (opening-delay q.header.opening g1) (omega arith) z.0 z.1
+    sequence-puts q (opening_delay q.header.opening g1) (omega arith) z.0 z.1
 
 -- ---- trailing bits
 

@@ -18,7 +18,7 @@ use Rattle.bitio.specs.Write.{bits_of, unpack, uvlc_zeros, uvlc_width}
 use Rattle.bitio.proofs.BitLaws.{bit-lt, bits-lt, read-there, read_past, read_wide}
 use Rattle.bitio.proofs.UnpackLaws.{length-unpack, unpack-at}
 use Rattle.bitio.proofs.UvlcFormLaws.{HighestBit, uvlc-place, uvlc-bits}
-use Rattle.header.specs.Fields.{read_flag, read_or, flag_or, uvlc_or}
+use Rattle.bitio.specs.Fields.{read_flag, read_or, flag_or, uvlc_or}
 use Rattle.emittable.specs.PutFields.{put, put_or, put_flag, put_flag_or, put_uvlc_or, fits, fits_or, flag_fits_or, uvlc_fits_or}
 use Rattle.emit.proofs.PackLaws.{one_bit}
 

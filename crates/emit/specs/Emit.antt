@@ -6,8 +6,6 @@ use Rattle.bitio.specs.Write.{bits_of, trailing_width, trailing_bits}
 use Rattle.header.specs.Sequence.{Sequence}
 use Rattle.emittable.specs.PutSequence.{put_sequence}
 use Rattle.emittable.specs.Emittable.{emittable}
-use Rattle.header.specs.declared.seq_header.Emitted.{Emitted}
-use Rattle.header.specs.declared.seq_header.Emitted.TheVariants.{Next, Unreadable, Full}
 
 -- bits as a number, the highest first
 unfoldable pub of_bits : List ℕ → ℕ
@@ -42,9 +40,3 @@ emit_placed d w q = pick (emittable q) (placed d w (sequence_bytes q)) (refused 
 -- d afterwards: with the payload, or as it was
 unfoldable pub emit_lent : List ℕ → ℕ → Sequence → List ℕ
 emit_lent d w q = pick (emittable q) (lent d w (sequence_bytes q)) d
-
--- 01's number and values for each case of Emitted
-abbrev pub emit_says : Emitted → Answer ℕ
-emit_says (Next at) = accepted at
-emit_says Unreadable = refused 36
-emit_says Full = refused 35

@@ -1,5 +1,5 @@
-// The sequence header of AV1, emitted.
+// Emitting a sequence header.
 pub mod emit;
 pub mod emit_coding;
-pub mod emit_fields;
 pub mod emit_opening;
+pub mod payload;

@@ -9,7 +9,7 @@ use Rattle.bitio.specs.Bits.{Reading, reads, and_then, read_bits}
 use Rattle.bitio.specs.Write.{uvlc_width}
 use Rattle.bitio.proofs.SeesLaws.{Sees, sees-bits}
 use Rattle.bitio.proofs.UvlcBackLaws.{sees-uvlc}
-use Rattle.header.specs.Fields.{read_flag, read_or, flag_or, uvlc_or}
+use Rattle.bitio.specs.Fields.{read_flag, read_or, flag_or, uvlc_or}
 use Rattle.emittable.specs.PutFields.{put, put_or, put_flag, put_flag_or, put_uvlc_or, fits, fits_or, flag_fits_or, uvlc_fits_or}
 
 -- x reads as v, and then l is seen

@@ -39,9 +39,9 @@ model-delay timed m g =
     let (g1, g2) = and_both (flag_fits_or timed false m.decoder_model_info_present) _ g in
     five m.decoder_model_info_present _ g2
 
-pub opening-delay : (o : Opening) → opening_fits o ≡ true → delay_bits o ≤ 32
+pub opening_delay : (o : Opening) → opening_fits o ≡ true → delay_bits o ≤ 32
 unfolding opening_fits
-opening-delay o g =
+opening_delay o g =
     let (g, g5) = and_both _ _ g in
     let (g, g4) = and_both _ _ g in
     let (g, g3) = and_both _ _ g in
@@ -50,9 +50,9 @@ opening-delay o g =
     omega arith
 
 -- at most 32 operating points
-pub opening-count : (o : Opening) → opening_fits o ≡ true → point_count o ≤ 32
+pub opening_count : (o : Opening) → opening_fits o ≡ true → point_count o ≤ 32
 unfolding opening_fits
-opening-count o g =
+opening_count o g =
     let (g, g5) = and_both _ _ g in
     let (g, g4) = and_both _ _ g in
     let (g, g3) = and_both _ _ g in
@@ -72,7 +72,7 @@ sequence-back q l g k =
     let (g, g4) = and_both _ _ g in
     let (g, g3) = and_both _ _ g in
     let (g1, g2) = and_both _ _ g in
-    let d = opening-delay q.header.opening g1 in
+    let d = opening_delay q.header.opening g1 in
     let w : delay_bits q.header.opening ≤ 64 = omega arith in
     next _ _ (opening-back _ _ g1 k) (λ p k.
     next _ _ (counted _ _ _ w (eqb-true _ _ g2) g3 k) (λ p k.

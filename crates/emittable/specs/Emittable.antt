@@ -1,5 +1,6 @@
 -- Fields that some payload reads as, section by section.
-use Rattle.std.specs.Prelude.{ℕ, ◌+◌, List, [], ◌∷◌, Bool, true, false, not, ◌&&◌, eqb, leb, ltb, length}
+use Rattle.std.specs.Prelude.{ℕ, ◌+◌, List, Bool, true, false, not, ◌&&◌, eqb, leb, ltb, length}
+use Rattle.std.specs.List.{list_all}
 use Rattle.emittable.specs.PutFields.{fits, fits_or, flag_fits_or, uvlc_fits_or}
 use Rattle.header.specs.SequenceRules.{ours}
 use Rattle.header.specs.SequencePoints.{delay_bits, point_count}
@@ -54,8 +55,7 @@ point_fits o x =
     && fits_or x.initial_display_delay_present 4 0 x.initial_display_delay_minus_1
 
 unfoldable pub points_fit : Opening → List OperatingPoint → Bool
-points_fit o [] = true
-points_fit o (x ∷ xs) = point_fits o x && points_fit o xs
+points_fit o xs = list_all (point_fits o) xs
 
 unfoldable pub size_fits : FrameSize → Bool
 size_fits z =

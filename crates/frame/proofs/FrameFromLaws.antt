@@ -8,15 +8,13 @@ use lib.Dec.{leb}
 use lib.ListN.{length, take, replicate}
 use lib.Seq.{take-append_seam}
 use Rattle.bitio.specs.Limits.{limit, limited}
-use Rattle.bitio.specs.Parse.{Answer, refused, accepted, and_next}
+use Rattle.bitio.specs.Parse.{Answer, refused, accepted, answer, and_next}
 use Rattle.header.specs.SequenceRules.{Rules, ours}
 use Rattle.header.specs.SequenceOpening.{opening}
 use Rattle.header.specs.SequencePoints.{operating_points, point_count, padded, no_point}
 use Rattle.header.specs.SequenceCoding.{coding}
-use Rattle.header.specs.Sequence.{Sequence, sequence_header, read_sequence, parse_sequence, sequence_read, sequence_of}
-use Rattle.header.specs.declared.seq_header.SequenceHeader.{SequenceHeader}
-use Rattle.header.specs.declared.seq_header.SequenceAnswer.TheVariants.{Header, Refused}
-use Rattle.header.specs.declared.seq_header.SequenceRead.{SequenceRead}
+use Rattle.header.specs.Sequence.{Sequence, sequence_header, read_sequence, parse_sequence, in_array, sequence_of, sequence_in}
+use Rattle.header.specs.declared.seq_header.SequenceObu.{SequenceObu}
 use Rattle.header.proofs.LimitedLaws.{limited-read}
 use Rattle.header.proofs.ReadLaws.{Holds, then-holds, then-any}
 use Rattle.header.proofs.PointLaws.{points-count}
@@ -69,33 +67,26 @@ unfolding parse_sequence
 read_whole s q e = array_whole q (answered Counted (read_sequence s) (sequence-counted ours s 0) e)
 
 -- what the code answers for a sequence payload, and what is then answered under it
-module _ (s : List ℕ) (r : SequenceRead) (p : r ≡ sequence_read (limited s (parse_sequence s))) where
+module _ (s : List ℕ) where
   -- a header: it and the array beside it are what was read
-  pub beside-whole : (h : SequenceHeader) → r.answer ≡ Header h → limited s (parse_sequence s) ≡ accepted (sequence_of h r.operating_points)
-  beside-whole h = go (limited s (parse_sequence s)) refl p
+  pub beside-whole : (x : SequenceObu) → accepted x ≡ answer in_array (limited s (parse_sequence s)) → limited s (parse_sequence s) ≡ accepted (sequence_in x)
+  beside-whole x = go (limited s (parse_sequence s)) refl
     where
-      go : (x : Answer Sequence) → limited s (parse_sequence s) ≡ x → r ≡ sequence_read x → r.answer ≡ Header h → limited s (parse_sequence s) ≡ accepted (sequence_of h r.operating_points)
-      go (refused k) e p a = let z : Refused k ≡ Header h = sym (ap (λ y. y.answer) p) ∙ a in let w : ◌≡◌ {A = ℕ} 0 1 = cc in absurd (omega arith)
-      go (accepted q) e p a =
-          let z : Header q.header ≡ Header h = sym (ap (λ y. y.answer) p) ∙ a in
-          let i : q.header ≡ h = cc in
-          let j : padded q.points ≡ r.operating_points = sym (ap (λ y. y.operating_points) p) in
-          e
-          ∙ ap (λ y. accepted y) (sym (read_whole s q (limited-read s (parse_sequence s) e)))
-          ∙ ap (λ y. accepted (sequence_of y (padded q.points))) i
-          ∙ ap (λ y. accepted (sequence_of h y)) j
+      go : (y : Answer Sequence) → limited s (parse_sequence s) ≡ y → accepted x ≡ answer in_array y → limited s (parse_sequence s) ≡ accepted (sequence_in x)
+      go (refused k) e p = let w : ◌≡◌ {A = ℕ} 0 1 = cc in absurd (omega arith)
+      go (accepted q) e p =
+          let i : x ≡ in_array q = cc in
+          e ∙ ap (λ y. accepted y) (sym (read_whole s q (limited-read s (parse_sequence s) e)) ∙ ap sequence_in (sym i))
 
-  -- so the answer is that under it
-  pub beside-read : {A : Type 0} (under : Sequence → Answer A) (h : SequenceHeader) → r.answer ≡ Header h → under (sequence_of h r.operating_points) ≡ limited s (and_next (parse_sequence s) under)
-  beside-read under h a = sym (from-read under s (sequence_of h r.operating_points) (beside-whole h a))
+  module _ {A : Type 0} (under : Sequence → Answer A) where
+    -- so the answer is that under it
+    pub beside-read : (x : SequenceObu) → accepted x ≡ answer in_array (limited s (parse_sequence s)) → under (sequence_in x) ≡ limited s (and_next (parse_sequence s) under)
+    beside-read x e = sym (from-read under s (sequence_in x) (beside-whole x e))
 
-  -- a refusal: the same of all
-  pub beside-refused : {A : Type 0} (under : Sequence → Answer A) (k : ℕ) → r.answer ≡ Refused k → refused k ≡ limited s (and_next (parse_sequence s) under)
-  beside-refused under k = go (limited s (parse_sequence s)) refl p
-    where
-      go : (x : Answer Sequence) → limited s (parse_sequence s) ≡ x → r ≡ sequence_read x → r.answer ≡ Refused k → refused k ≡ limited s (and_next (parse_sequence s) under)
-      go (refused j) e p a =
-          let z : Refused j ≡ Refused k = sym (ap (λ y. y.answer) p) ∙ a in
-          let i : k ≡ j = cc in
-          ap (λ y. refused y) i ∙ sym (from-refused under s j e)
-      go (accepted q) e p a = let z : Header q.header ≡ Refused k = sym (ap (λ y. y.answer) p) ∙ a in let w : ◌≡◌ {A = ℕ} 0 1 = cc in absurd (omega arith)
+    -- a refusal: the same of all
+    pub beside-refused : (k : ℕ) → refused k ≡ answer in_array (limited s (parse_sequence s)) → refused k ≡ limited s (and_next (parse_sequence s) under)
+    beside-refused k e = sym (from-refused under s k (refused-same (limited s (parse_sequence s)) e))
+      where
+        refused-same : (y : Answer Sequence) → refused k ≡ answer in_array y → y ≡ refused k
+        refused-same (refused j) e = let i : j ≡ k = cc in ap (λ y. refused y) i
+        refused-same (accepted q) e = let w : ◌≡◌ {A = ℕ} 0 1 = cc in absurd (omega arith)

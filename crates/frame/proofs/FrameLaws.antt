@@ -6,19 +6,19 @@ use mathlib.Core.List.{List}
 use mathlib.Core.Bool.{Bool, true, false, not, ◌&&◌, ◌||◌, cond as pick}
 use lib.Dec.{eqb}
 use lib.Pow.{pow_pos}
-use borrow.Author.Tests.{ne_eqb}
 use Rattle.bitio.specs.Parse.{accepted}
 use Rattle.bitio.specs.Bits.{Reading, fails, reads, and_then, read_bits}
 use Rattle.bitio.proofs.ParseLaws.{pick-both}
 use Rattle.syntax.specs.Syntax.{run}
-use Rattle.header.specs.Fields.{answer_of}
+use Rattle.bitio.specs.Fields.{answer_of}
 use Rattle.header.specs.Sequence.{Sequence}
 use Rattle.header.specs.Support.{has_point_info}
 use Rattle.header.specs.declared.seq_header.Opening.{Opening}
 use Rattle.header.specs.declared.seq_header.OperatingPoint.{OperatingPoint}
 use Rattle.header.specs.declared.seq_header.SequenceHeader.{SequenceHeader}
 use Rattle.header.proofs.ReadLaws.{Holds, then-holds, then-any, bits-lt}
-use Rattle.frame.specs.Frame.{key_frame, all_slots, show_existing, frame_start, frame_modes, frame_front, buffer_removal, refresh_flags, frame_info, frame_bits, frame_header, modelled, parse_frame, removals}
+use Rattle.frame.specs.Frame.{all_slots, show_existing, frame_start, frame_modes, frame_front, buffer_removal, refresh_flags, frame_info, frame_bits, frame_header, modelled, parse_frame, removals}
+use Rattle.frame.specs.FrameType.{frame_type_of, is_key}
 use Rattle.frame.specs.declared.frame_header.FrameStart.{FrameStart}
 use Rattle.frame.specs.declared.frame_header.FrameFront.{FrameFront}
 use Rattle.frame.specs.declared.frame_header.FrameInfo.{FrameInfo}
@@ -49,13 +49,11 @@ field_fits s p false n = record { width = pow_pos n; off = λ e. refl }
 
 -- what the first fields say of each other
 pub record StartIs (f : FrameStart) : Type 0 where
-  pub type : f.frame_type < 4
-  pub showable : f.show_frame ≡ true → f.showable_frame ≡ not (eqb f.frame_type key_frame)
+  pub showable : f.show_frame ≡ true → f.showable_frame ≡ not (is_key f.frame_type)
 
 -- what a frame's fields say of each other
 pub record FrameIs (f : FrameInfo) : Type 0 where
-  pub type : f.frame_type < 4
-  pub showable : f.show_frame ≡ true → f.showable_frame ≡ not (eqb f.frame_type key_frame)
+  pub showable : f.show_frame ≡ true → f.showable_frame ≡ not (is_key f.frame_type)
   pub flags : f.refresh_frame_flags < 256
 
 -- either kind of frame header
@@ -75,13 +73,13 @@ shown-is shown showable other h e = rw (e, h.off (ap not e)) (by-other other)
 pub start-holds : (s : List ℕ) (p : ℕ) (strict : Bool) (o : Opening) → Holds StartIs (run (frame_start strict o) s p)
 unfolding run frame_start
 start-holds s p strict o =
-    then-holds (λ v. v < 4) StartIs (read_bits s p 2) _ (bits-lt s p 2) (λ type p t.
+    then-any StartIs (read_bits s p 2) _ (λ type p.
     then-any StartIs (read_bits s p 1) _ (λ shown p.
     pick-both (Holds StartIs) (strict && (eqb shown 1 && has_point_info o)) tt (
     then-any StartIs (pick (eqb shown 1 && has_point_info o) (read_bits s p (o.model.frame_presentation_time_length_minus_1 + 1)) (reads 0 p)) _ (λ time p.
     then-holds (Fits (not (eqb shown 1)) 1) StartIs (pick (not (eqb shown 1)) (read_bits s p 1) (reads 0 p)) _ (field_fits s p (not (eqb shown 1)) 1) (λ showable p e.
-    then-any StartIs (pick (not (all_slots type (eqb shown 1))) (read_bits s p 1) (reads 0 p)) _ (λ resilient p.
-    record { type = t; showable = shown-is shown showable (not (eqb type key_frame)) e }))))))
+    then-any StartIs (pick (not (all_slots (frame_type_of type) (eqb shown 1))) (read_bits s p 1) (reads 0 p)) _ (λ resilient p.
+    record { showable = shown-is shown showable (not (is_key (frame_type_of type))) e }))))))
 
 -- and so are they with what follows them
 pub front-holds : (s : List ℕ) (p : ℕ) (strict : Bool) (h : SequenceHeader) → Holds (λ x. StartIs x.start) (run (frame_front strict h) s p)
@@ -113,7 +111,7 @@ module _ (s : List ℕ) (h : SequenceHeader) (n : ℕ) where
   info-holds p =
       then-holds (λ (x : FrameFront). StartIs x.start) FrameIs (run (frame_front true h) s p) _ (front-holds s p true h) (λ x p i.
       then-holds (λ v. v < 256) FrameIs (run (refresh_flags h.opening.model n x.start) s p) _ (flags-hold p x.start) (λ flags p l.
-      record { type = i.type; showable = i.showable; flags = l }))
+      record { showable = i.showable; flags = l }))
 
   -- and either kind of frame header, from its first bit on
   pub bits-hold : (p : ℕ) → Holds HeaderIs (run (frame_bits h n) s p)
@@ -159,5 +157,5 @@ module _ (q : Sequence) (s : List ℕ) where
     flags-lt = is.flags
 
     -- a shown frame that is no key is showable
-    pub shown-showable : f.show_frame ≡ true → (f.frame_type ≡ key_frame → ⊥) → f.showable_frame ≡ true
-    shown-showable h t = is.showable h ∙ ap not (ne_eqb _ _ t)
+    pub shown-showable : f.show_frame ≡ true → is_key f.frame_type ≡ false → f.showable_frame ≡ true
+    shown-showable h t = is.showable h ∙ ap not t

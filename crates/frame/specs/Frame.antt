@@ -1,11 +1,11 @@
 -- AV1 5.9.2 uncompressed_header up to refresh_frame_flags, under a sequence header.
 use Rattle.std.specs.Prelude.{ℕ, ◌+◌, ◌*◌, ◌/◌, ◌%◌, ◌^◌, List, Bool, true, not, ◌&&◌, ◌||◌, cond as pick, eqb}
-use Rattle.bitio.specs.Parse.{Answer, refused, accepted, and_next}
+use Rattle.bitio.specs.Parse.{Answer, and_next}
 use Rattle.bitio.specs.Bits.{Reading, fails}
 use Rattle.obu.specs.Unit.{count}
 use Rattle.syntax.specs.Syntax.{Syntax, done, field, refuse, branch, sub, read_over, run}
 use Rattle.syntax.specs.Repeat.{times}
-use Rattle.header.specs.Fields.{answer_of}
+use Rattle.bitio.specs.Fields.{answer_of}
 use Rattle.header.specs.SequenceCoding.{select}
 use Rattle.header.specs.Sequence.{Sequence, parse_sequence}
 use Rattle.header.specs.Support.{has_point_info}
@@ -20,25 +20,11 @@ use Rattle.frame.specs.declared.frame_header.FrameFront.{FrameFront}
 use Rattle.frame.specs.declared.frame_header.FrameInfo.{FrameInfo}
 use Rattle.frame.specs.declared.frame_header.FrameHeaderInfo.{FrameHeaderInfo}
 use Rattle.frame.specs.declared.frame_header.FrameHeaderInfo.TheVariants.{Existing, Frame}
-use Rattle.frame.specs.declared.frame_header.FrameAnswer.{FrameAnswer}
-use Rattle.frame.specs.declared.frame_header.FrameAnswer.TheVariants.{Header, Refused}
-
--- AV1 6.8.2 frame_type
-abbrev pub key_frame : ℕ
-key_frame = 0
-
-abbrev pub intra_only_frame : ℕ
-intra_only_frame = 2
-
-abbrev pub switch_frame : ℕ
-switch_frame = 3
+use Rattle.frame.specs.FrameType.{FrameType, frame_type_of, is_key, is_intra, is_switch}
 
 -- switch frames and shown keys are error resilient and refresh all slots, without a bit
-abbrev pub all_slots : ℕ → Bool → Bool
-all_slots type shown = eqb type switch_frame || (eqb type key_frame && shown)
-
-abbrev pub is_intra : ℕ → Bool
-is_intra type = eqb type intra_only_frame || eqb type key_frame
+abbrev pub all_slots : FrameType → Bool → Bool
+all_slots type shown = is_switch type || (is_key type && shown)
 
 -- AV1 6.8.2 primary_ref_frame: PRIMARY_REF_NONE
 abbrev pub primary_none : ℕ
@@ -73,7 +59,7 @@ show_existing point_info =
 abbrev pub show_byte : ℕ → ℕ
 show_byte slot = 128 + 16 * slot + 8
 
-abbrev pub start_of : ℕ → Bool → Bool → Bool → FrameStart
+abbrev pub start_of : FrameType → Bool → Bool → Bool → FrameStart
 start_of type shown showable resilient =
     record { frame_type = type; show_frame = shown; showable_frame = showable; error_resilient_mode = resilient }
 
@@ -85,12 +71,12 @@ frame_start strict o =
     refuse (strict && (eqb shown 1 && has_point_info o)) 19 (
     field (eqb shown 1 && has_point_info o) (o.model.frame_presentation_time_length_minus_1 + 1) (λ time.
     field (not (eqb shown 1)) 1 (λ showable.
-    field (not (all_slots type (eqb shown 1))) 1 (λ resilient.
+    field (not (all_slots (frame_type_of type) (eqb shown 1))) 1 (λ resilient.
     done (start_of
-    type
+    (frame_type_of type)
     (eqb shown 1)
-    ((eqb shown 1 && not (eqb type key_frame)) || eqb showable 1)
-    (all_slots type (eqb shown 1) || eqb resilient 1))))))))
+    ((eqb shown 1 && not (is_key (frame_type_of type))) || eqb showable 1)
+    (all_slots (frame_type_of type) (eqb shown 1) || eqb resilient 1))))))))
 
 -- the sequence header's word, or the frame's own bit where it leaves that to each frame
 abbrev pub chosen : ℕ → ℕ → Bool
@@ -113,14 +99,14 @@ frame_modes c f =
     field true 1 (λ disable.
     field (eqb c.screen.seq_force_screen_content_tools select) 1 (λ tools.
     field (chosen c.screen.seq_force_screen_content_tools tools && eqb c.screen.seq_force_integer_mv select) 1 (λ mv.
-    field (not (eqb f.frame_type switch_frame)) 1 (λ over.
+    field (not (is_switch f.frame_type)) 1 (λ over.
     field c.tools.enable_order_hint (c.screen.order_hint_bits_minus_1 + 1) (λ hint.
     field (not (is_intra f.frame_type) && not f.error_resilient_mode) 3 (λ primary.
     done (modes_of
     (eqb disable 1)
     (chosen c.screen.seq_force_screen_content_tools tools)
     (is_intra f.frame_type || (chosen c.screen.seq_force_screen_content_tools tools && chosen c.screen.seq_force_integer_mv mv))
-    (eqb f.frame_type switch_frame || eqb over 1)
+    (is_switch f.frame_type || eqb over 1)
     hint
     (pick (not (is_intra f.frame_type) && not f.error_resilient_mode) primary primary_none))))))))
 
@@ -135,7 +121,7 @@ frame_front strict h =
     done (front_of f m)))
 
 -- buffer_removal_time_present_flag, with decoder model info, and n removal times
-unfoldable pub buffer_removal : DecoderModelInfo → ℕ → Syntax ℕ
+unfoldable pub buffer_removal : DecoderModelInfo → ℕ → Syntax (Unit {0})
 buffer_removal m n =
     field m.decoder_model_info_present 1 (λ present.
     sub (times (pick (eqb present 1) n 0) (field true (m.buffer_removal_time_length_minus_1 + 1) (λ time. read_over))) (λ last.
@@ -198,8 +184,3 @@ parse_frame q f = answer_of (read_frame q f)
 -- the same of the two payloads: first the sequence header is read, with its 14 to 16
 unfoldable pub parse_frame_from : List ℕ → List ℕ → Answer FrameHeaderInfo
 parse_frame_from s f = and_next (parse_sequence s) (λ q. parse_frame q f)
-
--- 01's number and values for each case of FrameAnswer
-abbrev pub frame_says : FrameAnswer → Answer FrameHeaderInfo
-frame_says (Header x) = accepted x
-frame_says (Refused k) = refused k

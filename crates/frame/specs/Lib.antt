@@ -1,3 +1,4 @@
+pub mod FrameType
 pub mod Frame
 pub mod Refresh
 pub mod UnitFrame

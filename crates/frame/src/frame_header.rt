@@ -1,19 +1,65 @@
 // The frame header (AV1 5.9.2), up to refresh_frame_flags.
+ghost use Rattle.std.specs.Prelude.{◌≡◌, ◌<◌};
+ghost use Rattle.frame.specs.FrameType.{frame_type_of, type_number, is_key, is_intra, is_switch};
+
 pub mod read;
 pub mod sections;
 
-pub const KEY_FRAME: u64 = 0;
-
-pub const INTRA_ONLY_FRAME: u64 = 2;
-
-pub const SWITCH_FRAME: u64 = 3;
-
 pub const PRIMARY_REF_NONE: u64 = 7;
+
+// frame_type (AV1 6.8.2).
+#[derive(Clone, Copy)]
+pub enum FrameType {
+    Key = 0,
+    Inter = 1,
+    IntraOnly = 2,
+    Switch = 3,
+}
+
+impl FrameType {
+    // That of two bits.
+    pub fn of_bits(bits: u64) -> FrameType
+        ensures { result ≡ frame_type_of bits }
+    {
+        match bits {
+            0 => FrameType::Key,
+            1 => FrameType::Inter,
+            2 => FrameType::IntraOnly,
+            _ => FrameType::Switch,
+        }
+    }
+
+    pub fn is_key(self) -> bool
+        ensures { result ≡ is_key self }
+    {
+        matches!(self, FrameType::Key)
+    }
+
+    pub fn is_switch(self) -> bool
+        ensures { result ≡ is_switch self }
+    {
+        matches!(self, FrameType::Switch)
+    }
+
+    pub fn is_intra(self) -> bool
+        ensures { result ≡ is_intra self }
+    {
+        matches!(self, FrameType::Key | FrameType::IntraOnly)
+    }
+}
+
+impl From<FrameType> for u64 {
+    ghost from_gives = { λ t n. n ≡ type_number t };
+
+    fn from(t: FrameType) -> u64 {
+        t as u64
+    }
+}
 
 // The first fields of a frame that is not shown again.
 #[derive(Clone, Copy)]
 pub struct FrameStart {
-    pub frame_type: u64,
+    pub frame_type: FrameType,
     pub show_frame: bool,
     pub showable_frame: bool,
     pub error_resilient_mode: bool,
@@ -40,7 +86,7 @@ pub struct FrameFront {
 // What a frame's own header says of it.
 #[derive(Clone, Copy)]
 pub struct FrameInfo {
-    pub frame_type: u64,
+    pub frame_type: FrameType,
     pub show_frame: bool,
     pub showable_frame: bool,
     pub refresh_frame_flags: u64,
@@ -52,11 +98,4 @@ pub enum FrameHeaderInfo {
     // show_existing_frame: the slot shown
     Existing(u64),
     Frame(FrameInfo),
-}
-
-#[derive(Clone, Copy)]
-pub enum FrameAnswer {
-    Header(FrameHeaderInfo),
-    // document 01's number
-    Refused(u32),
 }

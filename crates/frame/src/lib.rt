@@ -2,4 +2,5 @@
 #![tactic(auto)]
 
 pub mod frame_header;
+pub mod refresh;
 pub mod unit_frame;

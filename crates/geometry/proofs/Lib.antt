@@ -1,2 +1,1 @@
-mod SizeLaws
 mod TileLaws

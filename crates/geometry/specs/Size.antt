@@ -1,12 +1,11 @@
 -- AV1 5.9.5 to 5.9.8: the size of a frame.
-use Rattle.std.specs.Prelude.{ℕ, ◌+◌, ◌*◌, ◌/◌, List, Bool, true, false, not, ◌||◌, cond as pick, eqb, get_or}
+use Rattle.std.specs.Prelude.{ℕ, ◌+◌, ◌*◌, ◌/◌, List, Bool, true, not, cond as pick, eqb, get_or, Option, Some, None, is_some}
 use Rattle.syntax.specs.Syntax.{Syntax, done, field, branch, sub}
 use Rattle.syntax.specs.Repeat.{repeat}
 use Rattle.geometry.specs.Slots.{empty_slot}
 use Rattle.geometry.specs.declared.slots.RefSlot.{RefSlot}
 use Rattle.geometry.specs.declared.size.SizeRules.{SizeRules}
 use Rattle.geometry.specs.declared.size.Size.{Size}
-use Rattle.geometry.specs.declared.size.Sought.{Sought}
 
 -- AV1 5.9.5 to 5.9.8: UpscaledWidth, FrameWidth, FrameHeight, RenderWidth and RenderHeight
 abbrev pub size_of : ℕ → ℕ → ℕ → ℕ → ℕ → Size
@@ -75,21 +74,22 @@ frame_and_render_size rules over =
     sub (render_size z) (λ z.
     done z))
 
--- AV1 5.9.7: whether a reference was found, and its slot
-abbrev pub sought_of : Bool → ℕ → Sought
-sought_of found which = record { found = found; which = which }
+-- AV1 5.9.7 found_ref, of reference i: asked up to the first that has the frame's size, whose slot is kept
+unfoldable pub found_ref : List ℕ → ℕ → Option ℕ → Syntax (Option ℕ)
+found_ref refs i found =
+    field (not (is_some found)) 1 (λ b.
+    done (pick (eqb b 1) (Some (get_or refs i 0)) found))
 
--- AV1 5.9.7 found_ref, of reference i: asked up to the first that has the frame's size
-unfoldable pub found_ref : List ℕ → ℕ → Sought → Syntax Sought
-found_ref refs i x =
-    field (not x.found) 1 (λ b.
-    done (sought_of (x.found || eqb b 1) (pick (eqb b 1) (get_or refs i 0) x.which)))
+-- AV1 5.9.7: the size of a frame, by the slot of the reference that has it, if one does
+unfoldable pub size_by_ref : SizeRules → Bool → List RefSlot → Option ℕ → Syntax Size
+size_by_ref rules over slots (Some i) = superres_params rules.enable_superres (slot_size (get_or slots i empty_slot))
+size_by_ref rules over slots None = frame_and_render_size rules over
 
 -- AV1 5.9.7 frame_size_with_refs; refs: ref_frame_idx
 unfoldable pub frame_size_with_refs : SizeRules → Bool → List ℕ → List RefSlot → Syntax Size
 frame_size_with_refs rules over refs slots =
-    sub (repeat (found_ref refs) 0 7 (sought_of false 0)) (λ x.
-    branch x.found (superres_params rules.enable_superres (slot_size (get_or slots x.which empty_slot))) (frame_and_render_size rules over) (λ z.
+    sub (repeat (found_ref refs) 0 7 None) (λ found.
+    sub (size_by_ref rules over slots found) (λ z.
     done z))
 
 -- AV1 5.9.2: the size of a frame; by_refs: frame_size_override_flag, and the frame is not error resilient

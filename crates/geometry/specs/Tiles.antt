@@ -65,7 +65,7 @@ abbrev pub several : TileLogs → Bool
 several x = ltb 0 x.cols_log2 || ltb 0 x.rows_log2
 
 -- AV1 5.9.15 tile_info; id: context_update_tile_id; bytes: tile_size_bytes_minus_1
-unfoldable pub tile_info : Size → Bool → Syntax ℕ
+unfoldable pub tile_info : Size → Bool → Syntax (Unit {0})
 tile_info z use128x128 =
     field true 1 (λ uniform.
     sub (tile_logs (eqb uniform 1) (tile_limits z use128x128)) (λ x.

@@ -5,7 +5,6 @@ ghost use Rattle.geometry.specs.code.Sizes.{SizeFits};
 ghost use Rattle.geometry.specs.code.Tiles.{LimitsFit};
 
 use crate::size::Size;
-use syntax::choice::{either, greater, lesser};
 
 const MAX_TILE_WIDTH: u64 = 4096;
 
@@ -30,16 +29,22 @@ pub struct TileLimits {
 
 fn superblocks(n: u64, use_128x128: bool) -> u64
     requires { n < 2 ^ 32 }
-    ensures { (result ≡ spec.superblocks n use_128x128) × (result ≤ 2 ^ 26) }
+    ensures gives { result ≡ spec.superblocks n use_128x128 }
+    ensures few { result ≤ 2 ^ 26 }
 {
     let mi = 2 * ((n + 7) / 8);
-    either(use_128x128, (mi + 31) / 32, (mi + 15) / 16)
+    if use_128x128 {
+        (mi + 31) / 32
+    } else {
+        (mi + 15) / 16
+    }
 }
 
 // The least k for which blk << k is target or more.
 pub fn tile_log2(blk: u64, target: u64) -> u64
     requires { (1 ≤ blk) × (target ≤ 2 ^ 52) }
-    ensures { (result ≡ spec.tile_log2 blk target) × (result ≤ 52) }
+    ensures gives { result ≡ spec.tile_log2 blk target }
+    ensures few { result ≤ 52 }
 {
     let mut size = blk;
     let mut k: u64 = 0;
@@ -50,34 +55,39 @@ pub fn tile_log2(blk: u64, target: u64) -> u64
     k
 }
 
+#[tactic(auto, unfolding(crate::specs::TileLimits::limits_for))]
 fn limits_for(sb_cols: u64, sb_rows: u64, sb_size: u64) -> TileLimits
     requires { ((sb_cols ≤ 2 ^ 26) × (sb_rows ≤ 2 ^ 26)) × (sb_size ≤ 7) }
-    ensures { (result ≡ spec.limits_for sb_cols sb_rows sb_size) × LimitsFit result }
+    ensures gives { result ≡ spec.limits_for sb_cols sb_rows sb_size }
+    ensures fits { LimitsFit result }
 {
     let sbs = sb_rows * sb_cols;
     let max_tile_width_sb = MAX_TILE_WIDTH >> sb_size;
     let min_log2_tile_cols = tile_log2(max_tile_width_sb, sb_cols);
-    let min_log2_tiles = greater(
-        min_log2_tile_cols,
-        tile_log2(MAX_TILE_AREA >> (2 * sb_size), sbs),
-    );
+    let min_log2_tiles = min_log2_tile_cols.max(tile_log2(MAX_TILE_AREA >> (2 * sb_size), sbs));
     TileLimits {
         sb_cols,
         sb_rows,
         max_tile_width_sb,
-        max_tile_area: either(min_log2_tiles > 0, sbs >> (min_log2_tiles + 1), sbs),
+        max_tile_area: if min_log2_tiles > 0 {
+            sbs >> (min_log2_tiles + 1)
+        } else {
+            sbs
+        },
         min_log2_tile_cols,
-        max_log2_tile_cols: tile_log2(1, lesser(sb_cols, MAX_TILE_COLS)),
-        max_log2_tile_rows: tile_log2(1, lesser(sb_rows, MAX_TILE_ROWS)),
+        max_log2_tile_cols: tile_log2(1, sb_cols.min(MAX_TILE_COLS)),
+        max_log2_tile_rows: tile_log2(1, sb_rows.min(MAX_TILE_ROWS)),
         min_log2_tiles,
     }
 }
 
+#[tactic(auto, unfolding(crate::specs::TileLimits::tile_limits))]
 pub fn tile_limits(z: Size, use_128x128: bool) -> TileLimits
     requires { SizeFits z }
-    ensures { (result ≡ spec.tile_limits z use_128x128) × LimitsFit result }
+    ensures gives { result ≡ spec.tile_limits z use_128x128 }
+    ensures fits { LimitsFit result }
 {
     let sb_cols = superblocks(z.frame_width, use_128x128);
     let sb_rows = superblocks(z.frame_height, use_128x128);
-    limits_for(sb_cols, sb_rows, either(use_128x128, 7, 6))
+    limits_for(sb_cols, sb_rows, if use_128x128 { 7 } else { 6 })
 }

@@ -1,6 +1,7 @@
 // tile_info (AV1 5.9.15), of which nothing is kept.
-ghost use Rattle.std.specs.Prelude.{◌≡◌, ◌≤◌, ◌^◌, ◌-◌, ◌/◌, max};
-ghost use Rattle.syntax.specs.code.Cursor.{follow, here};
+ghost use Rattle.std.specs.Prelude.{◌≡◌, ◌≤◌, ◌^◌, ◌/◌, max, IfOk};
+ghost use Rattle.bitio.specs.Read.{reading};
+ghost use Rattle.syntax.specs.Syntax.{run};
 ghost use Rattle.geometry.specs.Tiles as spec;
 ghost use Rattle.geometry.specs.code.Sizes.{SizeFits};
 ghost use Rattle.geometry.specs.code.Tiles.{LimitsFit, LogsFit};
@@ -8,8 +9,8 @@ ghost use Rattle.geometry.specs.code.Tiles.{LimitsFit, LogsFit};
 use crate::size::Size;
 use crate::tile_limits;
 use crate::tile_limits::{TileLimits, tile_log2};
-use syntax::choice::{greater, lesser};
-use syntax::cursor::{Cursor, Got};
+use bitio::reader::{BitReader, Read};
+use bitio::refusal::Refusal;
 use syntax::near;
 
 // Columns or rows whose sizes were read: where the next starts, the widest, and how many.
@@ -21,150 +22,110 @@ pub struct Tiles {
 }
 
 #[derive(Clone, Copy)]
-struct TilesAt {
-    pub tiles: Tiles,
-    pub at: Cursor,
-}
-
-#[derive(Clone, Copy)]
 pub struct TileLogs {
     pub cols_log2: u64,
     pub rows_log2: u64,
 }
 
-#[derive(Clone, Copy)]
-struct TileLogsAt {
-    pub logs: TileLogs,
-    pub at: Cursor,
-}
-
-fn minus(a: u64, b: u64) -> u64
-    ensures { result ≡ a - b }
-{
-    if b < a { a - b } else { 0 }
-}
-
-fn increments(c: Cursor, s: &[u8], least: u64, most: u64) -> Got
+fn increments(r: BitReader, s: &[u8], least: u64, most: u64) -> Read<u64>
     requires { (least ≤ 52) × (most ≤ 52) }
-    ensures { (here result.v result.at ≡ follow (spec.increments least most) s.now c) × (result.v ≤ 104) }
+    ensures read { reading result ≡ run (spec.increments least most) s.now r.pos }
+    ensures few { IfOk result (λ x. x.0 ≤ 104) }
 {
-    let n = minus(most, least);
-    let mut at = c;
+    let mut reader = r;
     let mut log2 = least;
-    let mut i: u64 = 0;
-    while i < n {
-        let b = at.f_if(s, log2 == least + i, 1);
-        log2 += b.v;
-        at = b.at;
-        i += 1;
+    for i in 0..most.saturating_sub(least) {
+        let (b, r) = reader.f_if(s, log2 == least + i, 1)?;
+        log2 += b;
+        reader = r;
     }
-    Got { v: log2, at }
+    Ok((log2, reader))
 }
 
-fn tile_sizes(c: Cursor, s: &[u8], sbs: u64, most: u64) -> TilesAt
+fn tile_sizes(r: BitReader, s: &[u8], sbs: u64, most: u64) -> Read<Tiles>
     requires { (sbs ≤ 2 ^ 26) × (1 ≤ most) }
-    ensures { (here result.tiles result.at ≡ follow (spec.tile_sizes sbs most) s.now c) × (result.tiles.count ≤ sbs) }
+    ensures read { reading result ≡ run (spec.tile_sizes sbs most) s.now r.pos }
+    ensures few { IfOk result (λ x. x.0.count ≤ sbs) }
 {
-    let mut at = c;
-    let mut start_sb: u64 = 0;
-    let mut widest_sb: u64 = 0;
-    let mut count: u64 = 0;
-    while start_sb < sbs {
-        let v = near::ns(at, s, lesser(sbs - start_sb, most));
-        let size_sb = v.v + 1;
-        widest_sb = greater(widest_sb, size_sb);
-        start_sb += size_sb;
-        count += 1;
-        at = v.at;
+    let mut reader = r;
+    let mut t = Tiles {
+        start_sb: 0,
+        widest_sb: 0,
+        count: 0,
+    };
+    while t.start_sb < sbs {
+        let (size_minus_1, r) = near::ns(reader, s, (sbs - t.start_sb).min(most))?;
+        let size_sb = size_minus_1 + 1;
+        t = Tiles {
+            start_sb: t.start_sb + size_sb,
+            widest_sb: t.widest_sb.max(size_sb),
+            count: t.count + 1,
+        };
+        reader = r;
     }
-    TilesAt {
-        tiles: Tiles {
-            start_sb,
-            widest_sb,
-            count,
-        },
-        at,
-    }
+    Ok((t, reader))
 }
 
-// Where no column has a width, 1: the frame is refused by then.
-fn max_height(area: u64, widest_sb: u64) -> u64
-    ensures { result ≡ max (area / widest_sb) 1 }
-{
-    if widest_sb == 0 {
-        return 1;
-    }
-    greater(area / widest_sb, 1)
-}
-
-fn uniform_tiles(c: Cursor, s: &[u8], l: TileLimits) -> TileLogsAt
+#[tactic(auto, unfolding(syntax::specs::Syntax::run, crate::specs::Tiles::uniform_tiles))]
+fn uniform_tiles(r: BitReader, s: &[u8], l: TileLimits) -> Read<TileLogs>
     requires { LimitsFit l }
-    ensures { (here result.logs result.at ≡ follow (spec.uniform_tiles l) s.now c) × LogsFit result.logs }
+    ensures read { reading result ≡ run (spec.uniform_tiles l) s.now r.pos }
+    ensures fits { IfOk result (λ x. LogsFit x.0) }
 {
-    let cols = increments(c, s, l.min_log2_tile_cols, l.max_log2_tile_cols);
-    let rows = increments(
-        cols.at,
-        s,
-        minus(l.min_log2_tiles, cols.v),
-        l.max_log2_tile_rows,
-    );
-    let at = rows.at;
-    TileLogsAt {
-        logs: TileLogs {
-            cols_log2: cols.v,
-            rows_log2: rows.v,
+    let (cols_log2, r) = increments(r, s, l.min_log2_tile_cols, l.max_log2_tile_cols)?;
+    let least = l.min_log2_tiles.saturating_sub(cols_log2);
+    let (rows_log2, r) = increments(r, s, least, l.max_log2_tile_rows)?;
+    Ok((
+        TileLogs {
+            cols_log2,
+            rows_log2,
         },
-        at,
-    }
+        r,
+    ))
 }
 
-fn explicit_tiles(c: Cursor, s: &[u8], l: TileLimits) -> TileLogsAt
+#[tactic(auto, unfolding(syntax::specs::Syntax::run, crate::specs::Tiles::explicit_tiles))]
+fn explicit_tiles(r: BitReader, s: &[u8], l: TileLimits) -> Read<TileLogs>
     requires { LimitsFit l }
-    ensures { (here result.logs result.at ≡ follow (spec.explicit_tiles l) s.now c) × LogsFit result.logs }
+    ensures read { reading result ≡ run (spec.explicit_tiles l) s.now r.pos }
+    ensures fits { IfOk result (λ x. LogsFit x.0) }
 {
-    let x = tile_sizes(c, s, l.sb_cols, l.max_tile_width_sb);
-    let cols = x.tiles;
-    let some = x.at.refuse_if(cols.widest_sb == 0, 14);
-    let y = tile_sizes(
-        some,
-        s,
-        l.sb_rows,
-        max_height(l.max_tile_area, cols.widest_sb),
-    );
-    let rows = y.tiles;
-    let at = y.at;
-    TileLogsAt {
-        logs: TileLogs {
-            cols_log2: tile_log2(1, cols.count),
-            rows_log2: tile_log2(1, rows.count),
-        },
-        at,
+    let (cols, r) = tile_sizes(r, s, l.sb_cols, l.max_tile_width_sb)?;
+    if cols.widest_sb == 0 {
+        return Err(Refusal::BitsRunOut);
     }
+    let max_height = (l.max_tile_area / cols.widest_sb).max(1);
+    let (rows, r) = tile_sizes(r, s, l.sb_rows, max_height)?;
+    let logs = TileLogs {
+        cols_log2: tile_log2(1, cols.count),
+        rows_log2: tile_log2(1, rows.count),
+    };
+    Ok((logs, r))
 }
 
-fn tile_logs(c: Cursor, s: &[u8], uniform: bool, l: TileLimits) -> TileLogsAt
+#[tactic(auto, unfolding(syntax::specs::Syntax::run, crate::specs::Tiles::tile_logs))]
+fn tile_logs(r: BitReader, s: &[u8], uniform: bool, l: TileLimits) -> Read<TileLogs>
     requires { LimitsFit l }
-    ensures { (here result.logs result.at ≡ follow (spec.tile_logs uniform l) s.now c) × LogsFit result.logs }
+    ensures read { reading result ≡ run (spec.tile_logs uniform l) s.now r.pos }
+    ensures fits { IfOk result (λ x. LogsFit x.0) }
 {
     if uniform {
-        return uniform_tiles(c, s, l);
+        uniform_tiles(r, s, l)
+    } else {
+        explicit_tiles(r, s, l)
     }
-    explicit_tiles(c, s, l)
 }
 
-pub fn tile_info(c: Cursor, s: &[u8], z: Size, use_128x128: bool) -> Got
+#[tactic(auto, unfolding(syntax::specs::Syntax::run, crate::specs::Tiles::tile_info))]
+pub fn tile_info(r: BitReader, s: &[u8], z: Size, use_128x128: bool) -> Read<()>
     requires { SizeFits z }
-    ensures { here result.v result.at ≡ follow (spec.tile_info z use_128x128) s.now c }
+    ensures { reading result ≡ run (spec.tile_info z use_128x128) s.now r.pos }
 {
     let l = tile_limits::tile_limits(z, use_128x128);
-    let uniform = c.f(s, 1);
-    let x = tile_logs(uniform.at, s, uniform.v == 1, l);
-    let logs = x.logs;
-    let several = (logs.cols_log2 > 0) | (logs.rows_log2 > 0);
-    let id = x
-        .at
-        .f_if(s, several, (logs.cols_log2 + logs.rows_log2) as usize);
-    let bytes = id.at.f_if(s, several, 2);
-    let at = bytes.at;
-    Got { v: 0, at }
+    let (uniform, r) = r.f(s, 1)?;
+    let (logs, r) = tile_logs(r, s, uniform == 1, l)?;
+    let several = logs.cols_log2 > 0 || logs.rows_log2 > 0;
+    let (_id, r) = r.f_if(s, several, (logs.cols_log2 + logs.rows_log2) as usize)?;
+    let (_bytes, r) = r.f_if(s, several, 2)?;
+    Ok(((), r))
 }

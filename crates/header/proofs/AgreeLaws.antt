@@ -10,7 +10,7 @@ use borrow.Author.Tests.{le-leb}
 use Rattle.bitio.specs.Bits.{Reading, fails, reads, and_then, read_bits}
 use Rattle.bitio.specs.Uvlc.{zero_or_end, leading_zeros, uvlc_suffix, uvlc, spec_uvlc}
 use Rattle.bitio.proofs.UvlcLaws.{Not16, uvlc-agrees}
-use Rattle.header.specs.Fields.{read_flag, read_or, flag_or, uvlc_or}
+use Rattle.bitio.specs.Fields.{read_flag, read_or, flag_or, uvlc_or}
 use Rattle.header.specs.SequenceRules.{Rules, ours, av1}
 use Rattle.header.specs.SequenceOpening.{timing_info, decoder_model_info, opening}
 use Rattle.header.specs.SequencePoints.{operating_points, point_count}

@@ -2,7 +2,6 @@ pub mod LimitedLaws
 pub mod ReadLaws
 pub mod PointLaws
 pub mod WithinLaws
-pub mod ParseLaws
 pub mod SupportLaws
 pub mod TimedLaws
 pub mod AgreeLaws

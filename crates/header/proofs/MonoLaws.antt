@@ -8,8 +8,7 @@ use mathlib.Core.List.{List}
 use mathlib.Core.Bool.{Bool, true, false, not, cond as pick}
 use Rattle.bitio.specs.Parse.{refused, accepted, and_next}
 use Rattle.bitio.specs.Bits.{Reading, fails, reads, and_then}
-use Rattle.header.specs.Fields.{read_flag, read_or, flag_or}
-use Rattle.header.specs.code.ReadSays.{refusal_of}
+use Rattle.bitio.specs.Fields.{read_flag, read_or, flag_or}
 use Rattle.header.specs.SequenceRules.{ours, av1}
 use Rattle.header.specs.SequenceOpening.{opening}
 use Rattle.header.specs.SequencePoints.{operating_points, point_count}
@@ -62,6 +61,11 @@ read-on : {A B C : Type 0} (x : Reading A) (k : A → ℕ → Reading B) (l : A 
     → ((a : A) (p : ℕ) → k a p ≡ reads b q → l a p ≡ y) → and_then x l ≡ y
 read-on (fails n) k l e f = let z : ◌≡◌ {A = ℕ} 0 1 = cc in absurd (omega arith)
 read-on (reads a p) k l e f = f a p e
+
+-- the number of a refusal
+abbrev refusal_of : {A : Type 0} → Reading A → ℕ
+refusal_of (fails k) = k
+refusal_of (reads a p) = 0
 
 -- where a reading ended
 abbrev end_of : {A : Type 0} → ℕ → Reading A → ℕ

@@ -3,22 +3,18 @@ use Prim.Native.Nat.{ℕ, zero, suc, ◌+◌, ◌-◌, ◌≤◌, ◌<◌}
 use native.Mathlib.Omega.{arith}
 use native.Mathlib.Numerals.{add-one}
 use mathlib.Core.Path.{◌≡◌, refl, ap, ◌∙◌}
-use mathlib.Core.List.{List, [], ◌∷◌, ◌++◌}
+use mathlib.Core.List.{List, ◌∷◌, ◌++◌}
 use lib.ListN.{length, set, drop, replicate}
 use lib.Seq.{sets, sets-eq}
 use Rattle.bitio.specs.Bits.{Reading, fails, reads, and_then}
 use Rattle.header.specs.SequencePoints.{operating_point, operating_points, no_point, padded}
-use Rattle.header.specs.code.ReadSays.{points_read}
 use Rattle.header.specs.declared.seq_header.Opening.{Opening}
 use Rattle.header.specs.declared.seq_header.OperatingPoint.{OperatingPoint}
-use Rattle.header.specs.declared.seq_header.read_points.Points.{Points}
-use Rattle.header.specs.declared.seq_header.read_points.PointsAnswer.TheVariants.{Done, Refused}
 use Rattle.header.proofs.ReadLaws.{Holds, then-any, then-holds}
 
 -- what is read into the array ps from place i on
-abbrev pub filled : List OperatingPoint → ℕ → Reading (List OperatingPoint) → Points
-filled ps i (fails k) = record { answer = Refused k; list = padded [] }
-filled ps i (reads xs p) = record { answer = Done (record { pos = p }); list = sets ps i xs }
+abbrev pub filled : List OperatingPoint → ℕ → Reading (List OperatingPoint) → Reading (List OperatingPoint)
+filled ps i x = and_then x (λ xs p. reads (sets ps i xs) p)
 
 module _ (s : List ℕ) (o : Opening) where
   -- there are as many as asked
@@ -45,12 +41,12 @@ module _ (s : List ℕ) (o : Opening) where
           go (reads xs r) = refl
 
       -- it is cut off
-      pub fill-short : operating_point s p o ≡ fails 14 → filled ps i (operating_points (count - i) s p o) ≡ record { answer = Refused 14; list = padded [] }
+      pub fill-short : (e : ℕ) → operating_point s p o ≡ fails e → filled ps i (operating_points (count - i) s p o) ≡ fails e
       unfolding operating_points
-      fill-short e = rw (left, e)
+      fill-short e h = rw (left, h)
 
     -- none is left
-    pub fill_end : count ≤ i → filled ps i (operating_points (count - i) s p o) ≡ record { answer = Done (record { pos = p }); list = ps }
+    pub fill_end : count ≤ i → filled ps i (operating_points (count - i) s p o) ≡ reads ps p
     unfolding operating_points
     fill_end h = let z : count - i ≡ 0 = omega arith in rw z
 
@@ -62,16 +58,16 @@ drop-replicate (suc k) (suc m) x h =
     drop-replicate k m x (omega arith) ∙ ap (λ j. replicate j x) e
 
 -- up to 32 of them in an array of zeros, and zeros behind them
-pub fill_start : (k p : ℕ) (s : List ℕ) (o : Opening) {ps : List OperatingPoint} → ps ≡ replicate 32 no_point → k ≤ 32
-    → filled ps 0 (operating_points k s p o) ≡ points_read (operating_points k s p o)
+pub fill_start : (k p : ℕ) (s : List ℕ) (o : Opening) {x : OperatingPoint} → x ≡ no_point → k ≤ 32
+    → filled (replicate 32 x) 0 (operating_points k s p o) ≡ and_then (operating_points k s p o) (λ xs p. reads (padded xs) p)
 unfolding padded
 fill_start k p s o z h = rw z (go (operating_points k s p o) (points-count s o k p))
   where
-    go : (y : Reading (List OperatingPoint)) → Holds (λ xs. length xs ≡ k) y → filled (replicate 32 no_point) 0 y ≡ points_read y
+    go : (y : Reading (List OperatingPoint)) → Holds (λ xs. length xs ≡ k) y → filled (replicate 32 no_point) 0 y ≡ and_then y (λ xs p. reads (xs ++ replicate (32 - length xs) no_point) p)
     go (fails j) e = refl
     go (reads xs q) e =
         let z : 0 + length xs ≡ length xs = omega arith in
-        ap (λ l. record { answer = Done (record { pos = q }); list = l })
+        ap (λ l. reads l q)
         (sets-eq xs (replicate 32 no_point) 0 (omega arith)
         ∙ ap (λ j. xs ++ drop j (replicate 32 no_point)) z
         ∙ ap (λ l. xs ++ l) (drop-replicate (length xs) 32 no_point (omega arith)))

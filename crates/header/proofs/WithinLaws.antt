@@ -6,7 +6,7 @@ use lib.Dec.{ltb, lit<}
 use borrow.Author.Tests.{ltb-false}
 use Rattle.bitio.specs.Bits.{read_bits}
 use Rattle.bitio.proofs.ParseLaws.{pick-cases}
-use Rattle.header.specs.Fields.{read_flag, read_or, flag_or}
+use Rattle.bitio.specs.Fields.{read_flag, read_or, flag_or}
 use Rattle.header.specs.SequenceRules.{Rules}
 use Rattle.header.specs.SequenceOpening.{timing_info, decoder_model_info, opening}
 use Rattle.header.specs.declared.seq_header.DecoderModelInfo.{DecoderModelInfo}

@@ -1,4 +1,3 @@
-pub mod Fields
 pub mod SequenceRules
 pub mod SequenceOpening
 pub mod SequencePoints
@@ -6,4 +5,3 @@ pub mod SequenceCoding
 pub mod Sequence
 pub mod Support
 pub mod Timed
-pub mod code

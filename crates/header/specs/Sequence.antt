@@ -1,17 +1,15 @@
 -- AV1 5.5 sequence_header_obu: the whole, as 01 reads it and as AV1 does.
-use Rattle.std.specs.Prelude.{ℕ, List, [], not, take}
-use Rattle.bitio.specs.Parse.{Answer, refused, accepted}
+use Rattle.std.specs.Prelude.{ℕ, List, not, take}
+use Rattle.bitio.specs.Parse.{Answer}
 use Rattle.bitio.specs.Bits.{Reading, reads, and_then}
-use Rattle.header.specs.Fields.{answer_of}
+use Rattle.bitio.specs.Fields.{answer_of}
 use Rattle.header.specs.SequenceRules.{Rules, ours, av1}
 use Rattle.header.specs.SequenceOpening.{opening}
 use Rattle.header.specs.SequencePoints.{operating_points, point_count, padded}
 use Rattle.header.specs.SequenceCoding.{coding}
 use Rattle.header.specs.declared.seq_header.OperatingPoint.{OperatingPoint}
 use Rattle.header.specs.declared.seq_header.SequenceHeader.{SequenceHeader}
-use Rattle.header.specs.declared.seq_header.SequenceAnswer.{SequenceAnswer}
-use Rattle.header.specs.declared.seq_header.SequenceAnswer.TheVariants.{Header, Refused}
-use Rattle.header.specs.declared.seq_header.SequenceRead.{SequenceRead}
+use Rattle.header.specs.declared.seq_header.SequenceObu.{SequenceObu}
 
 -- every field of a sequence header
 pub record Sequence : Type 0 where
@@ -38,16 +36,14 @@ spec_sequence s = sequence_header (av1 s) s 0
 unfoldable pub parse_sequence : List ℕ → Answer Sequence
 parse_sequence s = answer_of (read_sequence s)
 
--- what the code answers: points behind the last, and all after a refusal, are zero
-abbrev pub sequence_read : Answer Sequence → SequenceRead
-sequence_read (refused k) = record { answer = Refused k; operating_points = padded [] }
-sequence_read (accepted q) = record { answer = Header q.header; operating_points = padded q.points }
+-- what the code answers of it: the operating points as an array of 32
+abbrev pub in_array : Sequence → SequenceObu
+in_array q = record { header = q.header; operating_points = padded q.points }
 
 -- a header and the array beside it; what stands behind its last operating point is no part of it
 abbrev pub sequence_of : SequenceHeader → List OperatingPoint → Sequence
 sequence_of h ps = record { header = h; points = take (point_count h.opening) ps }
 
--- 01's number and values for each case of SequenceAnswer
-abbrev pub sequence_says : SequenceAnswer → Answer SequenceHeader
-sequence_says (Header h) = accepted h
-sequence_says (Refused k) = refused k
+-- the two as they stand together
+abbrev pub sequence_in : SequenceObu → Sequence
+sequence_in x = sequence_of x.header x.operating_points

@@ -1,7 +1,7 @@
 -- AV1 5.5.1 sequence_header_obu behind the operating points. full: the header is not reduced.
 use Rattle.std.specs.Prelude.{ℕ, ◌+◌, List, Bool, true, false, not, ◌&&◌, ◌||◌, eqb, ltb}
 use Rattle.bitio.specs.Bits.{Reading, reads, and_then, read_bits}
-use Rattle.header.specs.Fields.{read_flag, read_or, flag_or}
+use Rattle.bitio.specs.Fields.{read_flag, read_or, flag_or}
 use Rattle.header.specs.SequenceRules.{Rules}
 use Rattle.header.specs.declared.seq_header.FrameSize.{FrameSize}
 use Rattle.header.specs.declared.seq_header.FrameIds.{FrameIds}

@@ -1,7 +1,7 @@
 -- AV1 5.5.1 sequence_header_obu up to the operating points. A reduced header has values without bits.
 use Rattle.std.specs.Prelude.{ℕ, List, Bool, false, not, cond as pick, ltb}
 use Rattle.bitio.specs.Bits.{Reading, fails, reads, and_then, read_bits}
-use Rattle.header.specs.Fields.{read_flag, read_or, flag_or, uvlc_or}
+use Rattle.bitio.specs.Fields.{read_flag, read_or, flag_or, uvlc_or}
 use Rattle.header.specs.SequenceRules.{Rules}
 use Rattle.header.specs.declared.seq_header.TimingInfo.{TimingInfo}
 use Rattle.header.specs.declared.seq_header.DecoderModelInfo.{DecoderModelInfo}

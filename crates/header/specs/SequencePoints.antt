@@ -1,7 +1,7 @@
 -- AV1 5.5.1: the operating points.
 use Rattle.std.specs.Prelude.{ℕ, zero, suc, ◌+◌, ◌-◌, List, [], ◌∷◌, ◌++◌, false, not, ◌&&◌, ltb, length, replicate}
 use Rattle.bitio.specs.Bits.{Reading, reads, and_then, read_bits}
-use Rattle.header.specs.Fields.{read_or, flag_or}
+use Rattle.bitio.specs.Fields.{read_or, flag_or}
 use Rattle.header.specs.declared.seq_header.Opening.{Opening}
 use Rattle.header.specs.declared.seq_header.OperatingPoint.{OperatingPoint}
 

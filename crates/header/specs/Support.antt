@@ -4,8 +4,6 @@ use Rattle.bitio.specs.Parse.{Answer, refused, accepted, and_next}
 use Rattle.header.specs.Sequence.{Sequence, parse_sequence}
 use Rattle.header.specs.declared.seq_header.Opening.{Opening}
 use Rattle.header.specs.declared.seq_header.SequenceHeader.{SequenceHeader}
-use Rattle.header.specs.declared.seq_header.Support.{Support}
-use Rattle.header.specs.declared.seq_header.Support.TheVariants.{Supported, Refused}
 
 -- AV1 5.9.2: shown frames carry temporal_point_info
 abbrev pub has_point_info : Opening → Bool
@@ -22,8 +20,3 @@ support h =
 -- the fields of a payload that a list of units can have: 14 to 16, then 17 to 20
 unfoldable pub supported_sequence : List ℕ → Answer Sequence
 supported_sequence s = and_next (parse_sequence s) (λ q. and_next (support q.header) (λ _. accepted q))
-
--- 01's number for each case of Support
-abbrev pub support_says : Support → Answer Unit
-support_says Supported = accepted tt
-support_says (Refused k) = refused k

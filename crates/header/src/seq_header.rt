@@ -1,4 +1,9 @@
 // The sequence header (AV1 5.5). A field that is not in the bits has the value that it counts as.
+// kept: a flag stands beside its fields, since later syntax uses the values that absent ones count as, and a header to
+// emit can have any, which are refused (36) where no payload reads so; an Option could not hold them
+ghost use Rattle.std.specs.Prelude.{◌≡◌, take, min, length};
+ghost use Rattle.header.specs.SequencePoints.{point_count};
+
 pub mod check;
 pub mod read;
 pub mod read_coding;
@@ -41,7 +46,7 @@ pub struct Opening {
 }
 
 // One operating point (AV1 5.5.1), with operating_parameters_info (AV1 5.5.5).
-#[derive(Clone, Copy)]
+#[derive(Clone, Copy, Default)]
 pub struct OperatingPoint {
     pub idc: u64,
     pub seq_level_idx: u64,
@@ -138,40 +143,28 @@ pub struct Coding {
     pub film_grain_params_present: bool,
 }
 
-// Every field but the operating points, whose array an enum could not hold: it stands beside.
+// The fields before and behind the operating points.
 #[derive(Clone, Copy)]
 pub struct SequenceHeader {
     pub opening: Opening,
     pub coding: Coding,
 }
 
+// sequence_header_obu (AV1 5.5.1). Those behind the last operating point are zero where a payload was read.
 #[derive(Clone, Copy)]
-pub enum SequenceAnswer {
-    Header(SequenceHeader),
-    // document 01's number
-    Refused(u32),
-}
-
-// A header that was read, and its operating points: those behind the last, and all after a refusal, are zero.
-#[derive(Clone, Copy)]
-pub struct SequenceRead {
-    pub answer: SequenceAnswer,
+pub struct SequenceObu {
+    pub header: SequenceHeader,
+    // kept: fixed memory, and operating_points_cnt_minus_1 is AV1's own count of them
     pub operating_points: [OperatingPoint; 32],
 }
 
-#[derive(Clone, Copy)]
-pub enum Support {
-    Supported,
-    // document 01's number
-    Refused(u32),
-}
-
-#[derive(Clone, Copy)]
-pub enum Emitted {
-    // the place behind what was written
-    Next(usize),
-    // no payload reads as these fields: nothing was written
-    Unreadable,
-    // no room: nothing was written
-    Full,
+impl SequenceObu {
+    // Those of the array that are operating points: of a count above 32, as no payload has, all.
+    pub fn points(&self) -> &[OperatingPoint]
+        ensures points { result.now ≡ take (point_count self.now.header.opening) self.now.operating_points }
+        ensures count { length result.now ≡ min (point_count self.now.header.opening) 32 }
+    {
+        let more = self.header.opening.operating_points_cnt_minus_1.min(31) as usize;
+        &self.operating_points[..more + 1]
+    }
 }

@@ -1,18 +1,18 @@
 -- Laws of text put into lent memory, one piece behind the other.
 use Prim.Native.Nat.{ℕ, suc, ◌+◌, ◌≤◌, ◌<◌}
 use native.Mathlib.Omega.{arith}
-use mathlib.Core.Path.{◌≡◌, refl, sym, ap, ap₂, ◌∙◌}
+use mathlib.Core.Path.{◌≡◌, sym, ap, ap₂, ◌∙◌}
 use mathlib.Core.List.{List, [], ◌∷◌, ◌++◌, append_assoc}
 use lib.ListN.{length, take, drop, set, length-append}
 use lib.Seq.{length-take-le, take-set-le, drop_at, set_split}
-use Rattle.bitio.specs.Parse.{accepted}
+use Rattle.bitio.specs.Parse.{accepted, refused}
 use Rattle.bitio.specs.Lent.{pasted, Wrote, placed, lent}
-use Rattle.bitio.proofs.LentLaws.{pasted-one, pasted-set, placed-room, lent-room}
+use Rattle.bitio.proofs.LentLaws.{pasted-set, placed-room, placed-full, lent-room, lent-full}
 
 -- what a store behind xs, made before xs, comes to
-pub pasted-behind : (d : List ℕ) (w : ℕ) (xs : List ℕ) (i a : ℕ) → i ≡ w + length xs → i < length d → pasted (set d i a) w xs ≡ pasted d w (xs ++ (a ∷ []))
+pub pasted_behind : (d : List ℕ) (w : ℕ) (xs : List ℕ) (i a : ℕ) → i ≡ w + length xs → i < length d → pasted (set d i a) w xs ≡ pasted d w (xs ++ (a ∷ []))
 unfolding pasted
-pasted-behind d w xs i a e h =
+pasted_behind d w xs i a e h =
     let n : w + length (xs ++ (a ∷ [])) ≡ suc i = omega (arith, length-append xs (a ∷ [])) in
     let t : take w (set d i a) ≡ take w d = take-set-le w d i a (omega arith) in
     let r : drop (w + length xs) (set d i a) ≡ a ∷ drop (suc i) d =
@@ -23,19 +23,27 @@ pasted-behind d w xs i a e h =
 
 module _ {d d' : List ℕ} {at r : ℕ} {xs : List ℕ} (w : Wrote d at xs r d') where
   -- a store behind it
-  pub wrote-store : (a : ℕ) → at + length xs < length d → Wrote d at (xs ++ (a ∷ [])) (r + 1) (set d' r a)
-  wrote-store a h =
+  pub wrote_store : (a : ℕ) → at + length xs < length d → Wrote d at (xs ++ (a ∷ [])) (r + 1) (set d' r a)
+  wrote_store a h =
       record {
         next = omega (arith, w.next, length-append xs (a ∷ []));
         out = ap₂ (λ (l : List ℕ) (k : ℕ). set l k a) w.out w.next ∙ pasted-set d at xs a h;
       }
 
 -- all of a text, at the head of lent memory that has room for it
-pub wrote-all : {d d' : List ℕ} {r : ℕ} {xs : List ℕ} → Wrote d 0 xs r d' → length xs ≤ length d → (accepted r ≡ placed d 0 xs) × (d' ≡ lent d 0 xs)
-wrote-all {d} {d'} {r} {xs} w h = (ap accepted w.next ∙ sym (placed-room d 0 xs (omega arith)), w.out ∙ sym (lent-room d 0 xs (omega arith)))
+pub all_placed : {r : ℕ} {d' : List ℕ} (d xs : List ℕ) → Wrote d 0 xs r d' → length xs ≤ length d → accepted r ≡ placed d 0 xs
+all_placed d xs w h = ap accepted w.next ∙ sym (placed-room d 0 xs (omega arith))
 
--- two stores
-pub wrote-two : (d : List ℕ) (w a b : ℕ) → w + 2 ≤ length d → Wrote d w (a ∷ b ∷ []) (w + 2) (set (set d w a) (w + 1) b)
-wrote-two d w a b h =
-    let e : set d w a ≡ pasted d w (a ∷ []) = pasted-one d w a (omega arith) in
-    record { next = refl; out = ap (λ (l : List ℕ). set l (w + 1) b) e ∙ pasted-set d w (a ∷ []) b (omega arith) }
+pub all_lent : {r : ℕ} {d' : List ℕ} (d xs : List ℕ) → Wrote d 0 xs r d' → length xs ≤ length d → d' ≡ lent d 0 xs
+all_lent d xs w h = w.out ∙ sym (lent-room d 0 xs (omega arith))
+
+-- and where there is no room
+pub none_placed : (d xs : List ℕ) → length d < length xs → refused 35 ≡ placed d 0 xs
+none_placed d xs h = sym (placed-full d 0 xs (omega arith))
+
+pub none_lent : (d xs : List ℕ) → length d < length xs → d ≡ lent d 0 xs
+none_lent d xs h = sym (lent-full d 0 xs (omega arith))
+
+-- what putting bytes says
+pub wrote : {d d' : List ℕ} {at r : ℕ} {xs : List ℕ} → (r ≡ at + length xs) × (d' ≡ pasted d at xs) → Wrote d at xs r d'
+wrote w = record { next = w.0; out = w.1 }

@@ -1,6 +1,5 @@
 -- The file that boardlist reads (01, 'Unit list and cue list').
-use Rattle.std.specs.Prelude.{ℕ, zero, suc, ◌+◌, ◌*◌, ◌≤◌, ◌≡◌, List, [], ◌++◌, Bool, cond as pick, ◌&&◌, length, get_or, leb, eqb}
-use Rattle.std.proofs.Math.Option.{Option, none, some}
+use Rattle.std.specs.Prelude.{ℕ, zero, suc, ◌+◌, ◌*◌, ◌≤◌, ◌≡◌, List, [], ◌++◌, Bool, cond as pick, ◌&&◌, length, get_or, leb, eqb, Option, Some, None}
 use Rattle.bitio.specs.Lent.{has_room, lent}
 use Rattle.blocks.specs.Numbers.{width, record_of}
 use Rattle.listing.specs.declared.file.Layout.{Layout}
@@ -109,7 +108,7 @@ layout_of s =
 
 -- what any bytes say as a file
 abbrev pub layout_in : List ℕ → Option Layout
-layout_in s = pick (is_file s) (some (layout_of s)) none
+layout_in s = pick (is_file s) (Some (layout_of s)) None
 
 -- ---- reading a file, the segments' numbers going into lent memory d
 

@@ -1,7 +1,11 @@
 -- The text that boardlist prints (01, 'Unit list and cue list'), in ASCII codes.
 use Rattle.std.specs.Prelude.{ℕ, suc, ◌+◌, ◌*◌, ◌/◌, ◌%◌, List, [], ◌∷◌, ◌++◌, cond as pick, length, get_or, eqb}
+use Rattle.std.proofs.Math.Option.{Option, none, some}
 use Rattle.pictures.specs.Assemble.{named}
 use Rattle.listing.specs.Decimal.{field, counted}
+use Rattle.listing.specs.declared.file.Unread.{Unread}
+use Rattle.listing.specs.declared.file.Unread.TheVariants.{Bad, Full}
+use Rattle.listing.specs.declared.text.Units.{Units}
 
 -- ---- a unit's line
 
@@ -63,3 +67,27 @@ refused_in_text k i = counted refused_word k 32 ++ counted segment_word i 10
 -- 01: `bad file`
 abbrev pub bad_file : List ℕ
 bad_file = 98 ∷ 97 ∷ 100 ∷ 32 ∷ 102 ∷ 105 ∷ 108 ∷ 101 ∷ 10 ∷ []
+
+-- a refusal, with its segment where it has one
+abbrev pub stopped_text : ℕ → Option ℕ → List ℕ
+stopped_text k none = refused_text k
+stopped_text k (some i) = refused_in_text k i
+
+-- why a file was not read; 35: no room for its segments
+abbrev pub unread_text : Unread → List ℕ
+unread_text Bad = bad_file
+unread_text Full = refused_text 35
+
+-- ---- the same of all units' bytes in one struct
+
+abbrev pub unit_in : Units → ℕ → List ℕ
+unit_in u n = named u.pictures.now u.ends.now u.shows.now n
+
+abbrev pub line_in : Units → ℕ → ℕ → List ℕ
+line_in u p n = line u.pictures.now u.ends.now u.shows.now p n
+
+abbrev pub lines_in : Units → List ℕ → List ℕ
+lines_in u list = lines u.pictures.now u.ends.now u.shows.now 1 list
+
+abbrev pub listing_in : List ℕ → ℕ → Units → List ℕ
+listing_in list cues u = listing list cues u.pictures.now u.ends.now u.shows.now

@@ -6,36 +6,30 @@ ghost use Rattle.listing.specs.Decimal.{decimal, field, counted};
 use obu::writer::put_bytes;
 
 // How many digits v has.
+#[tactic(auto, using(crate::proofs::DecimalLaws::decimal_log))]
 pub(crate) fn decimal_len(v: u64) -> usize
     ensures { (result ≡ length (decimal v)) × (result ≤ 20) }
 {
-    let mut x = v;
-    let mut n: usize = 1;
-    while x >= 10 {
-        x = x / 10;
-        n = n + 1;
-    }
-    n
+    v.max(1).ilog10() as usize + 1
 }
 
 // Writes the digits of v, the last first.
+#[tactic(auto, using(crate::proofs::DecimalLaws::digits_start, crate::proofs::DecimalLaws::digits_end))]
 fn put_decimal(out: &mut [u8], at: usize, v: u64) -> usize
     requires { at + length (decimal v) ≤ length out.old }
     ensures { Wrote out.old at (decimal v) result out.new }
 {
     let end = at + decimal_len(v);
     let mut x = v;
-    let mut i = end - 1;
-    while x >= 10 {
-        out[i] = 48 + (x % 10) as u8;
-        x = x / 10;
-        i = i - 1;
+    for i in (at..end).rev() {
+        out[i] = b'0' + (x % 10) as u8;
+        x /= 10;
     }
-    out[i] = 48 + x as u8;
     end
 }
 
 // Writes v and a character behind it. For crates that have measured the room.
+#[tactic(auto, using(crate::proofs::WroteLaws::wrote_store, crate::proofs::TextLaws::length_field))]
 pub fn put_field(out: &mut [u8], at: usize, v: u64, last: u8) -> usize
     requires { at + length (field v last) ≤ length out.old }
     ensures { Wrote out.old at (field v last) result out.new }

@@ -15,13 +15,7 @@ use Rattle.bitio.specs.Leb.{no_leb, leb_then, read_leb, sized}
 use Rattle.bitio.proofs.ParseLaws.{pick-both, pick-cases, parts-length}
 use Rattle.bitio.specs.Lent.{span}
 use Rattle.obu.specs.Obu.{Obu, passes, sized_body, head_obu_of, head_obu, obus}
-use types.Run.{OneOf}
-use denote.Enum.Declared.{tag_of}
-use mathlib.Core.Logic.{inl, inr}
-use Rattle.obu.specs.contracts.reader.ObuAt.{the_type}
-use Rattle.obu.specs.declared.reader.ObuAt.{ObuAt}
-use Rattle.obu.specs.declared.reader.ObuAt.TheVariants.{Found, End, Refused}
-use Rattle.obu.specs.Place.{Place, no_more, wrong, lies, place_of, obu_place, place_refusal, obu_says, part}
+use Rattle.obu.specs.Place.{Place, no_more, wrong, lies, place_of, obu_place, part}
 use Rattle.obu.specs.Write.{obu as obu_of}
 use Rattle.obu.proofs.ObuLaws.{is-obu, obus-item, obus-stop, obus-nil, infront, infront-next, infront-nil}
 
@@ -194,16 +188,6 @@ module _ {s : List ℕ} {at : ℕ} {front : List Obu} (w : Walked s at front) wh
   walk-stop k q =
       let (l, e) = is-wrong s at k q in
       w.whole ∙ ap (infront front) (obus-stop (drop at s) k (omega (arith, length-drop at s)) e)
-
--- an answer that is no OBU, though bytes are left, is a refusal
-pub not_found : (s : List ℕ) (at : ℕ) (r : ObuAt) → OneOf (1 ∷ 2 ∷ []) (tag_of the_type r) → at < length s → obu_says r ≡ obu_place s at → obu_place s at ≡ wrong (place_refusal (obu_says r))
-not_found s at (Found o) k l e = absurd (no k)
-  where
-    no : OneOf (1 ∷ 2 ∷ []) 0 → ⊥
-    no (inl q) = omega arith
-    no (inr q) = omega arith
-not_found s at End k l e = absurd (omega (arith, is-end s at (sym e)))
-not_found s at (Refused n) k l e = sym e
 
 -- ---- the payload
 

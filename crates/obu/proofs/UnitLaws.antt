@@ -1,27 +1,23 @@
 -- Laws of the questions on a unit: one OBU more.
-use Prim.Native.Nat.{ℕ, suc, ◌-◌, ◌≤◌, ◌<◌}
+use Prim.Native.Nat.{ℕ, suc, ◌-◌, ◌≤◌}
 use native.Mathlib.Omega.{arith}
 use mathlib.Core.Path.{◌≡◌, refl, sym, ap, ◌∙◌}
 use mathlib.Core.List.{List, [], ◌∷◌, ◌++◌, map, append-nil}
 use mathlib.Core.Option
 use mathlib.Core.Option.{Option, none, some, or_else}
 use mathlib.Core.Bool.{Bool, true, false, cond as pick, not, ◌||◌, ◌&&◌}
-use mathlib.Core.Logic.{inl, inr}
 use lib.Dec.{leb, leb-suc-suc}
 use lib.ListN.{length, drop, length-drop, drop_of_length-le}
 use borrow.Author.Tests.{le-leb}
-use types.Run.{OneOf}
-use denote.Enum.Declared.{tag_of}
 use Rattle.bitio.specs.Parse.{Answer, refused, accepted, answer, Head, stop, item, within, many, onto}
 use Rattle.bitio.proofs.ParseLaws.{Leaves, Shrinks, many-map, many-item, many-stop, many-nil}
-use Rattle.obu.specs.contracts.reader.ObuAt.{the_type}
-use Rattle.obu.specs.declared.reader.ObuAt.{ObuAt}
-use Rattle.obu.specs.declared.reader.ObuAt.TheVariants.{Found, End, Refused}
 use Rattle.obu.specs.Obu.{Obu, passes, head_obu, obus_of, obus}
-use Rattle.obu.specs.Place.{obu_place, obu_says}
-use Rattle.obu.specs.Unit.{is_delimiter, count, has, first_payload, last_payload, Located, located, located_obus, sought, found_says, payload_found, stray_in, of_unit}
+use Rattle.obu.specs.Place.{obu_place, no_more, wrong}
+use Rattle.std.specs.Prelude.{Option as Optional, Some, None, Ok, is_none}
+use Rattle.obu.specs.declared.reader.Obu.{Obu as Found}
+use Rattle.obu.specs.Unit.{is_delimiter, count, has, first_payload, last_payload, Located, located, located_obus, sought, sought_says, payload_found, stray_in, of_unit}
 use Rattle.obu.proofs.ObuLaws.{obu-shrinks, obus-item, infront, infront-next, infront-nil}
-use Rattle.obu.proofs.PlaceLaws.{Placed, is-wrong, is-end, walk_start, walk_end, walk-stop}
+use Rattle.obu.proofs.PlaceLaws.{Placed, is-wrong, walk_start, walk_end, walk-stop}
 
 module _ (p : Obu → Bool) where
   pub count_next : (os : List Obu) (o : Obu) → count p (os ++ (o ∷ [])) ≡ pick (p o) (suc (count p os)) (count p os)
@@ -95,17 +91,11 @@ module _ {s : List ℕ} {at : ℕ} {front : List Located} (w : Searched s at fro
       w.whole ∙ ap (λ (l : List ℕ). infront front (many (head_at (length s)) l)) (drop_of_length-le s l) ∙ ap (infront front) (many-nil (head_at (length s)))
       ∙ ap accepted (append-nil front)
 
-  -- an answer that is no OBU, though bytes are left, is a refusal
-  pub search-stop : (r : ObuAt) → OneOf (1 ∷ 2 ∷ []) (tag_of the_type r) → at < length s → obu_says r ≡ obu_place s at
-      → (f : List Located → Option Located) → found_says s r ≡ answer f (located_obus s)
-  search-stop (Found o) k l e f = absurd (no k)
-    where
-      no : OneOf (1 ∷ 2 ∷ []) 0 → ⊥
-      no (inl q) = omega arith
-      no (inr q) = omega arith
-  search-stop End k l e f = absurd (omega (arith, is-end s at (sym e)))
-  search-stop (Refused n) k l e f =
-      let h : head_at (length s) (drop at s) ≡ stop n = rw (is-wrong s at n (sym e)).1 in
+  -- a refusal there is the whole's
+  pub search-stop : {n : ℕ} (f : List Located → Option Located) → obu_place s at ≡ wrong n → refused n ≡ answer f (located_obus s)
+  search-stop {n} f e =
+      let (l, q) = is-wrong s at n e in
+      let h : head_at (length s) (drop at s) ≡ stop n = rw q in
       sym (ap (answer f) (w.whole ∙ ap (infront front) (many-stop (head_at (length s)) (at-shrinks (length s)) (drop at s) n (omega (arith, length-drop at s)) h)))
 
 -- ---- the OBU sought
@@ -144,6 +134,22 @@ seen_next true false x (some y) = refl
 seen_next false true x none = refl
 seen_next false false x none = refl
 seen_next false t x (some y) = refl
+
+-- something is kept where something was sought and found
+pub kept_none : (s : List ℕ) (x : Optional Found) (y : Option Located) → sought_says s (Ok x) ≡ accepted y → is_none x ≡ not (is_some y)
+kept_none s None none e = refl
+kept_none s (Some o) (some l) e = refl
+kept_none s None (some l) e = cc
+kept_none s (Some o) none e = cc
+
+-- one OBU more is kept where the code's test says so
+pub sought_kept : (s : List ℕ) (last : Bool) (p : Located → Bool) (front : List Located) (x : Located) (kept : Optional Found) → sought_says s (Ok kept) ≡ accepted (sought last p front)
+    → accepted (sought last p (front ++ (x ∷ []))) ≡ pick ((last || is_none kept) && p x) (accepted (some x)) (sought_says s (Ok kept))
+sought_kept s last p front x kept e = rw (sought-next last p front x, kept_none s kept (sought last p front) e, e) (go ((last || not (is_some (sought last p front))) && p x))
+  where
+    go : (b : Bool) → accepted (pick b (some x) (sought last p front)) ≡ pick b (accepted (some x)) (accepted (sought last p front))
+    go true = refl
+    go false = refl
 
 -- what is sought among OBUs that are located is what is sought among OBUs
 module _ (last : Bool) (p : Obu → Bool) where
@@ -218,20 +224,12 @@ payload-last p s = found-payload true p (last_payload p) (λ os. (last-is p os).
 
 -- ---- a delimiter that is not first
 
--- a unit of which nothing is counted is refused
-pub stray-refused : (x : Answer (List Obu)) (k : ℕ) → answer (count is_delimiter) x ≡ refused k → of_unit false stray_in x ≡ false
-stray-refused (refused j) k e = refl
-stray-refused (accepted os) k e = let z : ◌≡◌ {A = ℕ} 0 1 = cc in absurd (omega arith)
-
 -- no OBU is first
-pub stray-none : (s : List ℕ) (r : ObuAt) → OneOf (1 ∷ 2 ∷ []) (tag_of the_type r) → obu_says r ≡ obu_place s 0 → of_unit false stray_in (obus s) ≡ false
-stray-none s (Found o) k e = absurd (no k)
-  where
-    no : OneOf (1 ∷ 2 ∷ []) 0 → ⊥
-    no (inl q) = omega arith
-    no (inr q) = omega arith
-stray-none s End k e = rw (walk_end (walk_start s) (sym e))
-stray-none s (Refused n) k e = rw (walk-stop (walk_start s) n (sym e))
+pub stray-none : (s : List ℕ) → obu_place s 0 ≡ no_more → of_unit false stray_in (obus s) ≡ false
+stray-none s e = rw (walk_end (walk_start s) e)
+
+pub stray-wrong : (s : List ℕ) (k : ℕ) → obu_place s 0 ≡ wrong k → of_unit false stray_in (obus s) ≡ false
+stray-wrong s k e = rw (walk-stop (walk_start s) k e)
 
 -- o is first, and n delimiters are counted
 module _ (s : List ℕ) (o : Obu) (a b n : ℕ) (p : Placed s 0 o a b) (counted : answer (count is_delimiter) (obus s) ≡ accepted n) where

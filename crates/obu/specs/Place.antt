@@ -1,13 +1,13 @@
 -- The OBU at a position of lent bytes.
 use Rattle.std.specs.Prelude.{ℕ, ◌-◌, List, [], ◌∷◌, cond as pick, length, get_or, drop, leb, ltb}
 use Rattle.std.proofs.Math.Option.{Option, none, some}
+use Rattle.std.specs.Prelude.{Option as Optional, Some, None, Result, Ok, Err}
 use Rattle.bitio.specs.Parse.{Head, stop, item}
 use Rattle.bitio.specs.Lent.{span}
 use Rattle.obu.specs.Obu.{Obu, head_obu}
-use Rattle.obu.specs.declared.reader.Extension.{Extension}
-use Rattle.obu.specs.declared.reader.Extension.TheVariants.{Absent, Byte}
-use Rattle.obu.specs.declared.reader.ObuAt.{ObuAt}
-use Rattle.obu.specs.declared.reader.ObuAt.TheVariants.{Found, End, Refused}
+use Rattle.bitio.specs.Refusal.{number}
+use Rattle.bitio.specs.declared.refusal.Refusal.{Refusal}
+use Rattle.obu.specs.declared.reader.Obu.{Obu as Found}
 
 -- what stands at a position: nothing more, a refusal, or an OBU whose payload lies from start to end, where the next OBU starts
 pub data Place : Type 0 where
@@ -23,21 +23,20 @@ place_of s (item o r) = lies o.type o.ext (length s - length r - length o.payloa
 unfoldable pub obu_place : List ℕ → ℕ → Place
 obu_place s at = pick (ltb at (length s)) (place_of s (head_obu (drop at s))) no_more
 
--- a refusal's number, 0 where there is none
-abbrev pub place_refusal : Place → ℕ
-place_refusal no_more = 0
-place_refusal (wrong k) = k
-place_refusal (lies t e a b) = 0
+abbrev pub extension_says : Optional ℕ → Option ℕ
+extension_says None = none
+extension_says (Some e) = some e
 
-abbrev pub extension_says : Extension → Option ℕ
-extension_says Absent = none
-extension_says (Byte e) = some e
+-- the place of what the code found
+abbrev pub found_says : Result Found Refusal → Place
+found_says (Ok o) = lies o.obu_type (extension_says o.extension) o.start o.end
+found_says (Err e) = wrong (number e)
 
--- 01's number and values for each case of ObuAt
-abbrev pub obu_says : ObuAt → Place
-obu_says (Found o) = lies o.obu_type (extension_says o.extension) o.start o.end
-obu_says End = no_more
-obu_says (Refused k) = wrong k
+-- the same where nothing more may stand there
+abbrev pub obu_says : Result (Optional Found) Refusal → Place
+obu_says (Ok (Some o)) = lies o.obu_type (extension_says o.extension) o.start o.end
+obu_says (Ok None) = no_more
+obu_says (Err e) = wrong (number e)
 
 -- the bytes from a to e, or none where they are not there
 unfoldable pub part : List ℕ → ℕ → ℕ → List ℕ

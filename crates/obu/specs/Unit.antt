@@ -1,16 +1,16 @@
 -- Questions on the OBUs of a unit.
 use Rattle.std.specs.Prelude.{ℕ, suc, ◌-◌, List, [], ◌∷◌, Bool, true, false, cond as pick, ◌||◌, length, eqb}
 use Rattle.std.proofs.Math.Option.{Option, none, some, or_else}
+use Rattle.std.specs.Prelude.{Option as Optional, Some, None, Result, Ok, Err}
 use Rattle.bitio.specs.Parse.{Answer, refused, accepted, Head, stop, item, many}
 use Rattle.obu.specs.Obu.{Obu, head_obu, obus}
 use Rattle.obu.specs.Place.{extension_says, part}
 use Rattle.obu.specs.Write.{obu as obu_of}
-use Rattle.obu.specs.declared.reader.ObuAt.{ObuAt}
-use Rattle.obu.specs.declared.reader.ObuAt.TheVariants.{Found, End, Refused as Wrong}
+use Rattle.obu.specs.declared.reader.Obu.{Obu as Found}
 use Rattle.obu.specs.declared.unit.Kind.{Kind}
 use Rattle.obu.specs.declared.unit.Kind.TheVariants.{Any, SequenceHeader, TemporalDelimiter, Frame}
-use Rattle.obu.specs.declared.unit.Counted.{Counted}
-use Rattle.obu.specs.declared.unit.Counted.TheVariants.{Count, Refused}
+use Rattle.bitio.specs.Refusal.{number}
+use Rattle.bitio.specs.declared.refusal.Refusal.{Refusal}
 
 -- AV1 6.2.2: sequence header 1, temporal delimiter 2; a frame is a frame header 3 or a frame 6
 unfoldable pub is_type : Kind → ℕ → Bool
@@ -72,12 +72,12 @@ sought last p [] = none
 sought last p (a ∷ l) =
     pick last (or_else (sought last p l) (pick (p a) (some a) none)) (or_else (pick (p a) (some a) none) (sought last p l))
 
--- 01's number, or what was found in s, for each case of ObuAt
-abbrev pub found_says : List ℕ → ObuAt → Answer (Option Located)
-found_says s (Found o) =
+-- what the code found in s, or 01's number
+abbrev pub sought_says : List ℕ → Result (Optional Found) Refusal → Answer (Option Located)
+sought_says s (Ok (Some o)) =
     accepted (some (record { obu = obu_of o.obu_type (extension_says o.extension) (part s o.start o.end); start = o.start; end = o.end }))
-found_says s End = accepted none
-found_says s (Wrong k) = refused k
+sought_says s (Ok None) = accepted none
+sought_says s (Err e) = refused (number e)
 
 -- the payload of what was found, or none
 abbrev pub payload_found : Answer (Option Located) → List ℕ
@@ -98,8 +98,3 @@ of_unit d f (accepted os) = f os
 -- the payload of a unit's first sequence header, or none
 abbrev pub sequence_payload : List ℕ → List ℕ
 sequence_payload u = of_unit [] (first_payload is_sequence) (obus u)
-
--- 01's number and values for each case of Counted
-abbrev pub counted_says : Counted → Answer ℕ
-counted_says (Count n) = accepted n
-counted_says (Refused k) = refused k

@@ -1,12 +1,10 @@
 -- An OBU put into lent memory in written form.
 use Rattle.std.specs.Prelude.{ℕ, ◌+◌, List, cond as pick, length}
 use Rattle.std.proofs.Math.Option.{Option}
-use Rattle.bitio.specs.Parse.{Answer, refused, accepted}
+use Rattle.bitio.specs.Parse.{Answer, refused}
 use Rattle.bitio.specs.Lent.{placed, lent}
 use Rattle.bitio.specs.Leb.{leb_bytes}
 use Rattle.obu.specs.Obu.{Obu, passes, ext_bytes, obu_bytes}
-use Rattle.obu.specs.declared.writer.ObuPut.{ObuPut}
-use Rattle.obu.specs.declared.writer.ObuPut.TheVariants.{Next, WrongType, Full}
 
 -- the length of an OBU in written form
 abbrev pub obu_length : Option ℕ → ℕ → ℕ
@@ -22,9 +20,3 @@ obu_placed d at t e p = pick (passes t) (placed d at (obu_bytes (obu t e p))) (r
 -- d afterwards
 unfoldable pub obu_lent : List ℕ → ℕ → ℕ → Option ℕ → List ℕ → List ℕ
 obu_lent d at t e p = pick (passes t) (lent d at (obu_bytes (obu t e p))) d
-
--- 01's number and values for each case of ObuPut
-abbrev pub obu_put_says : ObuPut → Answer ℕ
-obu_put_says (Next at) = accepted at
-obu_put_says WrongType = refused 2
-obu_put_says Full = refused 35

@@ -1,67 +1,53 @@
 // The OBU at a position of lent bytes (AV1 5.3.1 to 5.3.3).
 ghost use Rattle.std.specs.Prelude.{◌≡◌, ◌≤◌, length, drop};
 ghost use Rattle.obu.specs.Obu.{passes, sized_body};
-ghost use Rattle.obu.specs.Place.{extension_says, place_of, obu_place, obu_says, place_refusal, part};
+ghost use Rattle.obu.specs.Place.{extension_says, place_of, obu_place, found_says, obu_says, part};
 
-use bitio::leb128::Leb;
-
-#[derive(Clone, Copy)]
-pub enum Extension {
-    Absent,
-    // temporal_id in three bits, spatial_id in two, three reserved
-    Byte(u8),
-}
+use bitio::refusal::Refusal;
 
 #[derive(Clone, Copy)]
 pub struct Obu {
     pub obu_type: u8,
-    pub extension: Extension,
+    // temporal_id in three bits, spatial_id in two, three reserved
+    pub extension: Option<u8>,
     // where the payload starts
     pub start: usize,
     // where it ends, and the next OBU starts
     pub end: usize,
 }
 
-#[derive(Clone, Copy)]
-pub enum ObuAt {
-    Found(Obu),
-    // no bytes are left
-    End,
-    // document 01's number, 1 to 5
-    Refused(u32),
-}
-
 // 01: the types 0 to 8 and 15.
+#[tactic(auto, unfolding(crate::specs::Obu::passes))]
 pub fn is_known_type(t: u8) -> bool
     ensures { result ≡ passes t }
 {
-    (t <= 8) | (t == 15)
+    t <= 8 || t == 15
 }
 
 // What follows the header byte h and the extension, at p: the size or the rest.
-fn body_at(s: &[u8], h: u8, extension: Extension, p: usize) -> ObuAt
+fn body_at(s: &[u8], h: u8, extension: Option<u8>, p: usize) -> Result<Obu, Refusal>
     requires { p ≤ length s.now }
-    ensures { obu_says result ≡ place_of s.now (sized_body h (extension_says extension) (drop p s.now)) }
+    ensures { found_says result ≡ place_of s.now (sized_body h (extension_says extension) (drop p s.now)) }
 {
     let obu_type = h / 8 % 16;
     let len = s.len();
     if h / 2 % 2 != 1 {
-        return ObuAt::Found(Obu {
+        return Ok(Obu {
             obu_type,
             extension,
             start: p,
             end: len,
         });
     }
-    let Leb::Value(size, used) = bitio::leb128::leb128(&s[p..]) else {
-        return ObuAt::Refused(4);
+    let Some((size, used)) = bitio::leb128::leb128(&s[p..]) else {
+        return Err(Refusal::ObuSizeMalformed);
     };
     let start = p + used;
     if size > (len - start) as u64 {
-        return ObuAt::Refused(5);
+        return Err(Refusal::ObuPastEnd);
     }
     let end = start + size as usize;
-    ObuAt::Found(Obu {
+    Ok(Obu {
         obu_type,
         extension,
         start,
@@ -69,50 +55,38 @@ fn body_at(s: &[u8], h: u8, extension: Extension, p: usize) -> ObuAt
     })
 }
 
-// The OBU at `at`.
-pub fn obu_at(s: &[u8], at: usize) -> ObuAt
+// The OBU at `at`; none where no bytes are left. It refuses with 1 to 5.
+pub fn obu_at(s: &[u8], at: usize) -> Result<Option<Obu>, Refusal>
     ensures { obu_says result ≡ obu_place s.now at }
 {
     if at >= s.len() {
-        return ObuAt::End;
+        return Ok(None);
     }
     let h = s[at];
     if h / 128 % 2 == 1 {
-        return ObuAt::Refused(1);
+        return Err(Refusal::ForbiddenBit);
     }
     if !is_known_type(h / 8 % 16) {
-        return ObuAt::Refused(2);
+        return Err(Refusal::ReservedObuType);
     }
     let p = at + 1;
     if h / 4 % 2 == 1 {
         if p >= s.len() {
-            return ObuAt::Refused(3);
+            return Err(Refusal::ExtensionMissing);
         }
-        return body_at(s, h, Extension::Byte(s[p]), p + 1);
+        return Ok(Some(body_at(s, h, Some(s[p]), p + 1)?));
     }
-    body_at(s, h, Extension::Absent, p)
-}
-
-// The number of a refusal, 0 where there is none.
-pub fn refusal(found: ObuAt) -> u32
-    ensures { result ≡ place_refusal (obu_says found) }
-{
-    match found {
-        ObuAt::Refused(k) => k,
-        ObuAt::End => 0,
-        ObuAt::Found(_) => 0,
-    }
+    Ok(Some(body_at(s, h, None, p)?))
 }
 
 // The payload, not copied: what lies from start to end, nothing where they are not within s.
+#[tactic(auto, unfolding(crate::specs::Place::part, bitio::specs::Lent::span))]
 pub fn payload(s: &[u8], start: usize, end: usize) -> &[u8]
     ensures { result.now ≡ part s.now start end }
 {
-    if start <= end {
-        if end <= s.len() {
-            return &s[start..end];
-        }
-        return &s[0..0];
+    if start <= end && end <= s.len() {
+        &s[start..end]
+    } else {
+        &s[..0]
     }
-    &s[0..0]
 }

@@ -1,10 +1,12 @@
 // A whole unit, read through to its end or its first refusal: what upper layers ask of it.
 ghost use Rattle.std.specs.Prelude.{◌≡◌, false, []};
 ghost use Rattle.bitio.specs.Parse.{answer};
+ghost use Rattle.bitio.specs.Refusal.{says};
 ghost use Rattle.obu.specs.Obu.{obus};
-ghost use Rattle.obu.specs.Unit.{is_type, is_kind, count, first_payload, last_payload, located_obus, sought, found_says, payload_found, stray_in, of_unit, counted_says};
+ghost use Rattle.obu.specs.Unit.{is_type, is_kind, count, first_payload, last_payload, located_obus, sought, sought_says, payload_found, stray_in, of_unit};
 
-use crate::reader::{ObuAt, obu_at, payload, refusal};
+use crate::reader::{Obu, obu_at, payload};
+use bitio::refusal::Refusal;
 
 #[derive(Clone, Copy)]
 pub enum Kind {
@@ -15,14 +17,8 @@ pub enum Kind {
     Frame,
 }
 
-#[derive(Clone, Copy)]
-pub enum Counted {
-    Count(usize),
-    // document 01's number, 1 to 5
-    Refused(u32),
-}
-
 // Whether an OBU of type t is of that kind.
+#[tactic(auto, unfolding(crate::specs::Unit::is_type))]
 pub fn is_type(k: Kind, t: u8) -> bool
     ensures { result ≡ is_type k t }
 {
@@ -30,59 +26,47 @@ pub fn is_type(k: Kind, t: u8) -> bool
         Kind::Any => true,
         Kind::SequenceHeader => t == 1,
         Kind::TemporalDelimiter => t == 2,
-        Kind::Frame => (t == 3) | (t == 6),
+        Kind::Frame => t == 3 || t == 6,
     }
 }
 
 // How many OBUs of a kind a unit has.
-pub fn count_obus(s: &[u8], k: Kind) -> Counted
-    ensures { counted_says result ≡ answer (count (is_kind k)) (obus s.now) }
+pub fn count_obus(s: &[u8], k: Kind) -> Result<usize, Refusal>
+    ensures { says result ≡ answer (count (is_kind k)) (obus s.now) }
 {
     let mut at: usize = 0;
     let mut n: usize = 0;
-    while at < s.len() {
-        let found = obu_at(s, at);
-        let ObuAt::Found(o) = found else {
-            return Counted::Refused(refusal(found));
-        };
+    while let Some(o) = obu_at(s, at)? {
         if is_type(k, o.obu_type) {
             n += 1;
         }
         at = o.end;
     }
-    Counted::Count(n)
+    Ok(n)
 }
 
-// The first OBU of a kind, or the last, with where it lies; `End` where the unit has none.
-pub fn find_obu(s: &[u8], k: Kind, last: bool) -> ObuAt
-    ensures { found_says s.now result ≡ answer (sought last (λ o. is_kind k o.obu)) (located_obus s.now) }
+// The first OBU of a kind, or the last, with where it lies; none where the unit has none.
+pub fn find_obu(s: &[u8], k: Kind, last: bool) -> Result<Option<Obu>, Refusal>
+    ensures { sought_says s.now result ≡ answer (sought last (λ o. is_kind k o.obu)) (located_obus s.now) }
 {
     let mut at: usize = 0;
-    let mut seen = false;
-    let mut kept = ObuAt::End;
-    while at < s.len() {
-        let found = obu_at(s, at);
-        let ObuAt::Found(o) = found else {
-            return found;
-        };
-        let is = is_type(k, o.obu_type);
-        if (last | !seen) & is {
-            kept = found;
+    let mut kept: Option<Obu> = None;
+    while let Some(o) = obu_at(s, at)? {
+        if (last | kept.is_none()) & is_type(k, o.obu_type) {
+            kept = Some(o);
         }
-        seen = seen | is;
         at = o.end;
     }
-    kept
+    Ok(kept)
 }
 
 // The payload of what was found, as a part of the unit; the empty part where that is none or a refusal.
-fn payload_of(s: &[u8], found: ObuAt) -> &[u8]
-    ensures { result.now ≡ payload_found (found_says s.now found) }
+fn payload_of(s: &[u8], found: Result<Option<Obu>, Refusal>) -> &[u8]
+    ensures { result.now ≡ payload_found (sought_says s.now found) }
 {
     match found {
-        ObuAt::Found(o) => payload(s, o.start, o.end),
-        ObuAt::End => payload(s, 0, 0),
-        ObuAt::Refused(_) => payload(s, 0, 0),
+        Ok(Some(o)) => payload(s, o.start, o.end),
+        _ => &s[..0],
     }
 }
 
@@ -104,14 +88,13 @@ pub fn last_payload(s: &[u8], k: Kind) -> &[u8]
 pub fn has_stray_delimiter(s: &[u8]) -> bool
     ensures { result ≡ of_unit false stray_in (obus s.now) }
 {
-    let Counted::Count(n) = count_obus(s, Kind::TemporalDelimiter) else {
+    let Ok(n) = count_obus(s, Kind::TemporalDelimiter) else {
         return false;
     };
-    let ObuAt::Found(o) = obu_at(s, 0) else {
-        return false;
-    };
-    if is_type(Kind::TemporalDelimiter, o.obu_type) {
-        return 2 <= n;
+    match obu_at(s, 0) {
+        Ok(Some(o)) if is_type(Kind::TemporalDelimiter, o.obu_type) => 2 <= n,
+        Ok(Some(_)) => 1 <= n,
+        Ok(None) => false,
+        Err(_) => false,
     }
-    1 <= n
 }

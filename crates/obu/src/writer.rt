@@ -3,45 +3,33 @@ ghost use Rattle.std.specs.Prelude.{◌≡◌, ◌+◌, ◌≤◌, ◌<◌, leng
 ghost use Rattle.bitio.specs.Leb.{leb_bytes};
 ghost use Rattle.bitio.specs.Lent.{pasted};
 ghost use Rattle.bitio.specs.Limits.{capped};
+ghost use Rattle.bitio.specs.Refusal.{says};
 ghost use Rattle.obu.specs.Obu.{passes, header, ext_bytes, obu_bytes};
 ghost use Rattle.obu.specs.Place.{extension_says};
-ghost use Rattle.obu.specs.Write.{obu_length, obu, obu_placed, obu_lent, obu_put_says};
+ghost use Rattle.obu.specs.Write.{obu_length, obu, obu_placed, obu_lent};
 
-use crate::reader::{Extension, is_known_type};
-use bitio::numbers::plus;
-
-#[derive(Clone, Copy)]
-pub enum ObuPut {
-    // the place behind what was written
-    Next(usize),
-    // a reserved type: nothing was written
-    WrongType,
-    // no room: nothing was written
-    Full,
-}
+use crate::reader::is_known_type;
+use bitio::refusal::Refusal;
 
 // How many bytes the extension has.
-pub fn extension_len(extension: Extension) -> usize
+pub fn extension_len(extension: Option<u8>) -> usize
     ensures { result ≡ length (ext_bytes (extension_says extension)) }
 {
-    match extension {
-        Extension::Absent => 0,
-        Extension::Byte(_) => 1,
-    }
+    extension.map_or(0, |_| 1)
 }
 
 // How many bytes stand before a payload of size bytes.
-fn head_len(extension: Extension, size: usize) -> usize
+fn head_len(extension: Option<u8>, size: usize) -> usize
     ensures { result ≡ 1 + length (ext_bytes (extension_says extension)) + length (leb_bytes size) }
 {
     1 + extension_len(extension) + bitio::leb128::leb128_len(size as u64)
 }
 
 // How many bytes an OBU with a payload of size bytes has, as far as a usize counts them.
-pub fn obu_len(extension: Extension, size: usize) -> usize
+pub fn obu_len(extension: Option<u8>, size: usize) -> usize
     ensures { result ≡ capped (obu_length (extension_says extension) size) }
 {
-    plus(head_len(extension, size), size)
+    head_len(extension, size).saturating_add(size)
 }
 
 // Copies all of src to `at`, where its room is known: the hot path of every writer, for crates that have measured.
@@ -60,24 +48,19 @@ pub fn put_header(
     out: &mut [u8],
     at: usize,
     obu_type: u8,
-    extension: Extension,
+    extension: Option<u8>,
     size_flag: u8,
 ) -> usize
     requires { (obu_type < 16) × (size_flag < 4) × (at + (1 + length (ext_bytes (extension_says extension))) ≤ length out.old) }
     ensures { (result ≡ at + (1 + length (ext_bytes (extension_says extension)))) × (out.new ≡ pasted out.old at (header size_flag obu_type (extension_says extension))) }
 {
-    match extension {
-        Extension::Absent => {
-            out[at] = obu_type * 8 + size_flag;
-            at + 1
-        }
-        Extension::Byte(e) => {
-            out[at] = obu_type * 8 + 4 + size_flag;
-            let next = at + 1;
-            out[next] = e;
-            next + 1
-        }
-    }
+    let Some(e) = extension else {
+        out[at] = obu_type * 8 + size_flag;
+        return at + 1;
+    };
+    out[at] = obu_type * 8 + 4 + size_flag;
+    out[at + 1] = e;
+    at + 2
 }
 
 // Writes an OBU whose type passes, where its room is known: for crates that have measured.
@@ -85,7 +68,7 @@ pub fn put_measured(
     out: &mut [u8],
     at: usize,
     obu_type: u8,
-    extension: Extension,
+    extension: Option<u8>,
     payload: &[u8],
 ) -> usize
     requires { (passes obu_type ≡ true) × (at + obu_length (extension_says extension) (length payload.now) ≤ length out.old) }
@@ -101,27 +84,17 @@ pub fn put_obu(
     out: &mut [u8],
     at: usize,
     obu_type: u8,
-    extension: Extension,
+    extension: Option<u8>,
     payload: &[u8],
-) -> ObuPut
-    ensures result_value { obu_put_says result ≡ obu_placed out.old at obu_type (extension_says extension) payload.now }
+) -> Result<usize, Refusal>
+    ensures result_value { says result ≡ obu_placed out.old at obu_type (extension_says extension) payload.now }
     ensures out_after { out.new ≡ obu_lent out.old at obu_type (extension_says extension) payload.now }
 {
     if !is_known_type(obu_type) {
-        return ObuPut::WrongType;
+        return Err(Refusal::ReservedObuType);
     }
-    let len = out.len();
-    let n = payload.len();
-    let head = head_len(extension, n);
-    if len < at {
-        return ObuPut::Full;
+    if out.len() < at || out.len() - at < obu_len(extension, payload.len()) {
+        return Err(Refusal::NoRoom);
     }
-    if len - at < head {
-        return ObuPut::Full;
-    }
-    if len - at - head < n {
-        return ObuPut::Full;
-    }
-    let next = put_measured(out, at, obu_type, extension, payload);
-    ObuPut::Next(next)
+    Ok(put_measured(out, at, obu_type, extension, payload))
 }

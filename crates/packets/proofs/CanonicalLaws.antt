@@ -1,13 +1,15 @@
 -- Laws of canonicalize_tu: its outcomes.
-use Prim.Native.Nat.{ℕ, ◌≤◌, ◌<◌}
+use Prim.Native.Nat.{ℕ, ◌+◌, ◌≤◌, ◌<◌}
 use native.Mathlib.Omega.{arith}
 use mathlib.Core.Path.{◌≡◌, refl, sym, ap, ◌∙◌}
 use mathlib.Core.List.{List, [], ◌∷◌, ◌++◌}
-use mathlib.Core.Bool.{true, false}
-use lib.ListN.{length, drop}
-use borrow.Author.Tests.{le-leb, lt-leb}
+use mathlib.Core.Bool.{Bool, true, false}
+use lib.ListN.{length, drop, length-append}
+use borrow.Author.Tests.{le-leb, lt-leb, leb-true}
 use Rattle.bitio.specs.Parse.{Answer, refused, accepted, onto}
-use Rattle.bitio.specs.Lent.{pasted}
+use Rattle.bitio.specs.Lent.{pasted, Wrote}
+use Rattle.bitio.proofs.LentLaws.{wrote-length, wrote-more}
+use Rattle.bitio.proofs.ParseLaws.{and_both}
 use Rattle.obu.specs.Obu.{Obu, obus}
 use Rattle.obu.specs.Unit.{stray_in, of_unit}
 use Rattle.obu.proofs.ObuLaws.{obus-item}
@@ -15,14 +17,15 @@ use Rattle.obu.specs.Place.{Place, no_more, wrong, lies, obu_place}
 use Rattle.obu.proofs.PlaceLaws.{Placed, is-placed, walk_start, walk_end, walk-stop}
 use Rattle.container.specs.Stream.{others}
 use Rattle.packets.specs.Packets.{canonical, canonical_of}
-use Rattle.bitio.specs.Limits.{limit}
+use Rattle.bitio.specs.Limits.{limit, capped}
 use Rattle.container.specs.Limits.{bytes_room, fits}
 use Rattle.container.specs.Units.{count_of, out_after}
 use Rattle.packets.specs.Packets.{canonical_at}
-use Rattle.container.specs.code.Ranges.{kept_bytes, Range}
+use Rattle.container.specs.code.Ranges.{kept_bytes, Range, Measured, Roomy, WroteKept}
 use Rattle.container.proofs.StreamLaws.{bytes-append}
 use Rattle.container.proofs.RangeLaws.{placed-step, range-one, range-from}
 use Rattle.packets.specs.code.Canonical.{end_of}
+use Rattle.packets.proofs.RoomLaws.{fits-capped}
 
 -- ---- the first OBU
 
@@ -77,6 +80,57 @@ stray u e = go (obus u) refl e
     go (accepted []) p e = let z : ◌≡◌ {A = ℕ} 0 1 = cc in absurd (omega arith)
     go (accepted (o ∷ os)) p e =
         record { o = o; os = os; reads = p; same = rw (p, e) (bytes-append (o ∷ []) (others os)) }
+
+-- the unit's first OBU, which ends at mid, and the others
+pub record Parted (u : List ℕ) (mid : ℕ) : Type 0 where
+  pub it : Stray u
+  pub front : Range u 0 mid (it.o ∷ [])
+  pub back : Range u mid (length u) it.os
+
+pub parted : (u : List ℕ) {mid : ℕ} → of_unit false stray_in (obus u) ≡ true → mid ≡ end_of (obu_place u 0) → Parted u mid
+parted u e m =
+    let t = stray u e in
+    let r = split-first u t.o t.os t.reads in
+    rw m (record { it = t; front = r.0; back = r.1 })
+
+-- what is written
+abbrev pub clean : {u : List ℕ} {mid : ℕ} → Parted u mid → List ℕ
+clean p = kept_bytes true (p.it.o ∷ []) ++ kept_bytes false p.it.os
+
+module _ {u : List ℕ} {mid : ℕ} (p : Parted u mid) where
+  abbrev first : List ℕ
+  first = kept_bytes true (p.it.o ∷ [])
+
+  abbrev others_bytes : List ℕ
+  others_bytes = kept_bytes false p.it.os
+
+  long : length (clean p) ≡ length first + length others_bytes
+  long = length-append first others_bytes
+
+  pub clean-length : {m n k : ℕ} → Measured u 0 mid true m → Measured u mid (length u) false n → k ≡ capped (m + n) → k ≡ capped (length (clean p))
+  clean-length x y e = omega (arith, x (p.it.o ∷ []) p.front, y p.it.os p.back, long)
+
+  -- it has room where its count has
+  pub clean-fits : {k : ℕ} (d : List ℕ) {b : Bool} → k ≡ capped (length (clean p)) → fits k 0 (bytes_room (length d)) ≡ b → fits (length (clean p)) 0 (bytes_room (length d)) ≡ b
+  clean-fits d e f = sym (fits-capped (length (clean p)) 0 (bytes_room (length d))) ∙ ap (λ n. fits n 0 (bytes_room (length d))) (sym e) ∙ f
+
+  module _ (d : List ℕ) (f : fits (length (clean p)) 0 (bytes_room (length d)) ≡ true) where
+    -- and then it is short enough, and not longer than lent memory
+    pub clean-small : (length (clean p) ≤ limit) × (length (clean p) ≤ length d)
+    clean-small = let (a, b) = and_both _ _ f in (leb-true _ _ a, leb-true _ _ (and_both _ _ b).0)
+
+    pub first-roomy : Roomy u 0 mid true d 0
+    first-roomy = record { os = p.it.o ∷ []; range = p.front; room = omega (arith, clean-small, long) }
+
+    module _ {o : List ℕ} {w : ℕ} (x : WroteKept u 0 mid true d 0 w o) where
+      put : Wrote d 0 first w o
+      put = x (p.it.o ∷ []) p.front
+
+      pub others-roomy : Roomy u mid (length u) false o w
+      others-roomy = record { os = p.it.os; range = p.back; room = omega (arith, clean-small, long, put.next, wrote-length put (omega (arith, clean-small, long))) }
+
+      pub clean-wrote : {q : List ℕ} {v : ℕ} → WroteKept u mid (length u) false o w v q → Wrote d 0 (clean p) v q
+      clean-wrote y = wrote-more put (omega arith) (y p.it.os p.back)
 
 -- ---- the outcomes
 

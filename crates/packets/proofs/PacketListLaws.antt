@@ -88,32 +88,34 @@ unfolding listed_from
 listed-length at s [] = refl
 listed-length at s (e ∷ es) = ap suc (listed-length e s es)
 
-pub listed-first : (s es : List ℕ) (i : ℕ) → i ≡ 0 → i < length es → part s 0 (get_or es i 0) ≡ get_or (listed s es) i []
-unfolding listed_from
-listed-first s [] i z l = absurd (omega arith)
-listed-first s (e ∷ es) i z l = rw z
-
-listed_next : (at : ℕ) (s es : List ℕ) (i : ℕ) → suc i < length es → part s (get_or es i 0) (get_or es (suc i) 0) ≡ get_or (listed_from at s es) (suc i) []
-unfolding listed_from
-listed_next at s [] i l = absurd (omega arith)
-listed_next at s (e ∷ []) i l = absurd (omega arith)
-listed_next at s (e ∷ f ∷ es) zero l = refl
-listed_next at s (e ∷ f ∷ es) (suc i) l = listed_next e s (f ∷ es) i (omega arith)
-
-pub listed_at : (s es : List ℕ) (i : ℕ) → 0 < i → i < length es → part s (get_or es (i - 1) 0) (get_or es i 0) ≡ get_or (listed s es) i []
-listed_at s es zero h l = absurd (omega arith)
-listed_at s es (suc i) h l = let k : suc i - 1 ≡ i = omega arith in rw k (listed_next 0 s es i l)
-
 pub listed-out : (s es : List ℕ) (i : ℕ) → length es ≤ i → get_or (listed s es) i [] ≡ []
 listed-out s es i l = get_or-eq_default (listed s es) [] (omega (arith, listed-length 0 s es))
+
+part-zero : (s : List ℕ) (a : ℕ) → part s a 0 ≡ []
+unfolding part span
+part-zero s a = go (leb a 0)
+  where
+    go : (b : Bool) → pick b (pick (leb 0 (length s)) (take (0 - a) (drop a s)) []) [] ≡ []
+    go true = let k : 0 - a ≡ 0 = omega arith in rw (k, le-leb 0 (length s) (omega arith))
+    go false = refl
+
+nothing-at : {A : Type 0} (i : ℕ) (d : A) → get_or [] i d ≡ d
+nothing-at zero d = refl
+nothing-at (suc i) d = refl
+
+-- a unit is the bytes from where it starts to where it ends
+listed-part-from : (at : ℕ) (s es : List ℕ) (i : ℕ) → part s (get_or (at ∷ es) i 0) (get_or es i 0) ≡ get_or (listed_from at s es) i []
+unfolding listed_from
+listed-part-from at s [] i = rw (nothing-at {A = ℕ} i 0) (part-zero s (get_or (at ∷ []) i 0)) ∙ sym (nothing-at i [])
+listed-part-from at s (e ∷ es) zero = refl
+listed-part-from at s (e ∷ es) (suc i) = listed-part-from e s es i
+
+pub listed-part : (s es : List ℕ) (i : ℕ) → part s (get_or (0 ∷ es) i 0) (get_or es i 0) ≡ get_or (listed s es) i []
+listed-part s es i = listed-part-from 0 s es i
 
 -- ---- units that wait, and units without bytes
 
 -- whether a unit closes, by its count of frames
-pub closes-refused : (x : Answer (List Obu)) (k : ℕ) → answer (count is_frame) x ≡ refused k → true ≡ of_unit true has_frame x
-closes-refused (refused j) k e = refl
-closes-refused (accepted os) k e = let z : ◌≡◌ {A = ℕ} 0 1 = cc in absurd (omega arith)
-
 pub closes-counted : (x : Answer (List Obu)) (n : ℕ) → answer (count is_frame) x ≡ accepted n → leb 1 n ≡ of_unit true has_frame x
 closes-counted (refused j) n e = let z : ◌≡◌ {A = ℕ} 0 1 = cc in absurd (omega arith)
 closes-counted (accepted os) n e = let q : count is_frame os ≡ n = cc in rw (← q) (has-count is_frame os)

@@ -7,7 +7,7 @@ use mathlib.Core.Bool.{Bool, true, false, cond as pick}
 use lib.ListN.{length, drop, get_or, set, length-append, length-map, length-set, drop_of_length-le}
 use lib.Seq.{slice_empty}
 use lib.Dec.{ltb}
-use borrow.Author.Tests.{lt-ltb, le-ltb, ltb-true, ltb-false}
+use borrow.Author.Tests.{ltb-true, ltb-false}
 use Rattle.bitio.specs.Lent.{pasted, Wrote}
 use Rattle.bitio.proofs.LentLaws.{pasted-nil, pasted-set, wrote-length, wrote-more}
 use Rattle.bitio.specs.Every.Every.{nothing, also}
@@ -58,14 +58,6 @@ unfolding bytes_of
 stream-split ps rs =
     ap (λ l. length (stream_bytes l)) (map-append (λ q. q.bytes) ps rs)
     ∙ ap length (stream-append (bytes_of ps) (bytes_of rs)) ∙ length-append (stream_bytes (bytes_of ps)) (stream_bytes (bytes_of rs))
-
--- ---- where an output packet ends
-
-pub stop-more : (c d n : ℕ) → d < n → c + 1 ≡ pick (ltb d n) (c + 1) n
-stop-more c d n l = rw (lt-ltb d n l)
-
-pub stop-last : (c d n : ℕ) → n ≤ d → n ≡ pick (ltb d n) (c + 1) n
-stop-last c d n l = rw (le-ltb d n l)
 
 -- ---- one output packet
 

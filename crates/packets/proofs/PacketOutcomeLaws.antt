@@ -17,10 +17,13 @@ use Rattle.container.specs.Stream.{flat, stream_bytes}
 use Rattle.packets.specs.Packets.{Packet}
 use Rattle.bitio.specs.Lent.{Wrote}
 use Rattle.container.specs.Units.{units_at, ends_of, sizes_of, bytes_after, ends_after}
-use Rattle.packets.specs.declared.packets.Merged.{Merged}
-use Rattle.packets.specs.declared.packets.Merged.TheVariants.{Packets, Refused}
-use Rattle.packets.specs.PacketLists.{packets_at, bytes_of, times_of, PacketRoom, lent_room, fits_packets, fit_packets, merged_at, times_after, merged_says}
-use Rattle.packets.specs.code.PacketRuns.{listed, all_parsed, Next, Full, Run, RunRoom, packets_of, merged_of, Totals, Closing, MergeRoom, WroteMerged, Given, None, Some, Outcome}
+use Rattle.std.specs.Prelude.{Result, Ok, Err}
+use Rattle.bitio.specs.Refusal.{number, says}
+use Rattle.bitio.specs.declared.refusal.Refusal.{Refusal}
+use Rattle.bitio.specs.declared.refusal.Refusal.TheVariants.{InputTooLong, NoRoom, NotAList}
+use Rattle.container.specs.declared.units.Sizes.{Sizes}
+use Rattle.packets.specs.PacketLists.{packets_at, bytes_of, times_of, PacketRoom, lent_room, fits_packets, fit_packets, merged_at, times_after}
+use Rattle.packets.specs.code.PacketRuns.{listed, all_parsed, Next, Full, Run, RunRoom, packets_of, merged_of, Totals, Closing, MergeRoom, WroteMerged, Given, NoneCloses, OneCloses, Outcome}
 use Rattle.packets.proofs.RoomLaws.{fits-capped}
 use Rattle.packets.proofs.SliceLaws.{slice-rest}
 use Rattle.packets.proofs.PacketListLaws.{listed-length, packets-bytes, packets-times, packets-unmatched, packets-wrong, packets-there}
@@ -54,8 +57,8 @@ fits_all n u room e =
 -- ---- the outcomes
 
 module _ (s es ts o e t : List ℕ) where
-  refuse : (k : ℕ) → merged_at (lent_room o e t) s es ts ≡ refused k → Outcome s es ts o e t (Refused k) o e t
-  refuse k q = record { answers = rw q; bytes = rw q; ends = rw q; times = rw q }
+  refuse : (r : Refusal) → merged_at (lent_room o e t) s es ts ≡ refused (number r) → Outcome s es ts o e t (Err r) o e t
+  refuse r q = record { answers = rw q; bytes = rw q; ends = rw q; times = rw q }
 
   at_long : limit < length s → merged_at (lent_room o e t) s es ts ≡ refused 34
   unfolding merged_at and_next
@@ -65,14 +68,14 @@ module _ (s es ts o e t : List ℕ) where
   unfolding merged_at and_next
   at-36 l q = rw (le-leb (length s) limit l, q)
 
-  pub out-long : limit < length s → Outcome s es ts o e t (Refused 34) o e t
-  out-long l = refuse 34 (at_long l)
+  pub out-long : limit < length s → Outcome s es ts o e t (Err InputTooLong) o e t
+  out-long l = refuse InputTooLong (at_long l)
 
-  pub out-unmatched : length s ≤ limit → (length es ≡ length ts → ⊥) → Outcome s es ts o e t (Refused 36) o e t
-  out-unmatched l n = refuse 36 (at-36 l (packets-unmatched s es ts n))
+  pub out-unmatched : length s ≤ limit → (length es ≡ length ts → ⊥) → Outcome s es ts o e t (Err NotAList) o e t
+  out-unmatched l n = refuse NotAList (at-36 l (packets-unmatched s es ts n))
 
-  pub out-wrong : length s ≤ limit → length es ≡ length ts → accepts (units_at s es) ≡ false → Outcome s es ts o e t (Refused 36) o e t
-  out-wrong l m r = refuse 36 (at-36 l (packets-wrong s es ts m r))
+  pub out-wrong : length s ≤ limit → length es ≡ length ts → accepts (units_at s es) ≡ false → Outcome s es ts o e t (Err NotAList) o e t
+  out-wrong l m r = refuse NotAList (at-36 l (packets-wrong s es ts m r))
 
   module _ (g : Given s es ts) where
     at-fit : merged_at (lent_room o e t) s es ts ≡ fit_packets (lent_room o e t) (merged_of s es ts)
@@ -86,8 +89,8 @@ module _ (s es ts o e t : List ℕ) where
       same-fit : fits_packets n u (lent_room o e t) ≡ fits_packets total (length (merged_of s es ts)) (lent_room o e t)
       same-fit = ap₂ (λ x y. fits_packets x y (lent_room o e t)) z.bytes z.count ∙ packets-capped total (length (merged_of s es ts)) (lent_room o e t)
 
-      pub out-full : fits_packets n u (lent_room o e t) ≡ false → Outcome s es ts o e t (Refused 35) o e t
-      out-full f = refuse 35 (at-fit ∙ rw (sym same-fit ∙ f))
+      pub out-full : fits_packets n u (lent_room o e t) ≡ false → Outcome s es ts o e t (Err NoRoom) o e t
+      out-full f = refuse NoRoom (at-fit ∙ rw (sym same-fit ∙ f))
 
       module _ (f : fits_packets n u (lent_room o e t) ≡ true) where
         fit : Fits total (length (merged_of s es ts)) (lent_room o e t)
@@ -102,7 +105,7 @@ module _ (s es ts o e t : List ℕ) where
         at_there : merged_at (lent_room o e t) s es ts ≡ accepted (merged_of s es ts)
         at_there = at-fit ∙ rw (sym same-fit ∙ f)
 
-        pub out-there : {o' e' t' : List ℕ} → WroteMerged s es ts o e t o' e' t' → Outcome s es ts o e t (Packets n u) o' e' t'
+        pub out-there : {o' e' t' : List ℕ} → WroteMerged s es ts o e t o' e' t' → Outcome s es ts o e t (Ok (record { bytes = n; units = u })) o' e' t'
         out-there w =
             let c : u ≡ length (bytes_of (merged_of s es ts)) = z.count ∙ sym (length-bytes_of (merged_of s es ts)) in
             record {
@@ -114,7 +117,7 @@ module _ (s es ts o e t : List ℕ) where
 
 -- ---- frameless packets alone
 
-module _ (s es ts : List ℕ) (g : None s es ts) where
+module _ (s es ts : List ℕ) (g : NoneCloses s es ts) where
   abbrev qs : List Packet
   qs = packets_of s es ts
 
@@ -161,7 +164,7 @@ module _ (s es ts : List ℕ) (g : None s es ts) where
     none-fits : (room : PacketRoom) → fits_packets 0 0 room ≡ true
     none-fits room = rw (le-leb 0 limit (omega arith), le-leb 0 room.bytes (omega arith), le-leb 0 room.ends (omega arith), le-leb 0 room.times (omega arith))
 
-    pub out_none : length ts ≤ i → (o e t : List ℕ) → Outcome s es ts o e t (Packets 0 0) o e t
+    pub out_none : length ts ≤ i → (o e t : List ℕ) → Outcome s es ts o e t (Ok (record { bytes = 0; units = 0 })) o e t
     out_none l o e t = out-there s es ts o e t g.given 0 0 (totals-none l) (none-fits (lent_room o e t)) (written_none l o e t)
 
     module _ (l : i < length ts) where
@@ -204,18 +207,18 @@ module _ (s es ts : List ℕ) (g : None s es ts) where
             times = rw one_time (pasted-one t 0 (get_or ts i 0) k.1);
           }
 
-pub some-closing : {s es ts : List ℕ} {c : ℕ} → Some s es ts c → Closing s es ts c
+pub some-closing : {s es ts : List ℕ} {c : ℕ} → OneCloses s es ts c → Closing s es ts c
 some-closing k = record { short = k.given.short; match = k.given.match; next = k.next; some = k.some }
 
 -- the first that closes is none
-pub none-closes : {s es ts : List ℕ} {c : ℕ} → Given s es ts → Next (listed s es) 0 c → length ts ≤ c → None s es ts
+pub none-closes : {s es ts : List ℕ} {c : ℕ} → Given s es ts → Next (listed s es) 0 c → length ts ≤ c → NoneCloses s es ts
 none-closes {s} {es} {ts} {c} g n l =
     let k : c ≡ length es = omega (arith, n.within, listed-length 0 s es, g.match) in
     record { given = g; next = rw k at n }
 
 -- an outcome, as four clauses ask for it
-pub four : {s es ts o e t o' e' t' : List ℕ} {r : Merged} → Outcome s es ts o e t r o' e' t'
-    → (merged_says r ≡ sizes_of (answer bytes_of (merged_at (lent_room o e t) s es ts)))
+pub four : {s es ts o e t o' e' t' : List ℕ} {r : Result Sizes Refusal} → Outcome s es ts o e t r o' e' t'
+    → (says r ≡ sizes_of (answer bytes_of (merged_at (lent_room o e t) s es ts)))
     × ((o' ≡ bytes_after (answer bytes_of (merged_at (lent_room o e t) s es ts)) o)
     × ((e' ≡ ends_after (answer bytes_of (merged_at (lent_room o e t) s es ts)) e) × (t' ≡ times_after (merged_at (lent_room o e t) s es ts) t)))
 four x = (x.answers, (x.bytes, (x.ends, x.times)))

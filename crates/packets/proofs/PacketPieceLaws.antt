@@ -3,16 +3,16 @@ use Prim.Native.Nat.{ℕ, ◌+◌, ◌≤◌, ◌<◌}
 use native.Mathlib.Omega.{arith}
 use mathlib.Core.Path.{◌≡◌, refl, ap, ◌∙◌}
 use mathlib.Core.List.{List, [], ◌∷◌, ◌++◌}
-use mathlib.Core.Bool.{Bool, true, false}
+use mathlib.Core.Bool.{true, false}
 use lib.ListN.{length, length-append}
 use lib.Seq.{slice}
-use Rattle.bitio.specs.Parse.{Answer, refused, accepted, answer}
+use Rattle.bitio.specs.Parse.{Answer, refused, accepted}
 use Rattle.bitio.specs.Lent.{pasted, Wrote}
 use Rattle.bitio.specs.Every.Every.{also}
 use Rattle.bitio.proofs.EveryLaws.{every_append}
 use Rattle.bitio.proofs.LentLaws.{wrote-length, wrote-more}
 use Rattle.obu.specs.Obu.{Obu, obus}
-use Rattle.obu.specs.Unit.{count, of_unit}
+use Rattle.obu.specs.Unit.{of_unit}
 use Rattle.obu.proofs.ObuLaws.{obus-nil}
 use Rattle.bitio.specs.Limits.{limit, capped}
 use Rattle.container.specs.Stream.{lead, others, either}
@@ -26,15 +26,6 @@ use Rattle.packets.proofs.PacketSteps.{first-obu, lead-found, lead-missing}
 use Rattle.packets.proofs.PacketRunLaws.{lead-empty, run_bytes, parsed-append}
 
 -- ---- whether a unit parses
-
-module _ (p : Obu → Bool) where
-  pub parses-counted : (x : Answer (List Obu)) (n : ℕ) → answer (count p) x ≡ accepted n → true ≡ of_unit false (λ os. true) x
-  parses-counted (refused k) n e = let z : ◌≡◌ {A = ℕ} 0 1 = cc in absurd (omega arith)
-  parses-counted (accepted os) n e = refl
-
-  pub parses-refused : (x : Answer (List Obu)) (k : ℕ) → answer (count p) x ≡ refused k → false ≡ of_unit false (λ os. true) x
-  parses-refused (refused j) k e = refl
-  parses-refused (accepted os) k e = let z : ◌≡◌ {A = ℕ} 0 1 = cc in absurd (omega arith)
 
 pub parses-is : (u : List ℕ) → parses_unit u ≡ true → Parses u
 parses-is u e = go (obus u) refl e

@@ -4,21 +4,15 @@ use native.Mathlib.Omega.{arith}
 use mathlib.Core.Path.{◌≡◌, refl, sym, ap, ap₂, ◌∙◌}
 use mathlib.Core.List.{List, [], ◌∷◌, ◌++◌, append_assoc, append-nil}
 use mathlib.Core.Bool.{Bool, true, false, cond as pick}
-use mathlib.Core.Logic.{inl, inr}
 use lib.ListN.{length, get_or, length-append}
 use lib.Seq.{slice, slice_empty}
-use borrow.Author.Tests.{lt-ltb}
-use types.Run.{OneOf}
-use denote.Enum.Declared.{tag_of}
-use Rattle.bitio.specs.Parse.{accepted, Head, stop, item}
+use Rattle.bitio.specs.Parse.{accepted}
 use Rattle.bitio.specs.Lent.{pasted, Wrote}
 use Rattle.bitio.proofs.LentLaws.{pasted-nil, pasted-more, pasted_length}
-use Rattle.obu.specs.Obu.{Obu, head_obu_of, head_obu, obus}
-use Rattle.obu.specs.Place.{place_of, obu_place, obu_says}
-use Rattle.obu.specs.contracts.reader.ObuAt.{the_type}
-use Rattle.obu.specs.declared.reader.ObuAt.{ObuAt}
-use Rattle.obu.specs.declared.reader.ObuAt.TheVariants.{Found, End, Refused}
-use Rattle.obu.proofs.PlaceLaws.{Placed}
+use Rattle.obu.specs.Obu.{Obu, head_obu_of, obus}
+use Rattle.obu.specs.Place.{no_more, wrong, obu_place}
+use Rattle.obu.proofs.PlaceLaws.{Placed, is-end, is-wrong}
+use Rattle.bitio.proofs.ParseLaws.{length_none}
 use Rattle.bitio.specs.Limits.{limit, capped}
 use Rattle.obu.specs.Unit.{is_delimiter}
 use Rattle.container.specs.Stream.{others}
@@ -32,25 +26,16 @@ use Rattle.packets.proofs.PacketListLaws.{listed-length, listed-short}
 
 -- ---- the delimiter at the head
 
-no_found : OneOf (1 ∷ 2 ∷ []) 0 → ⊥
-no_found (inl q) = omega arith
-no_found (inr q) = omega arith
-
 pub lead-empty : lead_of [] ≡ []
 unfolding head_obu_of
 lead-empty = refl
 
 -- no OBU is at the head
-pub lead-none : (s : List ℕ) (r : ObuAt) → OneOf (1 ∷ 2 ∷ []) (tag_of the_type r) → obu_says r ≡ obu_place s 0 → Range s 0 0 (lead_of s)
-unfolding obu_place
-lead-none [] r k e = rw lead-empty (here {a = 0} (omega arith))
-lead-none (b ∷ s) r k e = go (head_obu (b ∷ s)) refl r k (rw (lt-ltb 0 (length (b ∷ s)) (omega arith)) at e)
-  where
-    go : (x : Head Obu) → head_obu (b ∷ s) ≡ x → (r : ObuAt) → OneOf (1 ∷ 2 ∷ []) (tag_of the_type r) → obu_says r ≡ place_of (b ∷ s) x → Range (b ∷ s) 0 0 (lead_at x)
-    go (stop j) h r k e = here {a = 0} (omega arith)
-    go (item o t) h (Found f) k e = absurd (no_found k)
-    go (item o t) h End k e = let z : ◌≡◌ {A = ℕ} 0 1 = cc in absurd (omega arith)
-    go (item o t) h (Refused j) k e = let z : ◌≡◌ {A = ℕ} 0 1 = cc in absurd (omega arith)
+pub lead-end : (s : List ℕ) → obu_place s 0 ≡ no_more → Range s 0 0 (lead_of s)
+lead-end s e = let k : s ≡ [] = length_none s (omega (arith, is-end s 0 e)) in rw (k, lead-empty) (here {a = 0} (omega arith))
+
+pub lead-wrong : (s : List ℕ) {k : ℕ} → obu_place s 0 ≡ wrong k → Range s 0 0 (lead_of s)
+lead-wrong s {k} e = rw (ap lead_at (is-wrong s 0 k e).1) (here {a = 0} (omega arith))
 
 module _ {s : List ℕ} {o : Obu} {a b : ℕ} (p : Placed s 0 o a b) where
   lead-head : lead_of s ≡ pick (is_delimiter o) (o ∷ []) []
@@ -138,11 +123,6 @@ module _ {s es : List ℕ} {a b : ℕ} (r : Run s es a b) (i : ℕ) (h : a ≤ i
 
       pub run-roomy : Roomy u 0 (length u) keep o w
       run-roomy = record { os = run-parses.os; range = range; room = omega (arith, run_fits, run_long, more-length keep, x.next) }
-
-      pub run-same : {v : ℕ} {p : List ℕ} → WroteKept u 0 (length u) keep o w v p → length p ≡ length d
-      run-same f =
-          let y = f run-parses.os range in
-          ap length y.out ∙ pasted_length o w (kept_bytes keep run-parses.os) (omega (arith, run_fits, run_long, more-length keep, x.next)) ∙ run_long
 
       pub run-wrote : {v : ℕ} {p : List ℕ} → WroteKept u 0 (length u) keep o w v p → Wrote d to (run_bytes keep us a (i + 1)) v p
       run-wrote {v} {p} f =

@@ -6,9 +6,7 @@ use Rattle.container.specs.Stream.{stream_bytes}
 use Rattle.packets.specs.Packets.{Packet, merge_packets}
 use Rattle.bitio.specs.Limits.{led34}
 use Rattle.container.specs.Limits.{fits}
-use Rattle.container.specs.Units.{units_at, Sizes}
-use Rattle.packets.specs.declared.packets.Merged.{Merged}
-use Rattle.packets.specs.declared.packets.Merged.TheVariants.{Packets, Refused}
+use Rattle.container.specs.Units.{units_at}
 
 -- the units us with the times ts
 unfoldable pub stamped : List ℕ → List (List ℕ) → List Packet
@@ -53,8 +51,3 @@ merged_at room s es ts = led34 (length s) (and_next (packets_at s es ts) (λ qs.
 abbrev pub times_after : Answer (List Packet) → List ℕ → List ℕ
 times_after (refused k) d = d
 times_after (accepted ps) d = pasted d 0 (times_of ps)
-
--- 01's number and values for each case of Merged
-abbrev pub merged_says : Merged → Answer Sizes
-merged_says (Packets n u) = accepted (record { bytes = n; units = u })
-merged_says (Refused k) = refused k

@@ -1,4 +1,2 @@
 pub mod SubexpLaws
-pub mod FoldLaws
-pub mod LosslessLaws
 pub mod SignLaws

@@ -4,8 +4,9 @@ use native.Mathlib.Omega.{arith}
 use native.Mathlib.Decide.{dec_lt}
 use mathlib.Core.Path.{◌≡◌, refl, sym, ◌∙◌}
 use mathlib.Core.Logic.{◌⊎◌, ⊎_elim}
-use mathlib.Core.List.{List, foldl}
-use mathlib.Core.Bool.{Bool, true, false, ◌&&◌, cond as pick}
+use mathlib.Core.List.{List}
+use Rattle.std.specs.List.{list_all}
+use mathlib.Core.Bool.{Bool, true, false, cond as pick}
 use lib.Dec.{eqb, ltb}
 use lib.IntN.{pos, negsuc, ◌-ℤ◌, +ℤ_idl, +ℤ_idr}
 use lib.ListN.{replicate}
@@ -66,9 +67,9 @@ index_same base v h =
           h
     ]
 
-all_same : {p r : ℕ → Bool} {l : List ℕ} → Every (λ v. p v ≡ r v) l → (t : Bool) → foldl (λ so_far v. so_far && p v) t l ≡ foldl (λ so_far v. so_far && r v) t l
-all_same nothing t = refl
-all_same {p} {r} (also {a = a} e x) t = rw e (all_same x (t && r a))
+all_same : {p r : ℕ → Bool} {l : List ℕ} → Every (λ v. p v ≡ r v) l → list_all p l ≡ list_all r l
+all_same nothing = refl
+all_same (also e x) = rw (e, all_same x)
 
 every_map : {P Q : ℕ → Type 0} {l : List ℕ} → ((v : ℕ) → P v → Q v) → Every P l → Every Q l
 every_map f nothing = nothing
@@ -85,7 +86,7 @@ rules-agree q r n x =
       zero_same q.delta_q_u_ac r.u-ac n.u-ac,
       zero_same q.delta_q_v_dc r.v-dc n.v-dc,
       zero_same q.delta_q_v_ac r.v-ac n.v-ac,
-      all_same (every_map (index_same q.base_q_idx) x) true,
+      all_same (every_map (index_same q.base_q_idx) x),
     )
 
 -- ---- where they do not

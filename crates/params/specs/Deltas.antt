@@ -10,7 +10,7 @@ delta_q_params base-q-idx =
     done present))
 
 -- AV1 5.9.18. on: delta_q_present, and no intra block copy
-unfoldable pub delta_lf_params : Bool → Syntax ℕ
+unfoldable pub delta_lf_params : Bool → Syntax (Unit {0})
 delta_lf_params on =
     field on 1 (λ present.
     field (eqb present 1) 2 (λ res.

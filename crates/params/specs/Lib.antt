@@ -7,4 +7,3 @@ pub mod Cdef
 pub mod Restoration
 pub mod SkipMode
 pub mod Motion
-pub mod code

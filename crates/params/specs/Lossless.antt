@@ -1,6 +1,6 @@
 -- AV1 5.9.2 CodedLossless, by either way to take the bits of a signed number.
-use Rattle.std.specs.Prelude.{ℕ, ◌+◌, ◌-◌, ◌^◌, Bool, true, ◌&&◌, cond as pick, eqb, ltb}
-use mathlib.Core.List.{List, foldl}
+use Rattle.std.specs.Prelude.{ℕ, ◌+◌, ◌-◌, ◌^◌, List, Bool, ◌&&◌, cond as pick, eqb, ltb}
+use Rattle.std.specs.List.{list_all}
 use Rattle.params.specs.declared.quant.Quantizer.{Quantizer}
 
 -- ---- the n + 1 bits v as a signed number: v itself below 2 ^ n, else so far below zero
@@ -30,10 +30,6 @@ is_zero rule n v = eqb (upwards n v + downwards rule n v) 0
 abbrev pub qindex : (ℕ → ℕ → ℕ) → ℕ → ℕ → ℕ
 qindex rule base alt-q = base + upwards 8 alt-q - downwards rule 8 alt-q
 
--- each of them
-abbrev pub all : (ℕ → Bool) → List ℕ → Bool
-all p l = foldl (λ so_far v. so_far && p v) true l
-
 unfoldable pub no_delta : (ℕ → ℕ → ℕ) → Quantizer → Bool
 no_delta rule q =
     is_zero rule 6 q.delta_q_y_dc
@@ -44,4 +40,4 @@ no_delta rule q =
 
 -- AV1 5.9.2: with the bits of each segment's SEG_LVL_ALT_Q
 unfoldable pub coded_lossless : (ℕ → ℕ → ℕ) → Quantizer → List ℕ → Bool
-coded_lossless rule q alts = no_delta rule q && all (λ v. eqb (qindex rule q.base_q_idx v) 0) alts
+coded_lossless rule q alts = no_delta rule q && list_all (λ v. eqb (qindex rule q.base_q_idx v) 0) alts

@@ -10,7 +10,7 @@ subexp_bits i = pick (eqb i 0) 3 (i + 2)
 
 -- AV1 5.9.28 decode_subexp of n numbers, from its turn i on, for so many turns at most
 unfoldable pub decode_subexp : ℕ → ℕ → ℕ → ℕ → Syntax ℕ
-decode_subexp zero n i mk = read_over
+decode_subexp zero n i mk = done 0
 decode_subexp (suc turns) n i mk =
     branch (leb n (mk + 3 * 2 ^ subexp_bits i))
     (sub (ns (n - mk)) (λ v.
@@ -25,7 +25,7 @@ decode_subexp (suc turns) n i mk =
 
 -- AV1 5.9.25 read_global_param, where on, of n numbers. More turns would change nothing up to n = 2 ^ 14 (`enough`)
 unfoldable pub read_global_param : Bool → ℕ → Syntax ℕ
-read_global_param on n = branch on (decode_subexp 16 n 0 0) read_over (λ v. done v)
+read_global_param on n = branch on (decode_subexp 16 n 0 0) (done 0) (λ v. done v)
 
 -- the numbers from - 2 ^ bits to 2 ^ bits
 abbrev pub numbers : ℕ → ℕ
@@ -33,7 +33,7 @@ numbers bits = 2 * 2 ^ bits + 1
 
 -- the parameters of a reference that has motion. fine: allow_high_precision_mv. GM_ABS_ALPHA_BITS and GM_ABS_TRANS_BITS are 12,
 -- GM_ABS_TRANS_ONLY_BITS is 9
-unfoldable pub gm_params : Bool → Syntax ℕ
+unfoldable pub gm_params : Bool → Syntax (Unit {0})
 gm_params fine =
     field true 1 (λ rot-zoom.
     field (not (eqb rot-zoom 1)) 1 (λ translation.
@@ -46,13 +46,13 @@ gm_params fine =
     read_over))))))))
 
 -- a reference: is_global, and its parameters where it is 1
-unfoldable pub motion : Bool → Syntax ℕ
+unfoldable pub motion : Bool → Syntax (Unit {0})
 motion fine =
     field true 1 (λ global.
     branch (eqb global 1) (gm_params fine) read_over (λ v. done v))
 
 -- AV1 5.9.24. on: the frame is no intra frame
-unfoldable pub global_motion_params : Bool → Bool → Syntax ℕ
+unfoldable pub global_motion_params : Bool → Bool → Syntax (Unit {0})
 global_motion_params on fine =
     sub (times (pick on 7 0) (motion fine)) (λ nothing.
     done nothing)

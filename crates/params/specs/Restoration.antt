@@ -8,7 +8,7 @@ abbrev pub uses_chroma_lr : ℕ → ℕ → Bool
 uses_chroma_lr u v = not (eqb u 0 && eqb v 0)
 
 -- AV1 5.9.20
-unfoldable pub lr_params : Restoration → Syntax ℕ
+unfoldable pub lr_params : Restoration → Syntax (Unit {0})
 lr_params x =
     field x.on 2 (λ y.
     field (x.on && x.color) 2 (λ u.

@@ -1,9 +1,8 @@
 -- AV1 5.9.22 skip_mode_params.
-use Rattle.std.specs.Prelude.{ℕ, ◌+◌, ◌-◌, ◌%◌, ◌^◌, Bool, true, false, not, ◌&&◌, ◌||◌, cond as pick, leb, ltb}
-use mathlib.Core.List.{List, foldl}
+use Rattle.std.specs.Prelude.{ℕ, ◌+◌, ◌-◌, ◌%◌, ◌^◌, List, Bool, true, false, ◌&&◌, ◌||◌, cond as pick, leb, ltb, Option, Some, None}
+use Rattle.std.specs.List.{fold, list_any}
 use Rattle.syntax.specs.Syntax.{Syntax, done, field}
 use Rattle.params.specs.declared.skip.OrderHints.{OrderHints}
-use Rattle.params.specs.declared.skip.Nearest.{Nearest}
 
 -- AV1 5.9.3 get_relative_dist of two hints of so many bits, around a circle: the lower half are the distances from 0 on, the upper half
 -- those below 0
@@ -18,27 +17,28 @@ is_before bits a b = leb (2 ^ (bits - 1)) (relative_dist bits a b)
 unfoldable pub is_after : ℕ → ℕ → ℕ → Bool
 is_after bits a b = ltb 0 (relative_dist bits a b) && ltb (relative_dist bits a b) (2 ^ (bits - 1))
 
--- one of them at least
-abbrev pub any : (ℕ → Bool) → List ℕ → Bool
-any p l = foldl (λ so_far v. so_far || p v) false l
-
-abbrev pub nearest : Bool → ℕ → Nearest
-nearest found hint = record { found = found; hint = hint }
+-- after the nearest so far, if there is one
+abbrev pub is_nearer : ℕ → ℕ → Option ℕ → Bool
+is_nearer bits hint None = true
+is_nearer bits hint (Some nearest) = is_after bits hint nearest
 
 -- the nearest reference before the frame, when one more is seen
-unfoldable pub nearer : ℕ → ℕ → Nearest → ℕ → Nearest
-nearer bits frame best hint =
-    pick (is_before bits hint frame && (not best.found || is_after bits hint best.hint)) (nearest true hint) best
+unfoldable pub nearer : ℕ → ℕ → Option ℕ → ℕ → Option ℕ
+nearer bits frame best hint = pick (is_before bits hint frame && is_nearer bits hint best) (Some hint) best
 
 -- forwardHint: the nearest before the frame, and the first of several that are as near
-unfoldable pub forward : ℕ → ℕ → List ℕ → Nearest
-forward bits frame refs = foldl (nearer bits frame) (nearest false 0) refs
+unfoldable pub forward : ℕ → ℕ → List ℕ → Option ℕ
+forward bits frame refs = fold (nearer bits frame) None refs
 
--- skip_mode_allowed: one reference before the frame, and one behind it or one before the nearest
+-- a second reference, with the nearest before the frame: one behind the frame, or one before the nearest
+abbrev pub has_second : ℕ → ℕ → List ℕ → Option ℕ → Bool
+has_second bits frame refs None = false
+has_second bits frame refs (Some nearest) =
+    list_any (λ hint. is_after bits hint frame) refs || list_any (λ hint. is_before bits hint nearest) refs
+
+-- skip_mode_allowed: one reference before the frame, and a second
 unfoldable pub skip_mode_allowed : ℕ → ℕ → List ℕ → Bool
-skip_mode_allowed bits frame refs =
-    (forward bits frame refs).found
-    && (any (λ hint. is_after bits hint frame) refs || any (λ hint. is_before bits hint (forward bits frame refs).hint) refs)
+skip_mode_allowed bits frame refs = has_second bits frame refs (forward bits frame refs)
 
 -- AV1 5.9.22. on: an inter frame with reference_select, and order hints. order_hint_bits_minus_1 has three bits
 unfoldable pub skip_mode_params : Bool → OrderHints → Syntax ℕ

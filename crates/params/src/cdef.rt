@@ -1,42 +1,40 @@
 // cdef_params (AV1 5.9.19), of which nothing is kept.
 ghost use Rattle.std.specs.Prelude.{◌≡◌};
-ghost use Rattle.syntax.specs.code.Cursor.{follow, here};
+ghost use Rattle.bitio.specs.Read.{reading};
+ghost use Rattle.syntax.specs.Syntax.{run};
 ghost use Rattle.syntax.specs.Repeat.{times};
 ghost use Rattle.params.specs.Cdef as spec;
 
-use syntax::choice;
-use syntax::cursor::{Cursor, Got};
+use bitio::reader::{BitReader, Read};
 
-fn strengths(c: Cursor, s: &[u8], color: bool) -> Got
-    ensures { here result.v result.at ≡ follow (spec.strengths color) s.now c }
+#[tactic(auto, unfolding(syntax::specs::Syntax::run, crate::specs::Cdef::strengths))]
+fn strengths(r: BitReader, s: &[u8], color: bool) -> Read<()>
+    ensures { reading result ≡ run (spec.strengths color) s.now r.pos }
 {
-    let y_pri = c.f(s, 4);
-    let y_sec = y_pri.at.f(s, 2);
-    let uv_pri = y_sec.at.f_if(s, color, 4);
-    let uv_sec = uv_pri.at.f_if(s, color, 2);
-    let at = uv_sec.at;
-    Got { v: 0, at }
+    let (_y_pri, r) = r.f(s, 4)?;
+    let (_y_sec, r) = r.f(s, 2)?;
+    let (_uv_pri, r) = r.f_if(s, color, 4)?;
+    let (_uv_sec, r) = r.f_if(s, color, 2)?;
+    Ok(((), r))
 }
 
-fn all_strengths(c: Cursor, s: &[u8], color: bool, n: usize) -> Got
-    ensures { here result.v result.at ≡ follow (times n (spec.strengths color)) s.now c }
+fn all_strengths(r: BitReader, s: &[u8], color: bool, n: usize) -> Read<()>
+    ensures { reading result ≡ run (times n (spec.strengths color)) s.now r.pos }
 {
-    let mut at = c;
-    let mut i: usize = 0;
-    while i < n {
-        let next = strengths(at, s, color);
-        at = next.at;
-        i += 1;
+    let mut reader = r;
+    for _ in 0..n {
+        (_, reader) = strengths(reader, s, color)?;
     }
-    Got { v: 0, at }
+    Ok(((), reader))
 }
 
 // on: neither lossless nor intra block copy, and enable_cdef; color: more than one plane.
-pub fn cdef_params(c: Cursor, s: &[u8], on: bool, color: bool) -> Got
-    ensures { here result.v result.at ≡ follow (spec.cdef_params on color) s.now c }
+#[tactic(auto, unfolding(syntax::specs::Syntax::run, crate::specs::Cdef::cdef_params))]
+pub fn cdef_params(r: BitReader, s: &[u8], on: bool, color: bool) -> Read<()>
+    ensures { reading result ≡ run (spec.cdef_params on color) s.now r.pos }
 {
-    let damping = c.f_if(s, on, 2);
-    let bits = damping.at.f_if(s, on, 2);
-    let n = choice::times_if(on, choice::power(bits.v));
-    all_strengths(bits.at, s, color, n)
+    let (_damping, r) = r.f_if(s, on, 2)?;
+    let (bits, r) = r.f_if(s, on, 2)?;
+    let n = if on { 1usize << bits } else { 0 };
+    all_strengths(r, s, color, n)
 }

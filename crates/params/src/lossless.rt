@@ -10,7 +10,7 @@ fn index_is_zero(base_q_idx: u64, alt_q: u64) -> bool
     ensures { result ≡ eqb (spec.qindex sign_magnitude base_q_idx alt_q) 0 }
 {
     if alt_q < 256 {
-        return (base_q_idx == 0) & (alt_q == 0);
+        return base_q_idx == 0 && alt_q == 0;
     }
     base_q_idx <= alt_q - 256
 }
@@ -19,28 +19,23 @@ fn index_is_zero(base_q_idx: u64, alt_q: u64) -> bool
 fn delta_is_zero(v: u64) -> bool
     ensures { result ≡ spec.is_zero sign_magnitude 6 v }
 {
-    (v == 0) | (v == 64)
+    v == 0 || v == 64
 }
 
+#[tactic(auto, unfolding(crate::specs::Lossless::no_delta))]
 fn no_delta(q: Quantizer) -> bool
     ensures { result ≡ spec.no_delta sign_magnitude q }
 {
-    let y_dc = delta_is_zero(q.delta_q_y_dc);
-    let u_dc = delta_is_zero(q.delta_q_u_dc);
-    let u_ac = delta_is_zero(q.delta_q_u_ac);
-    let v_dc = delta_is_zero(q.delta_q_v_dc);
-    let v_ac = delta_is_zero(q.delta_q_v_ac);
-    y_dc & (u_dc & (u_ac & (v_dc & v_ac)))
+    delta_is_zero(q.delta_q_y_dc)
+        && delta_is_zero(q.delta_q_u_dc)
+        && delta_is_zero(q.delta_q_u_ac)
+        && delta_is_zero(q.delta_q_v_dc)
+        && delta_is_zero(q.delta_q_v_ac)
 }
 
+#[tactic(auto, unfolding(crate::specs::Lossless::coded_lossless))]
 pub fn coded_lossless(q: Quantizer, alt_q: [u64; 8]) -> bool
     ensures { result ≡ spec.coded_lossless sign_magnitude q alt_q }
 {
-    let mut zero = true;
-    let mut i: usize = 0;
-    while i < 8 {
-        zero = zero & index_is_zero(q.base_q_idx, alt_q[i]);
-        i += 1;
-    }
-    no_delta(q) & zero
+    no_delta(q) && alt_q.iter().all(|v| index_is_zero(q.base_q_idx, *v))
 }

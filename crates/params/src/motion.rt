@@ -1,12 +1,12 @@
 // global_motion_params (AV1 5.9.24), of which nothing is kept.
-ghost use Rattle.std.specs.Prelude.{◌≡◌, ◌≤◌};
-ghost use Rattle.syntax.specs.code.Cursor.{follow, here};
+ghost use Rattle.std.specs.Prelude.{◌≡◌, ◌≤◌, ◌+◌};
+ghost use Rattle.bitio.specs.Read.{reading};
+ghost use Rattle.syntax.specs.Syntax.{run};
 ghost use Rattle.syntax.specs.Repeat.{times};
 ghost use Rattle.params.specs.Motion as spec;
 
-use syntax::choice::either;
-use syntax::cursor::{Cursor, Got};
-use syntax::{choice, near};
+use bitio::reader::{BitReader, Read};
+use syntax::near;
 
 // How many numbers lie from - 2^bits to 2^bits: GM_ABS_ALPHA_BITS and GM_ABS_TRANS_BITS are 12, GM_ABS_TRANS_ONLY_BITS is 9,
 // one less without allow_high_precision_mv.
@@ -16,103 +16,107 @@ const NUMBERS_9: u64 = 1025;
 
 const NUMBERS_8: u64 = 513;
 
-// decode_subexp (AV1 5.9.28).
-fn decode_subexp(c: Cursor, s: &[u8], n: u64) -> Got
-    requires { (1 ≤ n) × (n ≤ 16384) }
-    ensures { here result.v result.at ≡ follow (spec.decode_subexp 16 n 0 0) s.now c }
+// b2 of decode_subexp, whose k is 3.
+fn subexp_bits(i: usize) -> usize
+    requires { i ≤ 16 }
+    ensures width { result ≡ spec.subexp_bits i }
+    ensures few { result ≤ i + 3 }
 {
-    let mut at = c;
-    let mut i: u64 = 0;
+    if i == 0 { 3 } else { i + 2 }
+}
+
+// decode_subexp (AV1 5.9.28).
+fn decode_subexp(r: BitReader, s: &[u8], n: u64) -> Read<u64>
+    requires { (1 ≤ n) × (n ≤ 16384) }
+    ensures { reading result ≡ run (spec.decode_subexp 16 n 0 0) s.now r.pos }
+{
+    let mut reader = r;
+    let mut i: usize = 0;
     let mut mk: u64 = 0;
+    // kept: AV1's own loop, which a return ends; a `for` would need a bound, and code behind it that is never reached
     loop {
-        let b2 = either(i == 0, 3, i + 2);
+        let b2 = subexp_bits(i);
         let a = 1u64 << b2;
         if n <= mk + 3 * a {
-            let last = near::ns(at, s, n - mk);
-            let end = last.at;
-            return Got {
-                v: last.v + mk,
-                at: end,
-            };
+            let (v, r) = near::ns(reader, s, n - mk)?;
+            return Ok((v + mk, r));
         }
-        let more = at.f(s, 1);
-        if more.v != 1 {
-            let last = more.at.short_if(s, true, b2 as usize);
-            let end = last.at;
-            return Got {
-                v: last.v + mk,
-                at: end,
-            };
+        let (more, r) = reader.f(s, 1)?;
+        if more != 1 {
+            let (v, r) = r.f(s, b2)?;
+            return Ok((v + mk, r));
         }
         i += 1;
         mk += a;
-        at = more.at;
+        reader = r;
     }
 }
 
 // A parameter of n numbers, where on.
-fn read_global_param(c: Cursor, s: &[u8], on: bool, n: u64) -> Got
+#[tactic(auto, unfolding(syntax::specs::Syntax::run, crate::specs::Motion::read_global_param))]
+fn read_global_param(r: BitReader, s: &[u8], on: bool, n: u64) -> Read<u64>
     requires { (1 ≤ n) × (n ≤ 16384) }
-    ensures { here result.v result.at ≡ follow (spec.read_global_param on n) s.now c }
+    ensures { reading result ≡ run (spec.read_global_param on n) s.now r.pos }
 {
     if on {
-        return decode_subexp(c, s, n);
+        decode_subexp(r, s, n)
+    } else {
+        Ok((0, r))
     }
-    Got { v: 0, at: c }
 }
 
 // The parameters of a reference that has motion. fine: allow_high_precision_mv.
-fn gm_params(c: Cursor, s: &[u8], fine: bool) -> Got
-    ensures { here result.v result.at ≡ follow (spec.gm_params fine) s.now c }
+#[tactic(auto, unfolding(syntax::specs::Syntax::run, crate::specs::Motion::gm_params))]
+fn gm_params(r: BitReader, s: &[u8], fine: bool) -> Read<()>
+    ensures { reading result ≡ run (spec.gm_params fine) s.now r.pos }
 {
-    let rot_zoom = c.f(s, 1);
-    let is_rot_zoom = rot_zoom.v == 1;
-    let translation = rot_zoom.at.f_if(s, !is_rot_zoom, 1);
-    let is_translation = translation.v == 1;
-    let p2 = read_global_param(translation.at, s, !is_translation, NUMBERS_12);
-    let p3 = read_global_param(p2.at, s, !is_translation, NUMBERS_12);
-    let p4 = read_global_param(p3.at, s, !(is_rot_zoom | is_translation), NUMBERS_12);
-    let p5 = read_global_param(p4.at, s, !(is_rot_zoom | is_translation), NUMBERS_12);
-    let n = either(
-        is_translation,
-        either(fine, NUMBERS_9, NUMBERS_8),
-        NUMBERS_12,
-    );
-    let p0 = read_global_param(p5.at, s, true, n);
-    let p1 = read_global_param(p0.at, s, true, n);
-    let at = p1.at;
-    Got { v: 0, at }
+    let (rot_zoom, r) = r.f(s, 1)?;
+    let is_rot_zoom = rot_zoom == 1;
+    let (translation, r) = r.f_if(s, !is_rot_zoom, 1)?;
+    let is_translation = translation == 1;
+    let (_p2, r) = read_global_param(r, s, !is_translation, NUMBERS_12)?;
+    let (_p3, r) = read_global_param(r, s, !is_translation, NUMBERS_12)?;
+    let is_affine = !(is_rot_zoom || is_translation);
+    let (_p4, r) = read_global_param(r, s, is_affine, NUMBERS_12)?;
+    let (_p5, r) = read_global_param(r, s, is_affine, NUMBERS_12)?;
+    let n = match (is_translation, fine) {
+        (false, _) => NUMBERS_12,
+        (true, true) => NUMBERS_9,
+        (true, false) => NUMBERS_8,
+    };
+    let (_p0, r) = read_global_param(r, s, true, n)?;
+    let (_p1, r) = read_global_param(r, s, true, n)?;
+    Ok(((), r))
 }
 
 // One reference.
-fn motion(c: Cursor, s: &[u8], fine: bool) -> Got
-    ensures { here result.v result.at ≡ follow (spec.motion fine) s.now c }
+#[tactic(auto, unfolding(syntax::specs::Syntax::run, crate::specs::Motion::motion))]
+fn motion(r: BitReader, s: &[u8], fine: bool) -> Read<()>
+    ensures { reading result ≡ run (spec.motion fine) s.now r.pos }
 {
-    let global = c.f(s, 1);
-    if global.v == 1 {
-        return gm_params(global.at, s, fine);
+    let (global, r) = r.f(s, 1)?;
+    if global == 1 {
+        gm_params(r, s, fine)
+    } else {
+        Ok(((), r))
     }
-    let at = global.at;
-    Got { v: 0, at }
 }
 
 // Those of the first n references.
-fn motions(c: Cursor, s: &[u8], fine: bool, n: usize) -> Got
-    ensures { here result.v result.at ≡ follow (times n (spec.motion fine)) s.now c }
+fn motions(r: BitReader, s: &[u8], fine: bool, n: usize) -> Read<()>
+    ensures { reading result ≡ run (times n (spec.motion fine)) s.now r.pos }
 {
-    let mut at = c;
-    let mut i: usize = 0;
-    while i < n {
-        let next = motion(at, s, fine);
-        at = next.at;
-        i += 1;
+    let mut reader = r;
+    for _ in 0..n {
+        (_, reader) = motion(reader, s, fine)?;
     }
-    Got { v: 0, at }
+    Ok(((), reader))
 }
 
 // on: the frame is no intra frame.
-pub fn global_motion_params(c: Cursor, s: &[u8], on: bool, fine: bool) -> Got
-    ensures { here result.v result.at ≡ follow (spec.global_motion_params on fine) s.now c }
+#[tactic(auto, unfolding(syntax::specs::Syntax::run, crate::specs::Motion::global_motion_params))]
+pub fn global_motion_params(r: BitReader, s: &[u8], on: bool, fine: bool) -> Read<()>
+    ensures { reading result ≡ run (spec.global_motion_params on fine) s.now r.pos }
 {
-    motions(c, s, fine, choice::times_if(on, 7))
+    motions(r, s, fine, if on { 7 } else { 0 })
 }

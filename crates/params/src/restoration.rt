@@ -1,9 +1,10 @@
 // lr_params (AV1 5.9.20), of which nothing is kept.
 ghost use Rattle.std.specs.Prelude.{◌≡◌};
-ghost use Rattle.syntax.specs.code.Cursor.{follow, here};
+ghost use Rattle.bitio.specs.Read.{reading};
+ghost use Rattle.syntax.specs.Syntax.{run};
 ghost use Rattle.params.specs.Restoration as spec;
 
-use syntax::cursor::{Cursor, Got};
+use bitio::reader::{BitReader, Read};
 
 // What lr_params goes by.
 #[derive(Clone, Copy)]
@@ -17,19 +18,17 @@ pub struct Restoration {
     pub subsampled: bool,
 }
 
-pub fn lr_params(c: Cursor, s: &[u8], x: Restoration) -> Got
-    ensures { here result.v result.at ≡ follow (spec.lr_params x) s.now c }
+#[tactic(auto, unfolding(syntax::specs::Syntax::run, crate::specs::Restoration::lr_params))]
+pub fn lr_params(r: BitReader, s: &[u8], x: Restoration) -> Read<()>
+    ensures { reading result ≡ run (spec.lr_params x) s.now r.pos }
 {
-    let y = c.f_if(s, x.on, 2);
-    let u = y.at.f_if(s, x.on & x.color, 2);
-    let v = u.at.f_if(s, x.on & x.color, 2);
-    let uses_chroma_lr = !((u.v == 0) & (v.v == 0));
-    let uses_lr = !(y.v == 0) | uses_chroma_lr;
-    let shift = v.at.f_if(s, uses_lr, 1);
-    let extra = shift
-        .at
-        .f_if(s, (shift.v == 1) & !x.use_128x128_superblock, 1);
-    let uv_shift = extra.at.f_if(s, x.subsampled & uses_chroma_lr, 1);
-    let at = uv_shift.at;
-    Got { v: 0, at }
+    let (y, r) = r.f_if(s, x.on, 2)?;
+    let (u, r) = r.f_if(s, x.on && x.color, 2)?;
+    let (v, r) = r.f_if(s, x.on && x.color, 2)?;
+    let uses_chroma_lr = !(u == 0 && v == 0);
+    let uses_lr = y != 0 || uses_chroma_lr;
+    let (shift, r) = r.f_if(s, uses_lr, 1)?;
+    let (_extra, r) = r.f_if(s, shift == 1 && !x.use_128x128_superblock, 1)?;
+    let (_uv_shift, r) = r.f_if(s, x.subsampled && uses_chroma_lr, 1)?;
+    Ok(((), r))
 }

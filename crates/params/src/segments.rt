@@ -1,66 +1,61 @@
-// segmentation_params (AV1 5.9.14).
+// segmentation_params (AV1 5.9.14), of which SEG_LVL_ALT_Q of each segment is kept, as its nine bits stand; 0 where it is not enabled.
 ghost use Rattle.std.specs.Prelude.{◌≡◌, ◌≤◌};
-ghost use Rattle.syntax.specs.code.Cursor.{follow, here};
+ghost use Rattle.bitio.specs.Read.{reading};
+ghost use Rattle.syntax.specs.Syntax.{run};
 ghost use Rattle.params.specs.Segmentation as spec;
 
-use syntax::choice;
-use syntax::cursor::{Cursor, Got};
+use bitio::reader::{BitReader, Read};
 
-// SEG_LVL_ALT_Q of each segment, as its nine bits stand; 0 where it is not enabled.
-#[derive(Clone, Copy)]
-pub struct SegmentsAt {
-    pub alt_q: [u64; 8],
-    pub at: Cursor,
-}
-
-fn feature(c: Cursor, s: &[u8], bits: usize) -> Got
-    ensures { here result.v result.at ≡ follow (spec.feature bits) s.now c }
+#[tactic(auto, unfolding(syntax::specs::Syntax::run, crate::specs::Segmentation::feature))]
+fn feature(r: BitReader, s: &[u8], bits: usize) -> Read<u64>
+    ensures { reading result ≡ run (spec.feature bits) s.now r.pos }
 {
-    let enabled = c.f(s, 1);
-    enabled.at.f_if(s, enabled.v == 1, bits)
+    let (enabled, r) = r.f(s, 1)?;
+    r.f_if(s, enabled == 1, bits)
 }
 
 // The eight features of a segment, of which SEG_LVL_ALT_Q is kept.
-fn segment(c: Cursor, s: &[u8]) -> Got
-    ensures { here result.v result.at ≡ follow spec.segment s.now c }
+#[tactic(auto, unfolding(syntax::specs::Syntax::run, crate::specs::Segmentation::segment))]
+fn segment(r: BitReader, s: &[u8]) -> Read<u64>
+    ensures { reading result ≡ run spec.segment s.now r.pos }
 {
-    let alt_q = feature(c, s, 9);
-    let lf_y_v = feature(alt_q.at, s, 7);
-    let lf_y_h = feature(lf_y_v.at, s, 7);
-    let lf_u = feature(lf_y_h.at, s, 7);
-    let lf_v = feature(lf_u.at, s, 7);
-    let reference = feature(lf_v.at, s, 3);
-    let skip = feature(reference.at, s, 0);
-    let global = feature(skip.at, s, 0);
-    let at = global.at;
-    Got { v: alt_q.v, at }
+    let (alt_q, r) = feature(r, s, 9)?;
+    let (_lf_y_v, r) = feature(r, s, 7)?;
+    let (_lf_y_h, r) = feature(r, s, 7)?;
+    let (_lf_u, r) = feature(r, s, 7)?;
+    let (_lf_v, r) = feature(r, s, 7)?;
+    let (_reference, r) = feature(r, s, 3)?;
+    let (_skip, r) = feature(r, s, 0)?;
+    let (_global, r) = feature(r, s, 0)?;
+    Ok((alt_q, r))
 }
 
-fn segments(c: Cursor, s: &[u8], n: usize) -> SegmentsAt
+fn segments(r: BitReader, s: &[u8], n: usize) -> Read<[u64; 8]>
     requires { n ≤ 8 }
-    ensures { here result.alt_q result.at ≡ follow (spec.segments n) s.now c }
+    ensures { reading result ≡ run (spec.segments n) s.now r.pos }
 {
-    let mut at = c;
+    let mut reader = r;
     let mut alt_q = [0u64; 8];
-    let mut i: usize = 0;
-    while i < n {
-        let kept = segment(at, s);
-        alt_q[i] = kept.v;
-        at = kept.at;
-        i += 1;
+    for i in 0..n {
+        (alt_q[i], reader) = segment(reader, s)?;
     }
-    SegmentsAt { alt_q, at }
+    Ok((alt_q, reader))
 }
 
 // none: primary_ref_frame is PRIMARY_REF_NONE.
-pub fn segmentation_params(c: Cursor, s: &[u8], none: bool) -> SegmentsAt
-    ensures { here result.alt_q result.at ≡ follow (spec.segmentation_params none) s.now c }
+#[tactic(auto, unfolding(syntax::specs::Syntax::run, crate::specs::Segmentation::segmentation_params))]
+pub fn segmentation_params(r: BitReader, s: &[u8], none: bool) -> Read<[u64; 8]>
+    ensures { reading result ≡ run (spec.segmentation_params none) s.now r.pos }
 {
-    let enabled = c.f(s, 1);
-    let told = (enabled.v == 1) & !none;
-    let map = enabled.at.f_if(s, told, 1);
-    let temporal = map.at.f_if(s, map.v == 1, 1);
-    let data = temporal.at.f_if(s, told, 1);
-    let n = choice::times_if((enabled.v == 1) & (none | (data.v == 1)), 8);
-    segments(data.at, s, n)
+    let (enabled, r) = r.f(s, 1)?;
+    let told = enabled == 1 && !none;
+    let (map, r) = r.f_if(s, told, 1)?;
+    let (_temporal, r) = r.f_if(s, map == 1, 1)?;
+    let (data, r) = r.f_if(s, told, 1)?;
+    let n = if enabled == 1 && (none || data == 1) {
+        8
+    } else {
+        0
+    };
+    segments(r, s, n)
 }

@@ -2,7 +2,8 @@
 use Prim.Native.Nat.{ℕ}
 use mathlib.Core.Path.{◌≡◌, refl, sym, ◌∙◌}
 use mathlib.Core.List.{List, [], map}
-use mathlib.Core.Bool.{Bool, true, false, cond as pick}
+use mathlib.Core.Bool.{false, cond as pick}
+use mathlib.Core.Option.{Option, none, some}
 use Rattle.bitio.specs.Parse.{Answer, refused, accepted, and_next}
 use Rattle.bitio.proofs.ParseLaws.{next-chain}
 use Rattle.obu.specs.Obu.{Obu, obus, unit_bytes}
@@ -12,7 +13,7 @@ use Rattle.pictures.specs.Segments.{Segment}
 use Rattle.frame.specs.UnitFrame.{unit_frame}
 use Rattle.pictures.specs.Prepare.{renewed, sent, key_ok, golden_flags, asked, Prepared, prepare}
 use Rattle.pictures.specs.Assemble.{verdict}
-use Rattle.pictures.specs.Flat.{judged, renewing, answer_or, sent_bytes}
+use Rattle.pictures.specs.Flat.{judged, rewriting, answer_or, sent_bytes}
 
 -- ---- chains of answers
 
@@ -49,9 +50,9 @@ module _ (q : Sequence) (new : List ℕ) (x : Segment) where
   by-obus (accepted os) (refused k) = refl
   by-obus (accepted os) (accepted ps) = sym (asked-out q x.key x.golden _)
 
-pub prepare-judged : (q : Sequence) (rewriting : Bool) (new : List ℕ) (x : Segment)
-    → prepare q (renewing rewriting new) x
-    ≡ and_next (judged q rewriting x.key x.golden) (λ slot. accepted (record { key = sent_bytes rewriting new x.key; golden = sent_bytes rewriting new x.golden; slot = slot }))
+pub prepare-judged : (q : Sequence) (new : Option (List ℕ)) (x : Segment)
+    → prepare q new x
+    ≡ and_next (judged q (rewriting new) x.key x.golden) (λ slot. accepted (record { key = sent_bytes new x.key; golden = sent_bytes new x.golden; slot = slot }))
 unfolding prepare judged sent and_next
-prepare-judged q true new x = by-obus q new x (obus x.key) (obus x.golden)
-prepare-judged q false new x = sym (asked-out q x.key x.golden _)
+prepare-judged q (some new) x = by-obus q new x (obus x.key) (obus x.golden)
+prepare-judged q none x = sym (asked-out q x.key x.golden _)

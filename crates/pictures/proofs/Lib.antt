@@ -3,7 +3,6 @@ pub mod UnitLaws
 pub mod SizeLaws
 pub mod RangeLaws
 pub mod JudgeLaws
-pub mod FrameLaws
 pub mod HeaderLaws
 pub mod SameLaws
 pub mod RewriteLaws

@@ -4,13 +4,11 @@ use native.Mathlib.Omega.{arith}
 use mathlib.Core.Path.{◌≡◌, refl, sym, ap, ◌∙◌}
 use mathlib.Core.List.{List}
 use mathlib.Core.Bool.{true, false}
-use mathlib.Core.Option.{none}
 use Rattle.bitio.specs.Parse.{Answer, refused, accepted, and_next, onto}
 use Rattle.blocks.specs.Numbers.{head_inside, rest, segment_count, is_whole, record_at}
 use Rattle.blocks.proofs.NumberLaws.{rest_at}
 use Rattle.pictures.specs.Segments.{Segment, segment_at, segments_from, segments_of}
-use Rattle.pictures.specs.Assemble.{stopped, made, verdict, overall}
-use Rattle.pictures.specs.Sizes.{ranged}
+use Rattle.pictures.specs.Assemble.{verdict}
 
 -- ---- one segment after the other
 
@@ -30,8 +28,8 @@ from-none : (s rs : List ℕ) → verdict (segments_from s 0 rs) ≡ accepted tt
 unfolding segments_from
 from-none s rs = refl
 
-pub not-whole : (s rs : List ℕ) → is_whole rs ≡ false → stopped 36 none ≡ ranged s rs
-unfolding segments_of overall
+pub not-whole : (s rs : List ℕ) → is_whole rs ≡ false → refused 36 ≡ verdict (segments_of s rs)
+unfolding segments_of
 not-whole s rs h = rw h
 
 -- i segments lie within s
@@ -46,11 +44,10 @@ range-start s rs h =
     record { within = omega arith; same = rw h (ap (λ (k : ℕ). verdict (segments_from s k rs)) z) }
 
 module _ {s rs : List ℕ} {i : ℕ} (r : Ranging s rs i) where
-  pub range-end : segment_count rs ≤ i → made tt ≡ ranged s rs
-  unfolding overall
+  pub range-end : segment_count rs ≤ i → accepted tt ≡ verdict (segments_of s rs)
   range-end h =
       let z : segment_count rs - i ≡ 0 = omega arith in
-      sym (ap overall (r.same ∙ ap (λ (k : ℕ). verdict (segments_from s k (record_at rs i))) z ∙ from-none s (record_at rs i)))
+      sym (r.same ∙ ap (λ (k : ℕ). verdict (segments_from s k (record_at rs i))) z ∙ from-none s (record_at rs i))
 
   module _ (h : i < segment_count rs) where
     range-here : verdict (segments_of s rs) ≡ verdict (segments_from s (suc (segment_count rs - (i + 1))) (record_at rs i))
@@ -58,9 +55,8 @@ module _ {s rs : List ℕ} {i : ℕ} (r : Ranging s rs i) where
         let z : segment_count rs - i ≡ suc (segment_count rs - (i + 1)) = omega arith in
         r.same ∙ ap (λ (k : ℕ). verdict (segments_from s k (record_at rs i))) z
 
-    pub range-unfit : head_inside s (record_at rs i) ≡ false → stopped 36 none ≡ ranged s rs
-    unfolding overall
-    range-unfit e = sym (ap overall (range-here ∙ from-unfit s (record_at rs i) (segment_count rs - (i + 1)) e))
+    pub range-unfit : head_inside s (record_at rs i) ≡ false → refused 36 ≡ verdict (segments_of s rs)
+    range-unfit e = sym (range-here ∙ from-unfit s (record_at rs i) (segment_count rs - (i + 1)) e)
 
     pub range-turn : head_inside s (record_at rs i) ≡ true → Ranging s rs (i + 1)
     range-turn e =

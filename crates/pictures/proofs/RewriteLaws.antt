@@ -4,21 +4,22 @@ use native.Mathlib.Omega.{arith}
 use mathlib.Core.Path.{◌≡◌, refl, sym, ap, ap₂, ◌∙◌}
 use mathlib.Core.List.{List, [], ◌∷◌, ◌++◌, flat_map, append-nil, append_assoc}
 use mathlib.Core.Option.{Option}
-use mathlib.Core.Bool.{true, false}
+use mathlib.Core.Bool.{true}
 use lib.ListN.{length, drop, length-append}
-use Rattle.bitio.specs.Parse.{Answer, refused, accepted}
+use Rattle.bitio.specs.Parse.{Answer, refused, accepted, answer}
 use Rattle.bitio.specs.Lent.{pasted}
 use Rattle.bitio.proofs.LentLaws.{pasted-nil, pasted-more, pasted_length}
 use Rattle.bitio.specs.Limits.{capped}
 use Rattle.obu.specs.Obu.{Obu, passes, obus, obu_bytes, unit_bytes}
 use Rattle.obu.specs.Place.{wrong, no_more, obu_place, part}
-use Rattle.obu.specs.Write.{obu}
+use Rattle.obu.specs.Write.{obu, obu_length}
+use Rattle.obu.proofs.LengthLaws.{obu-length}
 use Rattle.obu.proofs.ObuLaws.{infront}
 use Rattle.obu.proofs.PlaceLaws.{IsPlaced, Walked, walk_start, walk-next, walk_end, walk-stop, part_placed}
-use Rattle.obu.specs.Unit.{is_sequence}
+use Rattle.obu.specs.Unit.{of_unit}
 use Rattle.pictures.specs.Prepare.{renewed}
 use Rattle.pictures.specs.Assemble.{verdict}
-use Rattle.pictures.specs.Flat.{readable}
+use Rattle.pictures.specs.Flat.{readable, answer_or}
 use Rattle.pictures.specs.code.Rewrite.{renewed_bytes, rewritten}
 
 -- ---- the bytes of one OBU after the other
@@ -51,12 +52,13 @@ found-is g = rw (← g.type, ← g.ext, part_placed g.placed)
 
 -- ---- one OBU
 
--- a sequence header gets the new payload, another OBU keeps its own
-pub renewed-some : (new : List ℕ) (o : Obu) → is_sequence o ≡ true → renewed new o ≡ obu o.type o.ext new
-renewed-some new o e = rw e
+-- its length as it goes out, by its payload's
+pub renewed-length : (new : List ℕ) (o : Obu) {p : List ℕ} → p ≡ (renewed new o).payload → obu_length o.ext (length p) ≡ length (obu_bytes (renewed new o))
+renewed-length new o e = ap (λ (l : List ℕ). obu_length o.ext (length l)) e ∙ sym (obu-length (renewed new o))
 
-pub renewed-none : (new : List ℕ) (o : Obu) → is_sequence o ≡ false → renewed new o ≡ obu o.type o.ext o.payload
-renewed-none new o e = rw e
+-- and as it is written
+pub renewed-obu : (new : List ℕ) (o : Obu) {p : List ℕ} → p ≡ (renewed new o).payload → obu_bytes (obu o.type o.ext p) ≡ obu_bytes (renewed new o)
+renewed-obu new o e = ap (λ (l : List ℕ). obu_bytes (obu o.type o.ext l)) e
 
 -- ---- measuring
 
@@ -80,13 +82,20 @@ module _ {s new : List ℕ} {at n : ℕ} (m : Sizing s new at n) where
         size = omega (arith, m.size, h', e, length-next new m.front g.obu);
       }
 
-  pub size-end : obu_place s at ≡ no_more → n ≡ capped (length (rewritten new s))
-  unfolding rewritten
-  size-end q = rw (walk_end m.walked q) m.size
+  pub size-end : obu_place s at ≡ no_more → accepted n ≡ answer (λ os. capped (length (renewed_bytes new os))) (obus s)
+  size-end q = rw (walk_end m.walked q) (ap accepted m.size)
 
-  pub size-stop : (k : ℕ) → obu_place s at ≡ wrong k → 0 ≡ capped (length (rewritten new s))
-  unfolding rewritten
+  pub size-stop : (k : ℕ) → obu_place s at ≡ wrong k → refused k ≡ answer (λ os. capped (length (renewed_bytes new os))) (obus s)
   size-stop k q = rw (walk-stop m.walked k q)
+
+-- the same of a unit; one that is refused has none
+pub size-or : (s new : List ℕ) → answer_or 0 (answer (λ os. capped (length (renewed_bytes new os))) (obus s)) ≡ capped (length (rewritten new s))
+unfolding rewritten
+size-or s new = go (obus s)
+  where
+    go : (x : Answer (List Obu)) → answer_or 0 (answer (λ os. capped (length (renewed_bytes new os))) x) ≡ capped (length (of_unit [] (renewed_bytes new) x))
+    go (refused k) = refl
+    go (accepted os) = refl
 
 -- ---- writing
 

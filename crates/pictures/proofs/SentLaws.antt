@@ -3,16 +3,19 @@ use Prim.Native.Nat.{ℕ, ◌≤◌}
 use native.Mathlib.Omega.{arith}
 use mathlib.Core.Path.{◌≡◌, refl, sym, ap, ◌∙◌}
 use mathlib.Core.List.{List, []}
-use mathlib.Core.Bool.{Bool, true, false, not, cond as pick}
+use mathlib.Core.Bool.{true, false, cond as pick}
+use mathlib.Core.Option.{Option, none, some}
 use lib.Dec.{leb}
-use borrow.Author.Tests.{le-leb, not-true, not-false}
+use borrow.Author.Tests.{le-leb}
+use Rattle.std.specs.Prelude.{Option as Optional, Some, None, is_some}
+use Rattle.std.specs.Borrow.{Bor}
 use Rattle.bitio.specs.Parse.{Answer, refused, accepted, answer, and_next}
 use Rattle.obu.specs.Obu.{Obu, obus}
 use Rattle.obu.specs.Unit.{count, has, of_unit, is_sequence}
 use Rattle.obu.proofs.UnitLaws.{has-count}
 use Rattle.pictures.specs.Prepare.{sent}
 use Rattle.pictures.specs.Assemble.{verdict}
-use Rattle.pictures.specs.Flat.{readable, answer_or, sent_bytes}
+use Rattle.pictures.specs.Flat.{readable, lent, rewriting, answer_or, sent_bytes}
 use Rattle.pictures.specs.code.Rewrite.{renewed_bytes, rewritten}
 
 module _ (new u : List ℕ) where
@@ -41,20 +44,24 @@ module _ (new u : List ℕ) where
   nothing_read k (refused j) e = refl
   nothing_read k (accepted os) e = let z : ◌≡◌ {A = ℕ} 0 1 = cc in absurd (omega arith)
 
-  module _ (rewriting : Bool) where
-    pub sent-plain : not rewriting ≡ true → sent_bytes rewriting new u ≡ u
-    unfolding sent
-    sent-plain e = rw (not-true rewriting e)
+  module _ {renewal : Option (List ℕ)} (on : renewal ≡ some new) where
+    pub sent-refused : (k : ℕ) → answer (count is_sequence) (obus u) ≡ refused k → sent_bytes renewal u ≡ []
+    unfolding sent renewed_bytes
+    sent-refused k e = rw on (nothing_read k (obus u) e)
 
-    module _ (on : not rewriting ≡ false) where
-      pub sent-refused : (k : ℕ) → answer (count is_sequence) (obus u) ≡ refused k → sent_bytes rewriting new u ≡ []
-      unfolding sent renewed_bytes
-      sent-refused k e = rw (not-false rewriting on) (nothing_read k (obus u) e)
+    pub sent-copied : (n : ℕ) → n ≡ 0 → answer (count is_sequence) (obus u) ≡ accepted n → sent_bytes renewal u ≡ u
+    unfolding sent renewed_bytes
+    sent-copied n z e = rw on (no-sequence (obus u) (e ∙ ap accepted z))
 
-      pub sent-copied : (n : ℕ) → n ≡ 0 → answer (count is_sequence) (obus u) ≡ accepted n → sent_bytes rewriting new u ≡ u
-      unfolding sent renewed_bytes
-      sent-copied n z e = rw (not-false rewriting on) (no-sequence (obus u) (e ∙ ap accepted z))
+    pub sent-rewritten : (n : ℕ) → (n ≡ 0 → ⊥) → answer (count is_sequence) (obus u) ≡ accepted n → (sent_bytes renewal u ≡ rewritten new u) × (readable true u ≡ accepted tt)
+    unfolding sent renewed_bytes rewritten
+    sent-rewritten n l e = let (a, b) = some-sequence n (omega (arith, l)) (obus u) e in (rw on a, b)
 
-      pub sent-rewritten : (n : ℕ) → (n ≡ 0 → ⊥) → answer (count is_sequence) (obus u) ≡ accepted n → (sent_bytes rewriting new u ≡ rewritten new u) × (readable true u ≡ accepted tt)
-      unfolding sent renewed_bytes rewritten
-      sent-rewritten n l e = let (a, b) = some-sequence n (omega (arith, l)) (obus u) e in (rw (not-false rewriting on) a, b)
+pub sent-plain : (u : List ℕ) {renewal : Option (List ℕ)} → renewal ≡ none → sent_bytes renewal u ≡ u
+unfolding sent
+sent-plain u e = rw e
+
+-- whether units are rewritten, of a payload that is lent
+pub lent_rewriting : (renewal : Optional (Bor (List ℕ))) → is_some renewal ≡ rewriting (lent renewal)
+lent_rewriting None = refl
+lent_rewriting (Some new) = refl

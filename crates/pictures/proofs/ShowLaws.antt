@@ -1,19 +1,22 @@
 -- Laws of the show bytes, written one segment after the other.
-use Prim.Native.Nat.{ℕ, suc, ◌+◌, ◌*◌, ◌≤◌, ◌<◌}
+use Prim.Native.Nat.{ℕ, ◌+◌, ◌-◌, ◌*◌, ◌≤◌, ◌<◌}
 use native.Mathlib.Omega.{arith}
 use mathlib.Core.Path.{◌≡◌, refl, sym, ap, ap₂, ◌∙◌}
 use mathlib.Core.List.{List, [], ◌∷◌, ◌++◌, flat_map}
 use mathlib.Core.Bool.{Bool, false}
-use lib.ListN.{length, set}
+use lib.ListN.{length}
 use lib.Dec.{eqb}
 use borrow.Author.Tests.{eqb-false}
 use Rattle.bitio.specs.Parse.{Answer, refused, accepted, and_next}
 use Rattle.bitio.specs.Lent.{pasted}
 use Rattle.bitio.proofs.ParseLaws.{pick-both, pick-cases}
-use Rattle.bitio.proofs.LentLaws.{pasted-nil, pasted-sets, pasted-more, pasted_length}
+use Rattle.bitio.proofs.LentLaws.{pasted-nil, pasted-more, pasted_length}
 use Rattle.obu.specs.Obu.{obus}
 use Rattle.header.specs.Sequence.{Sequence}
-use Rattle.frame.specs.Frame.{key_frame, parse_frame}
+use Rattle.frame.specs.FrameType.{is_key}
+use Rattle.obu.proofs.WriteLaws.{copied-there}
+use borrow.Rule.Slice.PartMut.{put_mid}
+use Rattle.frame.specs.Frame.{parse_frame}
 use Rattle.frame.specs.declared.frame_header.FrameHeaderInfo.{FrameHeaderInfo}
 use Rattle.frame.specs.declared.frame_header.FrameHeaderInfo.TheVariants.{Existing, Frame}
 use Rattle.frame.proofs.FrameLaws.{HeaderIs, header_is}
@@ -59,7 +62,7 @@ flags-accepts : (x : FrameHeaderInfo) → HeaderIs x → Accepts Flags (golden_f
 flags-accepts (Existing slot) i = tt
 flags-accepts (Frame f) i =
     pick-both (Accepts Flags) f.show_frame (
-    pick-both (Accepts Flags) (eqb f.frame_type key_frame) tt (
+    pick-both (Accepts Flags) (is_key f.frame_type) tt (
     pick-cases (Accepts Flags) (eqb f.refresh_frame_flags 0) (λ e. tt) (λ e. let n = eqb-false f.refresh_frame_flags 0 e in (omega arith, i.flags)))) tt
 
 judged-accepts : (q : Sequence) (rewriting : Bool) (k g : List ℕ) → Accepts (λ n. n < 8) (judged q rewriting k g)
@@ -81,14 +84,9 @@ slot_small q rewriting k g = go (judged q rewriting k g) (judged-accepts q rewri
 
 -- ---- a show unit, byte by byte
 
-pub five-stores : (d : List ℕ) (at slot : ℕ) → at + 5 ≤ length d
-    → set (set (set (set (set d at 18) (at + 1) 0) (at + 2) 26) (at + 3) 1) (at + 4) (128 + 16 * slot + 8) ≡ pasted d at (show_unit slot)
-five-stores d at slot h =
-    let a : at + 1 ≡ suc at = omega arith in
-    let b : at + 2 ≡ suc (suc at) = omega arith in
-    let c : at + 3 ≡ suc (suc (suc at)) = omega arith in
-    let e : at + 4 ≡ suc (suc (suc (suc at))) = omega arith in
-    rw (a, b, c, e) (pasted-sets d at (show_unit slot) (omega arith))
+-- five bytes copied to their place
+pub put-five : (d : List ℕ) (at slot : ℕ) {ys : List ℕ} → at + 5 ≤ length d → ys ≡ show_unit slot → put_mid at (at + 5 - at) d ys ≡ pasted d at (show_unit slot)
+put-five d at slot h e = copied-there d (show_unit slot) at e
 
 -- ---- the show units of i segments stand there
 

@@ -12,7 +12,8 @@ use Rattle.bitio.specs.Limits.{capped}
 use Rattle.blocks.specs.Blocks.{total}
 use Rattle.blocks.specs.Numbers.{head_frames, segment_count, records_behind, frames_at, frames_in}
 use Rattle.pictures.specs.Assemble.{stopped, made, and_also, none_empty, sizes}
-use Rattle.pictures.specs.Sizes.{sized_all, filled_first}
+use Rattle.std.specs.Prelude.{Option as Optional, Some, None}
+use Rattle.pictures.specs.Sizes.{empty_says, sized_all, filled_first}
 use Rattle.blocks.proofs.NumberLaws.{behind-start, behind-end, behind_more, frames-length}
 
 -- the frames of the segments from i on
@@ -77,8 +78,8 @@ pub seek-start : (rs : List ℕ) → Seeking rs 0
 seek-start rs = record { within = omega arith; same = omega (arith, ap (λ (l : List (List ℕ)). filled_first (map head_frames l)) (behind-start rs)) }
 
 module _ {rs : List ℕ} {i : ℕ} (s : Seeking rs i) where
-  pub seek-none : segment_count rs ≤ i → i ≡ filled_first (frames_in rs)
-  seek-none h = omega (arith, s.same, ap filled_first (none-behind rs i h), filled_none)
+  pub seek-none : segment_count rs ≤ i → segment_count rs ≡ filled_first (frames_in rs)
+  seek-none h = omega (arith, s.within, s.same, ap filled_first (none-behind rs i h), filled_none)
 
   module _ (h : i < segment_count rs) where
     pub seek_found : frames_at rs i ≡ 0 → i ≡ filled_first (frames_in rs)
@@ -134,17 +135,18 @@ module _ (gop : ℕ) (rs : List ℕ) (some-there : segment_count rs ≡ 0 → �
     unfolding sizes
     refused-23 h = sym (sized-there ∙ rw (le-ltb gop 2 g, lt-ltb (total (frames_in rs)) 2 (omega arith)))
 
-    module _ (h : 2 ≤ t) (i : ℕ) (found : i ≡ filled_first (frames_in rs)) where
-      pub refused-24 : i < segment_count rs → stopped 24 (some i) ≡ sized_all gop (frames_in rs)
+    module _ (h : 2 ≤ t) (o : Optional ℕ) (found : empty_says (segment_count rs) o ≡ filled_first (frames_in rs)) where
+      pub refused-24 : (i : ℕ) → o ≡ Some i → i < segment_count rs → stopped 24 (some i) ≡ sized_all gop (frames_in rs)
       unfolding sizes and_also
-      refused-24 w =
+      refused-24 i j w =
+          let found = rw j at found in
           let l = frames-length rs in
           let e : none_empty 0 (frames_in rs) ≡ stopped 24 (some i) = empty-at 0 (frames_in rs) (omega arith) ∙ ap (λ (k : ℕ). stopped 24 (some k)) (omega arith) in
           sym (sized-there ∙ rw (le-ltb gop 2 g, le-ltb (total (frames_in rs)) 2 (omega arith), e))
 
-      module _ (w : segment_count rs ≤ i) where
+      module _ (w : o ≡ None) where
         filled : none_empty 0 (frames_in rs) ≡ made tt
-        filled = all-filled 0 (frames_in rs) (omega (arith, frames-length rs))
+        filled = let f = rw w at found in all-filled 0 (frames_in rs) (omega (arith, f, frames-length rs))
 
         pub refused-25 : 5000000 < t → stopped 25 none ≡ sized_all gop (frames_in rs)
         unfolding sizes and_also

@@ -7,7 +7,8 @@ use Rattle.obu.specs.Unit.{is_sequence, has}
 use Rattle.header.specs.Sequence.{Sequence}
 use Rattle.header.specs.Timed.{is_timed, timed_at}
 use Rattle.emit.specs.Emit.{sequence_bytes}
-use Rattle.frame.specs.Frame.{key_frame, show_byte}
+use Rattle.frame.specs.FrameType.{is_key}
+use Rattle.frame.specs.Frame.{show_byte}
 use Rattle.frame.specs.UnitFrame.{unit_frame}
 use Rattle.frame.specs.declared.frame_header.FrameHeaderInfo.{FrameHeaderInfo}
 use Rattle.frame.specs.declared.frame_header.FrameHeaderInfo.TheVariants.{Existing, Frame}
@@ -48,14 +49,14 @@ sent (some new) u = and_next (obus u) (λ os. accepted (pick (has is_sequence os
 -- 29 not a shown key
 abbrev pub key_ok : FrameHeaderInfo → Answer Unit
 key_ok (Existing slot) = refused 29
-key_ok (Frame f) = pick (eqb f.frame_type key_frame && f.show_frame) (accepted tt) (refused 29)
+key_ok (Frame f) = pick (is_key f.frame_type && f.show_frame) (accepted tt) (refused 29)
 
 -- the refresh flags of a golden. Refused: one that shows a slot again 30, that is hidden 31, that is a key 32, that keeps nothing 33
 abbrev pub golden_flags : FrameHeaderInfo → Answer ℕ
 golden_flags (Existing slot) = refused 30
 golden_flags (Frame f) =
     pick f.show_frame (
-    pick (eqb f.frame_type key_frame) (refused 32) (
+    pick (is_key f.frame_type) (refused 32) (
     pick (eqb f.refresh_frame_flags 0) (refused 33) (accepted f.refresh_frame_flags))) (refused 31)
 
 -- the lowest of n slots whose bit is set; n where none is

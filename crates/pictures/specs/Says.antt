@@ -1,17 +1,15 @@
--- 01's numbers and values for the answers of the parts of assembly.
-use Rattle.std.specs.Prelude.{ℕ}
-use Rattle.std.proofs.Math.Option.{some}
-use Rattle.bitio.specs.Parse.{Answer, refused, accepted}
+-- What the parts of assembly answer, by 01's numbers.
+use Rattle.std.specs.Prelude.{ℕ, Option as Optional, Some, None, Result, Ok, Err}
+use Rattle.std.proofs.Math.Option.{Option, none, some}
+use Rattle.bitio.specs.Refusal.{number}
 use Rattle.pictures.specs.Assemble.{Outcome, stopped, made}
-use Rattle.pictures.specs.declared.frames.GoldenSlot.{GoldenSlot}
-use Rattle.pictures.specs.declared.frames.GoldenSlot.TheVariants.{Lowest, Refused}
-use Rattle.pictures.specs.declared.pictures.Measured.{Measured}
-use Rattle.pictures.specs.declared.pictures.Measured.TheVariants.{Bytes, RefusedIn}
+use Rattle.pictures.specs.declared.fault.Fault.{Fault}
 
-abbrev pub slot_says : GoldenSlot → Answer ℕ
-slot_says (Lowest slot) = accepted slot
-slot_says (Refused k) = refused k
+-- the segment, where one is named
+abbrev pub segment_says : Optional ℕ → Option ℕ
+segment_says None = none
+segment_says (Some i) = some i
 
-abbrev pub measured_says : Measured → Outcome ℕ
-measured_says (Bytes n) = made n
-measured_says (RefusedIn k i) = stopped k (some i)
+abbrev pub outcome_of : {A : Type 0} → Result A Fault → Outcome A
+outcome_of (Ok a) = made a
+outcome_of (Err f) = stopped (number f.refusal) (segment_says f.segment)

@@ -1,16 +1,8 @@
--- What the checks of sizes and ranges answer, by 01's numbers.
-use Rattle.std.specs.Prelude.{ℕ, suc, List, [], ◌∷◌, cond as pick, eqb}
-use Rattle.std.proofs.Math.Option.{none, some}
-use Rattle.pictures.specs.Assemble.{Outcome, stopped, made, verdict, overall, sizes}
+-- What the checks of sizes answer, by 01's numbers.
+use Rattle.std.specs.Prelude.{ℕ, suc, List, [], ◌∷◌, cond as pick, eqb, Option as Optional, Some, None}
+use Rattle.std.proofs.Math.Option.{none}
+use Rattle.pictures.specs.Assemble.{Outcome, stopped, verdict, overall, sizes}
 use Rattle.pictures.specs.Segments.{segments_of}
-use Rattle.pictures.specs.declared.sizes.Checked.{Checked}
-use Rattle.pictures.specs.declared.sizes.Checked.TheVariants.{Fit, Refused, RefusedIn}
-
--- 01's number for each case of Checked, with its segment where 01 adds it
-abbrev pub checked_says : Checked → Outcome Unit
-checked_says Fit = made tt
-checked_says (Refused k) = stopped k none
-checked_says (RefusedIn k i) = stopped k (some i)
 
 -- 21 no segments, then 22 to 25
 abbrev pub sized_all : ℕ → List ℕ → Outcome Unit
@@ -21,6 +13,11 @@ sized_all gop (n ∷ ns) = sizes gop (n ∷ ns)
 unfoldable pub filled_first : List ℕ → ℕ
 filled_first [] = 0
 filled_first (n ∷ ns) = pick (eqb n 0) 0 (suc (filled_first ns))
+
+-- the same of the segment that was found; of n segments all, where there is none
+abbrev pub empty_says : ℕ → Optional ℕ → ℕ
+empty_says n None = n
+empty_says n (Some i) = i
 
 -- 36, or all ranges lie within s
 abbrev pub ranged : List ℕ → List ℕ → Outcome Unit

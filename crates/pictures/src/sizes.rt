@@ -1,90 +1,76 @@
 // The frames ordered and the ranges of the segments, judged over their flat numbers.
-ghost use Rattle.std.specs.Prelude.{◌≡◌, ◌+◌};
+ghost use Rattle.std.specs.Prelude.{◌≡◌, ◌<◌, IfSome};
 ghost use Rattle.bitio.specs.Limits.{capped};
+ghost use Rattle.bitio.specs.Refusal.{says};
 ghost use Rattle.blocks.specs.Blocks.{total};
-ghost use Rattle.blocks.specs.Numbers.{frames_in};
-ghost use Rattle.pictures.specs.Sizes.{checked_says, sized_all, filled_first, ranged};
+ghost use Rattle.blocks.specs.Numbers.{frames_in, segment_count};
+ghost use Rattle.pictures.specs.Assemble.{verdict};
+ghost use Rattle.pictures.specs.Says.{outcome_of};
+ghost use Rattle.pictures.specs.Segments.{segments_of};
+ghost use Rattle.pictures.specs.Sizes.{empty_says, sized_all, filled_first};
 
-use bitio::numbers::plus;
-use blocks::numbers::{frames_of, is_whole, is_within, segment_count};
-
-#[derive(Clone, Copy)]
-pub enum Checked {
-    Fit,
-    // document 01's number
-    Refused(u32),
-    // document 01's number, and the segment from 0
-    RefusedIn(u32, usize),
-}
+use crate::fault::Fault;
+use bitio::refusal::Refusal;
+use blocks::numbers::{Segments, frames_of, is_whole, segment_count};
 
 // The frames ordered, saturating.
 pub fn total_frames(segments: &[u64]) -> u64
     ensures { result ≡ capped (total (frames_in segments.now)) }
 {
-    let count = segment_count(segments);
-    let mut i: usize = 0;
-    let mut sum: usize = 0;
-    while i < count {
-        sum = plus(sum, frames_of(segments, i) as usize);
-        i = i + 1;
+    let mut sum: u64 = 0;
+    for i in 0..segment_count(segments) {
+        sum = sum.saturating_add(frames_of(segments, i));
     }
-    sum as u64
+    sum
 }
 
-// The first segment without frames; past all where there is none.
-fn first_empty(segments: &[u64]) -> usize
-    ensures { result ≡ filled_first (frames_in segments.now) }
+// The first segment without frames.
+fn first_empty(segments: &[u64]) -> Option<usize>
+    ensures first { empty_says (segment_count segments.now) result ≡ filled_first (frames_in segments.now) }
+    ensures within { IfSome result (λ i. i < segment_count segments.now) }
 {
-    let count = segment_count(segments);
-    let mut i: usize = 0;
-    while i < count {
+    for i in 0..segment_count(segments) {
         if frames_of(segments, i) == 0 {
-            return i;
+            return Some(i);
         }
-        i = i + 1;
     }
-    i
+    None
 }
 
 // Refusals 21 to 25, in this order.
-pub fn check_sizes(gop: u64, segments: &[u64]) -> Checked
-    ensures { checked_says result ≡ sized_all gop (frames_in segments.now) }
+pub fn check_sizes(gop: u64, segments: &[u64]) -> Result<(), Fault>
+    ensures { outcome_of result ≡ sized_all gop (frames_in segments.now) }
 {
-    let count = segment_count(segments);
-    if count == 0 {
-        return Checked::Refused(21);
+    if segment_count(segments) == 0 {
+        return Err(Fault::overall(Refusal::NoBoards));
     }
     if gop < 2 {
-        return Checked::Refused(22);
+        return Err(Fault::overall(Refusal::GopTooSmall));
     }
     let total = total_frames(segments);
     if total < 2 {
-        return Checked::Refused(23);
+        return Err(Fault::overall(Refusal::TooFewFrames));
     }
-    let empty = first_empty(segments);
-    if empty < count {
-        return Checked::RefusedIn(24, empty);
+    if let Some(empty) = first_empty(segments) {
+        return Err(Fault::in_segment(Refusal::BoardWithoutFrames, empty));
     }
     if total > 5000000 {
-        return Checked::Refused(25);
+        return Err(Fault::overall(Refusal::TooManyFrames));
     }
-    Checked::Fit
+    Ok(())
 }
 
 // 36: numbers that are no whole record, or a range not within the picture bytes.
-pub fn check_ranges(picture: &[u8], segments: &[u64]) -> Checked
-    ensures { checked_says result ≡ ranged picture.now segments.now }
+pub fn check_ranges(segments: Segments) -> Result<(), Refusal>
+    ensures { says result ≡ verdict (segments_of segments.entry.picture.now segments.entry.numbers.now) }
 {
-    if !is_whole(segments) {
-        return Checked::Refused(36);
+    if !is_whole(segments.numbers) {
+        return Err(Refusal::NotAList);
     }
-    let count = segment_count(segments);
-    let mut i: usize = 0;
-    while i < count {
-        if !is_within(picture, segments, i) {
-            return Checked::Refused(36);
+    for i in 0..segment_count(segments.numbers) {
+        if !segments.is_within(i) {
+            return Err(Refusal::NotAList);
         }
-        i = i + 1;
     }
-    Checked::Fit
+    Ok(())
 }

@@ -10,34 +10,40 @@ use lib.Seq.{drop-cons}
 use lib.Dec.{leb}
 use borrow.Author.Tests.{lt-leb, leb-true, leb-false}
 use Rattle.bitio.specs.Limits.{limit, capped}
+use Rattle.std.specs.Prelude.{Result, Ok, Err}
 use Rattle.bitio.specs.Parse.{Answer, refused, accepted}
+use Rattle.bitio.specs.Refusal.{says}
+use Rattle.bitio.specs.declared.refusal.Refusal.{Refusal}
+use Rattle.bitio.specs.declared.refusal.Refusal.TheVariants.{NoRoom}
 use Rattle.bitio.specs.Lent.{pasted}
 use Rattle.bitio.proofs.LentLaws.{pasted-nil, pasted-one, pasted-more, pasted_length}
 use Rattle.container.specs.Stream.{flat, stream_bytes}
 use Rattle.container.specs.Limits.{Room, fits, room_in}
-use Rattle.container.specs.Units.{ends_of, Sizes, sizes_of, bytes_after, ends_after}
+use Rattle.container.specs.Units.{ends_of, sizes_of, bytes_after, ends_after}
+use Rattle.container.specs.declared.units.Sizes.{Sizes}
 use Rattle.annexb.proofs.SplitLaws.{Says, says-refused}
 use Rattle.bitio.proofs.ParseLaws.{and_both}
 use Rattle.pictures.specs.Assemble.{named}
 use Rattle.playback.specs.Lent.{Does, store_room, store_after}
-use Rattle.playback.specs.Gather.{units_named, gathered, HasRoom}
+use Rattle.playback.specs.declared.gather.Listed.{Listed}
+use Rattle.playback.specs.Gather.{units_named, units_listed, gathered, HasRoom}
 
-module _ (l p e s : List ℕ) where
+module _ (x : Listed) where
   -- the units from entry i on
   abbrev pub left : ℕ → List (List ℕ)
-  left i = units_named (drop i l) p e s
+  left i = units_named (drop i x.list.now) x.pictures.now x.ends.now x.shows.now
 
-  pub left-next : (i : ℕ) → i < length l → left i ≡ named p e s (get_or l i 0) ∷ left (i + 1)
+  pub left-next : (i : ℕ) → i < length x.list.now → left i ≡ named x.pictures.now x.ends.now x.shows.now (get_or x.list.now i 0) ∷ left (i + 1)
   unfolding units_named
-  left-next i h = rw (drop-cons l i 0 h, add-one i)
+  left-next i h = rw (drop-cons x.list.now i 0 h, add-one i)
 
-  pub left-none : (i : ℕ) → length l ≤ i → left i ≡ []
+  pub left-none : (i : ℕ) → length x.list.now ≤ i → left i ≡ []
   unfolding units_named
-  left-none i h = rw (drop_of_length-le l h)
+  left-none i h = rw (drop_of_length-le x.list.now h)
 
-  pub named-length : length (units_named l p e s) ≡ length l
+  pub listed-length : length (units_listed x) ≡ length x.list.now
   unfolding units_named
-  named-length = length-map l (named p e s)
+  listed-length = length-map x.list.now (named x.pictures.now x.ends.now x.shows.now)
 
 -- ---- measured
 
@@ -161,13 +167,13 @@ has_room_lem room us t =
     record { small = leb-true n limit x.0; bytes = leb-true n room.bytes y.0; ends = leb-true (length us) room.ends y.1 }
 
 -- by each slice apart
-pub stores : (x : Room → Answer (List (List ℕ))) {a : Answer Sizes} {d m o f : List ℕ} → Says (x (room_in d m)) a d m o f
-    → Does (λ d. sizes_of (x (store_room d))) (λ d. store_after (x (store_room d)) d) a (record { entry = record { bytes = d; ends = m }; exit = record { bytes = o; ends = f } })
+pub stores : (x : Room → Answer (List (List ℕ))) {r : Result Sizes Refusal} {d m o f : List ℕ} → Says (x (room_in d m)) (says r) d m o f
+    → Does (λ d. sizes_of (x (store_room d))) (λ d. store_after (x (store_room d)) d) r (record { entry = record { bytes = d; ends = m }; exit = record { bytes = o; ends = f } })
 stores x (i, (j, k)) = record { answer = i; lent = ap₂ (λ b e. record { bytes = b; ends = e }) j k }
 
-module _ (l p e s d m : List ℕ) where
+module _ (l : Listed) (d m : List ℕ) where
   abbrev us : List (List ℕ)
-  us = units_named l p e s
+  us = units_listed l
 
   abbrev room : Room
   room = room_in d m
@@ -175,8 +181,8 @@ module _ (l p e s d m : List ℕ) where
   abbrev result : Answer (List (List ℕ))
   result = gathered us room
 
-  abbrev Gathers : Answer Sizes → (o f : List ℕ) → Type 0
-  Gathers a o f = Does (λ d. sizes_of (gathered us (store_room d))) (λ d. store_after (gathered us (store_room d)) d) a (record { entry = record { bytes = d; ends = m }; exit = record { bytes = o; ends = f } })
+  abbrev Gathers : Result Sizes Refusal → (o f : List ℕ) → Type 0
+  Gathers r o f = Does (λ d. sizes_of (gathered us (store_room d))) (λ d. store_after (gathered us (store_room d)) d) r (record { entry = record { bytes = d; ends = m }; exit = record { bytes = o; ends = f } })
 
   abbrev size : ℕ
   size = length (stream_bytes us)
@@ -185,32 +191,31 @@ module _ (l p e s d m : List ℕ) where
   unfolding gathered
   gathered-is = refl
 
-  module _ {n : ℕ} (k : n ≡ capped size) where
-    -- what was measured, as far as a usize counts, is tested as the units' own length
-    fits-same : fits n (length l) room ≡ fits size (length us) room
-    fits-same = go (leb n limit) refl
+  -- what was measured, as far as a usize counts, is tested as the units' own length
+  module _ {z : Sizes} (k : z ≡ record { bytes = capped size; units = length l.list.now }) where
+    fits-same : fits z.bytes z.units room ≡ fits size (length us) room
+    fits-same = ap (λ (y : Sizes). fits y.bytes y.units room) k ∙ go (leb (capped size) limit) refl
       where
-        go : (t : Bool) → leb n limit ≡ t → fits n (length l) room ≡ fits size (length us) room
+        go : (t : Bool) → leb (capped size) limit ≡ t → fits (capped size) (length l.list.now) room ≡ fits size (length us) room
         go true t =
-            let i : n ≡ size = omega (arith, k, leb-true n limit t) in
-            ap (λ (x : ℕ). fits x (length l) room) i ∙ ap (λ (x : ℕ). fits size x room) (sym (named-length l p e s))
-        go false t = rw (t, lt-leb size limit (omega (arith, k, leb-false n limit t)))
+            let i : capped size ≡ size = omega (arith, leb-true (capped size) limit t) in
+            ap (λ (x : ℕ). fits x (length l.list.now) room) i ∙ ap (λ (x : ℕ). fits size x room) (sym (listed-length l))
+        go false t = rw (t, lt-leb size limit (omega (arith, leb-false (capped size) limit t)))
 
-    pub gather-full : fits n (length l) room ≡ false → Gathers (refused 35) d m
+    pub gather-full : fits z.bytes z.units room ≡ false → Gathers (Err NoRoom) d m
     gather-full t = stores (gathered us) (says-refused d m (gathered-is ∙ ap (λ b. pick b (accepted us) (refused 35)) (sym fits-same ∙ t)))
 
-    module _ (t : fits n (length l) room ≡ true) where
+    module _ (t : fits z.bytes z.units room ≡ true) where
       pub gather-room : HasRoom room us
       gather-room = has_room_lem room us (sym fits-same ∙ t)
 
       gathered-all : result ≡ accepted us
       gathered-all = gathered-is ∙ ap (λ b. pick b (accepted us) (refused 35)) (sym fits-same ∙ t)
 
-      pub gather-done : {o f : List ℕ} → o ≡ pasted d 0 (stream_bytes us) → f ≡ pasted m 0 (ends_of 0 us)
-          → Gathers (accepted (record { bytes = n; units = length l })) o f
+      pub gather-done : {o f : List ℕ} → o ≡ pasted d 0 (stream_bytes us) → f ≡ pasted m 0 (ends_of 0 us) → Gathers (Ok z) o f
       gather-done x y =
           let q = gathered-all in
           let r = gather-room in
-          let i : n ≡ size = omega (arith, k, r.small) in
-          let j : length l ≡ length us = sym (named-length l p e s) in
-          stores (gathered us) (rw (q, i, j), (x ∙ sym (ap (λ a. bytes_after a d) q), y ∙ sym (ap (λ a. ends_after a m) q)))
+          let i : capped size ≡ size = omega (arith, r.small) in
+          let j : length l.list.now ≡ length us = sym (listed-length l) in
+          stores (gathered us) (rw (q, k, i, j), (x ∙ sym (ap (λ a. bytes_after a d) q), y ∙ sym (ap (λ a. ends_after a m) q)))

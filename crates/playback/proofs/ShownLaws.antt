@@ -4,45 +4,28 @@ use native.Mathlib.Omega.{arith}
 use native.Mathlib.Numerals.{add-one}
 use mathlib.Core.Path.{◌≡◌, refl, sym, ap, ap₂, ◌∙◌}
 use mathlib.Core.List.{List, [], ◌∷◌, ◌++◌, append_assoc, append-nil}
-use mathlib.Core.Bool.{Bool, true, false, cond as pick, ◌||◌, ◌&&◌}
-use mathlib.Core.Option.{Option, none, some}
+use mathlib.Core.Bool.{Bool, true, false, cond as pick, ◌&&◌}
 use lib.ListN.{length, get_or, take, drop, set, length-append, length-drop, drop_of_length-le}
 use lib.Seq.{drop-cons, drop-drop}
-use lib.Dec.{leb, ltb, eqb}
-use borrow.Author.Tests.{le-leb, lt-leb, leb-true, ltb-true, ltb-false}
+use lib.Dec.{leb, eqb}
+use borrow.Author.Tests.{le-leb, lt-leb, leb-true}
 use Rattle.bitio.specs.Limits.{limit}
+use Rattle.std.specs.Prelude.{Result, Ok, Err}
+use Rattle.bitio.specs.Refusal.{number}
+use Rattle.bitio.specs.declared.refusal.Refusal.{Refusal}
+use Rattle.bitio.specs.declared.refusal.Refusal.TheVariants.{InputTooLong, NoRoom, NotAList}
 use Rattle.bitio.specs.Parse.{Answer, refused, accepted, answer, onto, and_next}
 use Rattle.bitio.specs.Lent.{span, pasted}
-use Rattle.bitio.proofs.ParseLaws.{or-neither, onto-is}
+use Rattle.bitio.proofs.ParseLaws.{onto-is}
 use Rattle.bitio.proofs.LentLaws.{pasted-nil, pasted-set, pasted_length}
 use Rattle.obu.specs.Place.{part, part_in}
 use Rattle.container.specs.Units.{units_from, units_at, count_of, out_after}
 use Rattle.container.specs.Lists.{accepts}
 use Rattle.container.proofs.ListLaws.{units-refused}
 use Rattle.annexb.proofs.CutLaws.{accepted-is}
-use Rattle.player.specs.Player.{State, start, Played, play, leaves, state_after}
-use Rattle.player.specs.Values.{shows, kept_behind, state_says, played_on, played_by}
-use Rattle.player.specs.declared.step.State.{State as CodeState}
-use Rattle.player.specs.declared.step.Played.{Played as CodePlayed}
+use Rattle.player.specs.Player.{State, start, play, leaves, state_after}
 use Rattle.playback.specs.Lent.{Fills}
-use Rattle.playback.specs.Shown.{position_number, shown_number, code_number, shown_from, shown_by, from_cue, play_from, CanPlay}
-
--- the code's number is the answer's
-pub number-says : (st : CodeState) (p : ℕ) (u : List ℕ) → code_number (played_by st p u).answer ≡ shown_number (play (state_says st) p u)
-unfolding played_by
-number-says st p u = go (play (state_says st) p u)
-  where
-    position : (o : Option ℕ) → code_number (shows o) ≡ position_number o
-    position none = refl
-    position (some q) = refl
-
-    go : (x : Answer Played) → code_number (played_on st (kept_behind st.kept u).kept x).answer ≡ shown_number x
-    go (refused n) = refl
-    go (accepted r) = position r.shown
-
--- unit i, by where it starts and ends
-pub unit-at : (s es : List ℕ) (i : ℕ) {a : ℕ} {v : List ℕ} → a ≡ get_or (0 ∷ es) i 0 → v ≡ part s a (get_or es i 0) → v ≡ part_in s es i
-unit-at s es i q w = w ∙ ap (λ x. part s x (get_or es i 0)) q
+use Rattle.playback.specs.Shown.{shown_number, shown_from, shown_by, from_cue, play_from, CanPlay}
 
 -- ---- units cut from their bytes
 
@@ -100,33 +83,31 @@ unfolding shown_from
 shown-length [] st p = refl
 shown-length (u ∷ us) st p = ap suc (shown-length us _ _)
 
--- units are played up to number i, from 0, and k numbers written; lent memory was d
-pub record Playing (s es : List ℕ) (cue : ℕ) (d : List ℕ) (st : State) (i k : ℕ) (o : List ℕ) : Type 0 where
+-- units are played up to number i, from 0; lent memory was d
+pub record Playing (s es : List ℕ) (cue : ℕ) (d : List ℕ) (st : State) (i : ℕ) (o : List ℕ) : Type 0 where
   pub can : CanPlay s es cue d
   pub front : List ℕ
-  pub number : length front ≡ k
-  pub place : i + 1 ≡ cue + k
-  pub within : k ≤ length d
+  pub place : i + 1 ≡ cue + length front
+  pub within : length front ≤ length d
   pub whole : shown_by cue can.all ≡ front ++ shown_from st (suc i) (drop i can.all)
   pub lent : o ≡ pasted d 0 front
 
-pub playing-start : {s es : List ℕ} {cue : ℕ} {d : List ℕ} {st : State} {i : ℕ} → CanPlay s es cue d → st ≡ start → i ≡ cue - 1 → Playing s es cue d st i 0 d
+pub playing-start : {s es : List ℕ} {cue : ℕ} {d : List ℕ} {st : State} → CanPlay s es cue d → st ≡ start → Playing s es cue d st (cue - 1) d
 unfolding shown_by
-playing-start {cue = cue} {d} {st} {i} c q n =
-    let m : suc i ≡ cue = omega (arith, n, c.from) in
+playing-start {cue = cue} {d} {st} c q =
+    let m : suc (cue - 1) ≡ cue = omega (arith, c.from) in
     record {
       can = c;
       front = [];
-      number = refl;
-      place = omega arith;
+      place = omega (arith, c.from);
       within = omega arith;
-      whole = rw (q, m, n);
+      whole = rw (q, m);
       lent = sym (pasted-nil d 0);
     }
 
-module _ {s es : List ℕ} {cue : ℕ} {d : List ℕ} {st : State} {i k : ℕ} {o : List ℕ} (z : Playing s es cue d st i k o) where
-  pub playing-long : length o ≡ length d
-  playing-long = ap length z.lent ∙ pasted_length d 0 z.front (omega (arith, z.number, z.within))
+module _ {s es : List ℕ} {cue : ℕ} {d : List ℕ} {st : State} {i : ℕ} {o : List ℕ} (z : Playing s es cue d st i o) where
+  playing-long : length o ≡ length d
+  playing-long = ap length z.lent ∙ pasted_length d 0 z.front (omega (arith, z.within))
 
   abbrev all : List (List ℕ)
   all = z.can.all
@@ -142,10 +123,10 @@ module _ {s es : List ℕ} {cue : ℕ} {d : List ℕ} {st : State} {i k : ℕ} {
       z.lent ∙ ap (pasted d 0) (sym w) ∙ sym (ap (λ x. out_after (answer (shown_by cue) x) d) z.can.cut)
 
   module _ (h : i < length es) where
-    pub playing-slot : k < length o
+    playing-slot : i + 1 - cue < length o
     playing-slot = omega (arith, playing-long, z.can.room, z.place)
 
-    module _ (r : CodePlayed) (says : code_number r.answer ≡ shown_number (play st (i + 1) (part_in s es i))) (left : state_says r.state ≡ state_after st (i + 1) (part_in s es i)) where
+    module _ (v : ℕ) (t : State) (says : v ≡ shown_number (play st (i + 1) (part_in s es i))) (left : t ≡ state_after st (i + 1) (part_in s es i)) where
       abbrev u : List ℕ
       u = get_or all i []
 
@@ -155,65 +136,47 @@ module _ {s es : List ℕ} {cue : ℕ} {d : List ℕ} {st : State} {i k : ℕ} {
       same : play st (i + 1) (part_in s es i) ≡ play st (suc i) u
       same = ap₂ (λ n v. play st n v) (add-one i) (sym u-is)
 
-      number_is : code_number r.answer ≡ shown_number (play st (suc i) u)
-      number_is = says ∙ ap shown_number same
-
-      state-is : state_says r.state ≡ state_after st (suc i) u
-      state-is = left ∙ ap (leaves st) same
-
-      turn : shown_from st (suc i) (drop i all) ≡ code_number r.answer ∷ shown_from (state_says r.state) (suc (i + 1)) (drop (i + 1) all)
+      turn : shown_from st (suc i) (drop i all) ≡ v ∷ shown_from t (suc (i + 1)) (drop (i + 1) all)
       unfolding shown_from
       turn =
           ap (shown_from st (suc i)) (drop-cons all i [] (omega (arith, cut.count)))
-          ∙ ap₂ (λ n t. n ∷ shown_from t (suc (suc i)) (drop (suc i) all)) (sym number_is) (sym state-is)
-          ∙ ap (λ n. code_number r.answer ∷ shown_from (state_says r.state) (suc n) (drop n all)) (sym (add-one i))
+          ∙ ap₂ (λ n t. n ∷ shown_from t (suc (suc i)) (drop (suc i) all)) (sym (says ∙ ap shown_number same)) (sym (left ∙ ap (leaves st) same))
+          ∙ ap (λ n. v ∷ shown_from t (suc n) (drop n all)) (sym (add-one i))
 
-      pub playing-next : {v : ℕ} → v ≡ code_number r.answer → Playing s es cue d (state_says r.state) (i + 1) (k + 1) (set o k v)
-      playing-next {v} e =
+      pub playing-next : Playing s es cue d t (i + 1) (set o (i + 1 - cue) v)
+      playing-next =
           let l = playing-slot in
-          let n : k ≡ 0 + length z.front = omega (arith, z.number) in
+          let n : i + 1 - cue ≡ 0 + length z.front = omega (arith, z.place) in
+          let m = length-append z.front (v ∷ []) in
           record {
             can = z.can;
             front = z.front ++ (v ∷ []);
-            number = length-append z.front (v ∷ []) ∙ omega (arith, z.number);
-            place = omega (arith, z.place);
-            within = omega (arith, l, playing-long);
-            whole = z.whole ∙ ap (λ x. z.front ++ x) (turn ∙ ap (λ x. x ∷ shown_from (state_says r.state) (suc (i + 1)) (drop (i + 1) all)) (sym e)) ∙ sym (append_assoc z.front (v ∷ []) (shown_from (state_says r.state) (suc (i + 1)) (drop (i + 1) all)));
+            place = omega (arith, m, z.place);
+            within = omega (arith, m, l, n, playing-long);
+            whole = z.whole ∙ ap (λ x. z.front ++ x) turn ∙ sym (append_assoc z.front (v ∷ []) (shown_from t (suc (i + 1)) (drop (i + 1) all)));
             lent = ap₂ (λ x y. set x y v) z.lent n ∙ pasted-set d 0 z.front v (omega (arith, n, l, playing-long));
           }
 
 -- ---- the whole
 
-and-false : (x : Bool) → (x && false) ≡ false
-and-false true = refl
-and-false false = refl
-
--- a cue among n positions
-module _ (cue n : ℕ) (t : (ltb cue 1 || ltb n cue) ≡ false) where
-  pub inside-from : 1 ≤ cue
-  inside-from = ltb-false cue 1 (or-neither (ltb cue 1) (ltb n cue) t).0
-
-  pub inside-to : cue ≤ n
-  inside-to = ltb-false n cue (or-neither (ltb cue 1) (ltb n cue) t).1
-
 module _ (s es : List ℕ) (cue : ℕ) (d : List ℕ) where
   abbrev result : Answer (List ℕ)
   result = play_from (length d) cue s es
 
-  abbrev pub Tells : Answer ℕ → List ℕ → Type 0
-  Tells a o = Fills (λ room. play_from room cue s es) a (record { entry = d; exit = o })
+  abbrev pub Tells : Result ℕ Refusal → List ℕ → Type 0
+  Tells r o = Fills (λ room. play_from room cue s es) r (record { entry = d; exit = o })
 
-  refuses : {k : ℕ} → result ≡ refused k → Tells (refused k) d
-  refuses q = record { answer = sym (ap (λ x. count_of x) q); lent = sym (ap (λ x. out_after x d) q) }
+  refuses : (e : Refusal) → result ≡ refused (number e) → Tells (Err e) d
+  refuses e q = record { answer = sym (ap (λ x. count_of x) q); lent = sym (ap (λ x. out_after x d) q) }
 
-  pub play-long : limit < length s → Tells (refused 34) d
+  pub play-long : limit < length s → Tells (Err InputTooLong) d
   unfolding play_from and_next
-  play-long l = refuses (rw (lt-leb (length s) limit l))
+  play-long l = refuses InputTooLong (rw (lt-leb (length s) limit l))
 
   module _ (short : length s ≤ limit) where
-    pub play-none : accepts (units_at s es) ≡ false → Tells (refused 36) d
+    pub play-none : accepts (units_at s es) ≡ false → Tells (Err NotAList) d
     unfolding play_from and_next
-    play-none n = refuses (rw (le-leb (length s) limit short, units-refused s es n))
+    play-none n = refuses NotAList (rw (le-leb (length s) limit short, units-refused s es n))
 
     module _ (is : accepts (units_at s es) ≡ true) where
       abbrev us : List (List ℕ)
@@ -229,34 +192,34 @@ module _ (s es : List ℕ) (cue : ℕ) (d : List ℕ) where
       unfolding play_from and_next
       play-cued = rw (le-leb (length s) limit short, us-are)
 
-      pub play-outside : (ltb cue 1 || ltb (length es) cue) ≡ true → Tells (refused 36) d
-      play-outside t = refuses (play-cued ∙ go (ltb cue 1) (ltb (length es) cue) refl refl t)
+      pub play-outside : (1 ≤ cue → cue ≤ length es → ⊥) → Tells (Err NotAList) d
+      play-outside h = refuses NotAList (play-cued ∙ go (leb 1 cue) (leb cue (length us)) refl refl)
         where
-          go : (x y : Bool) → ltb cue 1 ≡ x → ltb (length es) cue ≡ y → (x || y) ≡ true → from_cue (length d) cue us ≡ refused 36
-          go true y a b t = rw (lt-leb 1 cue (ltb-true cue 1 a))
-          go false true a b t = let l : length us < cue = omega (arith, us-count, ltb-true (length es) cue b) in rw (lt-leb cue (length us) l, and-false (leb 1 cue))
-          go false false a b t = let z : ◌≡◌ {A = ℕ} 0 1 = cc in absurd (omega arith)
+          go : (x y : Bool) → leb 1 cue ≡ x → leb cue (length us) ≡ y → pick (x && y) (pick (leb (length (shown_by cue us)) (length d)) (accepted (shown_by cue us)) (refused 35)) (refused 36) ≡ refused 36
+          go true true a b = absurd (h (leb-true 1 cue a) (omega (arith, us-count, leb-true cue (length us) b)))
+          go true false a b = refl
+          go false y a b = refl
 
-      module _ (t : (ltb cue 1 || ltb (length es) cue) ≡ false) where
+      module _ (from : 1 ≤ cue) (to : cue ≤ length es) where
         play-inside : result ≡ pick (leb (length (shown_by cue us)) (length d)) (accepted (shown_by cue us)) (refused 35)
-        play-inside = play-cued ∙ rw (le-leb 1 cue (inside-from cue (length es) t), le-leb cue (length us) (omega (arith, inside-to cue (length es) t, us-count)))
+        play-inside = play-cued ∙ rw (le-leb 1 cue from, le-leb cue (length us) (omega (arith, us-count)))
 
         count-is : length (shown_by cue us) ≡ length es - (cue - 1)
         unfolding shown_by
         count-is = shown-length (drop (cue - 1) us) start cue ∙ length-drop (cue - 1) us ∙ ap (λ n. n - (cue - 1)) us-count
 
         module _ {n : ℕ} (k : n ≡ length es - (cue - 1)) where
-          pub play-full : length d < n → Tells (refused 35) d
-          play-full l = refuses (play-inside ∙ rw (lt-leb (length (shown_by cue us)) (length d) (omega (arith, count-is, k, l))))
+          pub play-full : length d < n → Tells (Err NoRoom) d
+          play-full l = refuses NoRoom (play-inside ∙ rw (lt-leb (length (shown_by cue us)) (length d) (omega (arith, count-is, k, l))))
 
           module _ (l : n ≤ length d) where
             pub play-room : CanPlay s es cue d
-            play-room = record { all = us; cut = us-are; from = inside-from cue (length es) t; to = inside-to cue (length es) t; room = omega (arith, inside-from cue (length es) t, inside-to cue (length es) t, k, l) }
+            play-room = record { all = us; cut = us-are; from = from; to = to; room = omega arith }
 
             play-all : result ≡ accepted (shown_by cue us)
             play-all = play-inside ∙ rw (le-leb (length (shown_by cue us)) (length d) (omega (arith, count-is, k, l)))
 
-            pub play-done : {o : List ℕ} → o ≡ out_after (answer (shown_by cue) (units_at s es)) d → Tells (accepted n) o
+            pub play-done : {o : List ℕ} → o ≡ out_after (answer (shown_by cue) (units_at s es)) d → Tells (Ok n) o
             play-done q =
                 let e : n ≡ length (shown_by cue us) = k ∙ sym count-is in
                 record { answer = rw (play-all, e); lent = q ∙ ap (λ x. out_after (answer (shown_by cue) x) d) us-are ∙ sym (ap (λ x. out_after x d) play-all) }

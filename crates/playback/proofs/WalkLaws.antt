@@ -1,15 +1,18 @@
 -- Laws of the whole way: assembly, and what follows it.
-use Prim.Native.Nat.{ℕ, ◌-◌, ◌+◌, ◌≤◌}
+use Prim.Native.Nat.{ℕ, ◌+◌, ◌≤◌}
 use native.Mathlib.Omega.{arith}
 use mathlib.Core.Path.{◌≡◌, refl, sym, ap, subst, ◌∙◌}
 use mathlib.Core.List.{List}
 use mathlib.Core.Option.{Option, none}
 use mathlib.Core.Bool.{Bool, true, false, cond as pick}
-use lib.ListN.{length, take, drop}
+use lib.ListN.{length, take}
 use lib.Dec.{leb, ltb}
 use borrow.Author.Tests.{leb-true}
 use Rattle.bitio.specs.Limits.{limit}
+use Rattle.std.specs.Prelude.{Result, Ok, Err, None}
 use Rattle.bitio.specs.Parse.{Answer, refused, accepted}
+use Rattle.bitio.specs.Refusal.{number, says}
+use Rattle.bitio.specs.declared.refusal.Refusal.{Refusal}
 use Rattle.bitio.specs.Lent.{pasted}
 use Rattle.bitio.proofs.LentLaws.{pasted-front, pasted_length}
 use Rattle.container.specs.Units.{count_of}
@@ -17,19 +20,15 @@ use Rattle.container.specs.Container.{Container}
 use Rattle.bitio.proofs.ParseLaws.{and_both}
 use Rattle.pictures.specs.Segments.{Segment, segments_of}
 use Rattle.pictures.specs.declared.settings.Settings.{Settings}
+use Rattle.pictures.specs.declared.fault.Fault.{Fault}
+use Rattle.pictures.specs.Says.{segment_says, outcome_of}
 use Rattle.pictures.specs.Assemble.{Outcome, stopped, made, and_also, overall, Output, OutputRoom, output_fits, assembled, assemble, units_of}
-use Rattle.assemble.specs.Whole.{counts, counts_of, assembled_says, Lent, outcome, lent_after, Handed, output_room}
+use Rattle.assemble.specs.Whole.{counts, counts_of, Lent, outcome, lent_after, Handed}
 use Rattle.assemble.specs.declared.multi.Counts.{Counts}
-use Rattle.assemble.specs.declared.multi.Assembled.{Assembled}
-use Rattle.assemble.specs.declared.multi.Assembled.TheVariants.{Made}
 use Rattle.assemble.proofs.AnswerLaws.{stopped-is}
-use Rattle.playback.specs.declared.walk.Walked.{Walked}
-use Rattle.playback.specs.declared.play.Shows.{Shows}
-use Rattle.playback.specs.declared.play.Shows.TheVariants.{Positions, Refused as ShowsRefused}
-use Rattle.playback.specs.Shown.{shows_say}
 use Rattle.playback.specs.Gather.{units_named}
 use Rattle.playback.specs.Way.{PlayLent, shown, Plays}
-use Rattle.playback.specs.Walk.{walk, walked_says, Walks}
+use Rattle.playback.specs.Walk.{walk, Walks}
 
 none_made : {A : Type 0} {k : ℕ} {i : Option ℕ} {a : A} → stopped k i ≡ made a → ⊥
 none_made e = let z : ◌≡◌ {A = ℕ} 0 1 = cc in omega arith
@@ -80,100 +79,88 @@ assemble-has room set s rs o q = lead (ltb limit (length s)) q
 
 -- ---- what the answers say
 
-pub behind-all : (n : ℕ) {s : Shows} → s ≡ Positions n → made n ≡ overall (shows_say s)
+pub overall-ok : (n : ℕ) → outcome_of {A = ℕ} (Ok n) ≡ overall (says {A = ℕ} (Ok n))
 unfolding overall
-behind-all n q = ap (λ z. overall (shows_say z)) (sym q)
+overall-ok n = refl
 
-pub behind-none : (k : ℕ) {s : Shows} → s ≡ ShowsRefused k → ◌≡◌ {A = Outcome ℕ} (stopped k none) (overall (shows_say s))
+pub overall-err : (e : Refusal) → outcome_of {A = ℕ} (Err (record { refusal = e; segment = None })) ≡ overall (says {A = ℕ} (Err e))
 unfolding overall
-behind-none k q = ap (λ z. overall (shows_say z)) (sym q)
+overall-err e = refl
 
-makes : (x : Outcome Output) (t : Counts) → made t ≡ counts_of x → (o : Output) × (x ≡ made o) × (t ≡ counts o)
+pub makes : (x : Outcome Output) (t : Counts) → made t ≡ counts_of x → (o : Output) × (x ≡ made o) × (t ≡ counts o)
 unfolding and_also
 makes (stopped n j) t q = absurd (none_made (sym q))
 makes (made o) t q = (o, refl, cc)
 
 -- xs is what stands at the head of the buffer, n long
-record AtHead (xs : List ℕ) (n : ℕ) (d : List ℕ) : Type 0 where
-  within : n ≤ length d
-  is : take (n - 0) (drop 0 d) ≡ xs
+pub record AtHead (xs : List ℕ) (n : ℕ) (d : List ℕ) : Type 0 where
+  pub within : n ≤ length d
+  pub long : n ≡ length (take n d)
+  pub is : take n d ≡ xs
 
 at_head : (s d : List ℕ) → length s ≤ length d → {d' : List ℕ} {n : ℕ} → d' ≡ pasted d 0 s → n ≡ length s → AtHead s n d'
 at_head s d l {n = n} w k =
+    let e = ap (λ y. take n y) w ∙ pasted-front d s n k in
     record {
       within = omega (arith, ap length w, pasted_length d 0 s (omega (arith, l)), l, k);
-      is = ap (λ y. take (n - 0) (drop 0 y)) w ∙ pasted-front d s (n - 0) (omega arith);
+      long = k ∙ sym (ap length e);
+      is = e;
     }
 
 -- ---- the whole
 
 -- assembly into the slices l has left l'
-module _ (c : Container) (cue : ℕ) (s rs : List ℕ) (set : Settings) (l l' : Lent) (a : Assembled) (h : Handed (outcome s rs set) a (record { entry = l; exit = l' })) where
+module _ (s rs : List ℕ) (set : Settings) (l l' : Lent) where
   abbrev x : Outcome Output
   x = outcome s rs set l
 
-  pub walk-stop : (d : PlayLent) (r : Walked) (k : ℕ) (i : Option ℕ) → walked_says r ≡ stopped k i → assembled_says a ≡ stopped k i
-      → Walks c cue (outcome s rs set) r (record { entry = l; exit = l' }) (record { entry = d; exit = d })
+  pub walk-stop : (c : Container) (cue : ℕ) (f : Fault) → Handed (outcome s rs set) (Err f) (record { entry = l; exit = l' })
+      → (d : PlayLent) → Walks c cue (outcome s rs set) (Err f) (record { entry = l; exit = l' }) (record { entry = d; exit = d })
   unfolding walk and_also
-  walk-stop d r k i v w =
-      let e = stopped-is x k i (sym w ∙ h.answer) in
-      record { answer = v ∙ rw e; assembled = h.lent; way = rw e }
+  walk-stop c cue f h d =
+      let e = stopped-is x (number f.refusal) (segment_says f.segment) h.answer in
+      record { answer = rw e; assembled = h.lent; way = rw e }
 
-  module _ (t : Counts) (made-it : a ≡ Made t) where
+  -- what it has made stands at their heads
+  pub record Heads (t : Counts) (o : Output) : Type 0 where
+    pub made-is : x ≡ made o
+    pub list : AtHead o.list t.units l'.list
+    pub picture : AtHead o.picture t.picture l'.pictures
+    pub ends : AtHead o.ends t.ends l'.ends
+    pub shows : AtHead o.shows t.shows l'.shows
+
+  module _ (t : Counts) (h : Handed (outcome s rs set) (Ok t) (record { entry = l; exit = l' })) where
     abbrev o : Output
-    o = (makes x t (ap assembled_says (sym made-it) ∙ h.answer)).0
+    o = (makes x t h.answer).0
 
-    o_is : x ≡ made o
-    o_is = (makes x t (ap assembled_says (sym made-it) ∙ h.answer)).1
-
-    t-is : t ≡ counts o
-    t-is = (makes x t (ap assembled_says (sym made-it) ∙ h.answer)).2
-
-    has : Has (output_room l) o
+    pub heads : Heads t o
     unfolding outcome
-    has = assemble-has _ set s rs o o_is
+    heads =
+        let (o, e, k) = makes x t h.answer in
+        let r = assemble-has _ set s rs o e in
+        let q : l' ≡ lent_after (made o) l = h.lent ∙ ap (λ y. lent_after y l) e in
+        record {
+          made-is = e;
+          list = at_head o.list l.list r.list (ap (λ y. y.list) q) (ap (λ y. y.units) k);
+          picture = at_head o.picture l.pictures r.picture (ap (λ y. y.pictures) q) (ap (λ y. y.picture) k);
+          ends = at_head o.ends l.ends r.ends (ap (λ y. y.ends) q) (ap (λ y. y.ends) k);
+          shows = at_head o.shows l.shows r.shows (ap (λ y. y.shows) q) (ap (λ y. y.shows) k);
+        }
 
-    there : l' ≡ lent_after (made o) l
-    there = h.lent ∙ ap (λ y. lent_after y l) o_is
-
-    in_list : AtHead o.list t.units l'.list
-    in_list = at_head o.list l.list has.list (ap (λ y. y.list) there) (ap (λ y. y.units) t-is)
-
-    in-picture : AtHead o.picture t.picture l'.pictures
-    in-picture = at_head o.picture l.pictures has.picture (ap (λ y. y.pictures) there) (ap (λ y. y.picture) t-is)
-
-    in-ends : AtHead o.ends t.ends l'.ends
-    in-ends = at_head o.ends l.ends has.ends (ap (λ y. y.ends) there) (ap (λ y. y.ends) t-is)
-
-    in-shows : AtHead o.shows t.shows l'.shows
-    in-shows = at_head o.shows l.shows has.shows (ap (λ y. y.shows) there) (ap (λ y. y.shows) t-is)
-
-    pub handed-list : t.units ≤ length l'.list
-    handed-list = in_list.within
-
-    pub handed-picture : t.picture ≤ length l'.pictures
-    handed-picture = in-picture.within
-
-    pub handed-ends : t.ends ≤ length l'.ends
-    handed-ends = in-ends.within
-
-    pub handed-shows : t.shows ≤ length l'.shows
-    handed-shows = in-shows.within
-
-    units-are : units_named (take (t.units - 0) (drop 0 l'.list)) (take (t.picture - 0) (drop 0 l'.pictures)) (take (t.ends - 0) (drop 0 l'.ends)) (take (t.shows - 0) (drop 0 l'.shows)) ≡ units_of o
+    units-are : units_named (take t.units l'.list) (take t.picture l'.pictures) (take t.ends l'.ends) (take t.shows l'.shows) ≡ units_of o
     unfolding units_named units_of
-    units-are = rw (in_list.is, in-picture.is, in-ends.is, in-shows.is)
+    units-are = rw (heads.list.is, heads.picture.is, heads.ends.is, heads.shows.is)
 
-    pub walk-go : (d d' : PlayLent) (r : Walked) (p : Shows) → walked_says r ≡ overall (shows_say p)
-        → Plays c (units_named (take (t.units - 0) (drop 0 l'.list)) (take (t.picture - 0) (drop 0 l'.pictures)) (take (t.ends - 0) (drop 0 l'.ends)) (take (t.shows - 0) (drop 0 l'.shows))) cue p (record { entry = d; exit = d' })
+    pub walk-go : (c : Container) (cue : ℕ) (d d' : PlayLent) (r : Result ℕ Fault) (p : Result ℕ Refusal) → outcome_of r ≡ overall (says p)
+        → Plays c (units_named (take t.units l'.list) (take t.picture l'.pictures) (take t.ends l'.ends) (take t.shows l'.shows)) cue p (record { entry = d; exit = d' })
         → Walks c cue (outcome s rs set) r (record { entry = l; exit = l' }) (record { entry = d; exit = d' })
     unfolding walk and_also overall
-    walk-go d d' r p v w =
+    walk-go c cue d d' r p v w =
         let z = subst (λ vs. Plays c vs cue p (record { entry = d; exit = d' })) units-are w in
         record {
-          answer = v ∙ ap overall z.answer ∙ go (shown c (units_of o) cue d) ∙ rw o_is;
+          answer = v ∙ ap overall z.answer ∙ go (shown c (units_of o) cue d) ∙ rw heads.made-is;
           assembled = h.lent;
-          way = z.lent ∙ rw o_is;
+          way = z.lent ∙ rw heads.made-is;
         }
       where
         go : (y : Answer (List ℕ)) → overall (count_of y) ≡ and_also (overall y) (λ ns. made (length ns))

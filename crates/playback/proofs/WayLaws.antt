@@ -1,33 +1,30 @@
 -- Laws of the way of a list's units, stage after stage in lent memory.
-use Prim.Native.Nat.{ℕ, ◌-◌, ◌≤◌}
+use Prim.Native.Nat.{ℕ, ◌≤◌}
 use native.Mathlib.Omega.{arith}
 use mathlib.Core.Path.{◌≡◌, refl, sym, ap, ap₂, ◌∙◌}
 use mathlib.Core.List.{List}
 use mathlib.Core.Bool.{Bool, true, false, cond as pick, ◌&&◌}
-use lib.ListN.{length, take, drop}
+use lib.ListN.{length, take}
 use lib.Dec.{leb}
 use borrow.Author.Tests.{le-leb, leb-true}
 use Rattle.bitio.specs.Limits.{limit}
+use Rattle.std.specs.Prelude.{Result, Ok, Err}
 use Rattle.bitio.specs.Parse.{Answer, refused, accepted, and_next}
+use Rattle.bitio.specs.Refusal.{number}
+use Rattle.bitio.specs.declared.refusal.Refusal.{Refusal}
 use Rattle.bitio.specs.Lent.{pasted}
 use Rattle.bitio.proofs.LentLaws.{pasted-front, pasted_length}
 use Rattle.container.specs.Stream.{stream_bytes}
-use Rattle.container.specs.Limits.{Room, bytes_room, fits, fit_bytes, fit_units, room_in}
-use Rattle.container.specs.Units.{ends_of, Sizes, sizes_of, bytes_after, ends_after, split_says, count_of, out_after, byte_count_says}
+use Rattle.container.specs.Limits.{Room, bytes_room, fits, fit_bytes, fit_units}
+use Rattle.container.specs.Units.{ends_of, sizes_of, bytes_after, ends_after, count_of, out_after}
+use Rattle.container.specs.declared.units.Sizes.{Sizes}
 use Rattle.container.specs.Container.{Container, units_in, bytes_in, read, write, write_at}
-use Rattle.container.specs.declared.units.Split.{Split}
-use Rattle.container.specs.declared.units.Split.TheVariants.{Units, Refused as SplitRefused}
-use Rattle.container.specs.declared.units.ByteCount.{ByteCount}
-use Rattle.container.specs.declared.units.ByteCount.TheVariants.{Bytes, Refused as CountRefused}
-use Rattle.annexb.proofs.SplitLaws.{Says}
 use Rattle.bitio.proofs.ParseLaws.{and_both}
-use Rattle.playback.specs.declared.play.Shows.{Shows}
-use Rattle.playback.specs.declared.play.Shows.TheVariants.{Refused as ShowsRefused}
 use Rattle.playback.specs.Lent.{Fills, Store, store_room, store_after, Stores}
 use Rattle.playback.specs.Gather.{gathered, HasRoom}
-use Rattle.playback.specs.Shown.{from_cue, play_from, shows_say}
+use Rattle.playback.specs.Shown.{from_cue, play_from}
 use Rattle.playback.specs.Way.{WriteLent, CarryLent, written, Writes, carried_units, Carries, shown, Plays}
-use Rattle.playback.proofs.GatherLaws.{has_room_lem, stores}
+use Rattle.playback.proofs.GatherLaws.{has_room_lem}
 use Rattle.playback.proofs.ShownLaws.{none-cut}
 use Rattle.container.proofs.LentLaws.{units-there, lent-write}
 use Rattle.container.proofs.ListLaws.{ends-length}
@@ -73,49 +70,37 @@ gathered-fits us room vs q = fit-units room (accepted us) vs q
 
 -- ---- what the answers say
 
-pub record UnitsSized (x : Answer (List (List ℕ))) (n u : ℕ) : Type 0 where
+pub record UnitsSized (x : Answer (List (List ℕ))) (s : Sizes) : Type 0 where
   pub units : List (List ℕ)
   pub are : x ≡ accepted units
-  pub bytes : n ≡ length (stream_bytes units)
-  pub count : u ≡ length units
+  pub bytes : s.bytes ≡ length (stream_bytes units)
+  pub count : s.units ≡ length units
 
-split-some : (x : Answer (List (List ℕ))) (r : Split) (n u : ℕ) → split_says r ≡ sizes_of x → r ≡ Units n u → UnitsSized x n u
-split-some x r n u q t = go x (ap split_says (sym t) ∙ q)
-  where
-    go : (x : Answer (List (List ℕ))) → accepted (record { bytes = n; units = u }) ≡ sizes_of x → UnitsSized x n u
-    go (refused k) q = absurd (none-cut (sym q))
-    go (accepted us) q =
-        let z : ◌≡◌ {A = Sizes} (record { bytes = n; units = u }) (record { bytes = length (stream_bytes us); units = length us }) = cc in
-        record { units = us; are = refl; bytes = ap (λ (y : Sizes). y.bytes) z; count = ap (λ (y : Sizes). y.units) z }
+units-some : (x : Answer (List (List ℕ))) (s : Sizes) → accepted s ≡ sizes_of x → UnitsSized x s
+units-some (refused k) s q = absurd (none-cut (sym q))
+units-some (accepted us) s q =
+    let z : s ≡ record { bytes = length (stream_bytes us); units = length us } = cc in
+    record { units = us; are = refl; bytes = ap (λ (y : Sizes). y.bytes) z; count = ap (λ (y : Sizes). y.units) z }
 
-split-none : (x : Answer (List (List ℕ))) (r : Split) (k : ℕ) → split_says r ≡ sizes_of x → r ≡ SplitRefused k → x ≡ refused k
-split-none x r k q t = go x (ap split_says (sym t) ∙ q)
-  where
-    go : (x : Answer (List (List ℕ))) → refused k ≡ sizes_of x → x ≡ refused k
-    go (refused j) q = let z : j ≡ k = cc in ap refused z
-    go (accepted us) q = absurd (none-cut q)
+units-none : (x : Answer (List (List ℕ))) (k : ℕ) → refused k ≡ sizes_of x → x ≡ refused k
+units-none (refused j) k q = let z : j ≡ k = cc in ap refused z
+units-none (accepted us) k q = absurd (none-cut q)
 
-joined-some : (x : Answer (List ℕ)) (r : ByteCount) (n : ℕ) → byte_count_says r ≡ count_of x → r ≡ Bytes n → (bs : List ℕ) × (x ≡ accepted bs) × (n ≡ length bs)
-joined-some x r n q t = go x (ap byte_count_says (sym t) ∙ q)
-  where
-    go : (x : Answer (List ℕ)) → accepted n ≡ count_of x → (bs : List ℕ) × (x ≡ accepted bs) × (n ≡ length bs)
-    go (refused k) q = absurd (none-cut (sym q))
-    go (accepted bs) q = (bs, refl, cc)
+bytes-some : (x : Answer (List ℕ)) (n : ℕ) → accepted n ≡ count_of x → (bs : List ℕ) × (x ≡ accepted bs) × (n ≡ length bs)
+bytes-some (refused k) n q = absurd (none-cut (sym q))
+bytes-some (accepted bs) n q = (bs, refl, cc)
 
-joined-none : (x : Answer (List ℕ)) (r : ByteCount) (k : ℕ) → byte_count_says r ≡ count_of x → r ≡ CountRefused k → x ≡ refused k
-joined-none x r k q t = go x (ap byte_count_says (sym t) ∙ q)
-  where
-    go : (x : Answer (List ℕ)) → refused k ≡ count_of x → x ≡ refused k
-    go (refused j) q = let z : j ≡ k = cc in ap refused z
-    go (accepted bs) q = absurd (none-cut q)
+bytes-none : (x : Answer (List ℕ)) (k : ℕ) → refused k ≡ count_of x → x ≡ refused k
+bytes-none (refused j) k q = let z : j ≡ k = cc in ap refused z
+bytes-none (accepted bs) k q = absurd (none-cut q)
 
 -- ---- what stands at the head of lent memory
 
--- units put in the store d, of which there are n bytes and u ends
+-- units put in the store d, which are sized s
 module _ (x : Answer (List (List ℕ))) (d : Store) (fit : (us : List (List ℕ)) → x ≡ accepted us → HasRoom (store_room d) us)
-    (r : Split) (q : split_says r ≡ sizes_of x) (d' : Store) (p : d' ≡ store_after x d) (n u : ℕ) (t : r ≡ Units n u) where
-  sized : UnitsSized x n u
-  sized = split-some x r n u q t
+    (s : Sizes) (q : accepted s ≡ sizes_of x) (d' : Store) (p : d' ≡ store_after x d) where
+  sized : UnitsSized x s
+  sized = units-some x s q
 
   room-is : HasRoom (store_room d) sized.units
   room-is = fit sized.units sized.are
@@ -126,38 +111,25 @@ module _ (x : Answer (List (List ℕ))) (d : Store) (fit : (us : List (List ℕ)
   ends-are : d'.ends ≡ pasted d.ends 0 (ends_of 0 sized.units)
   ends-are = ap (λ (y : Store). y.ends) p ∙ ap (λ y. ends_after y d.ends) sized.are
 
-  bytes-long : n ≤ length d'.bytes
+  bytes-long : s.bytes ≤ length d'.bytes
   bytes-long = omega (arith, ap length bytes-are, pasted_length d.bytes 0 (stream_bytes sized.units) (omega (arith, room-is.bytes)), sized.bytes, room-is.bytes)
 
-  ends-long : u ≤ length d'.ends
+  ends-long : s.units ≤ length d'.ends
   ends-long =
       let k = ends-length 0 sized.units in
       omega (arith, ap length ends-are, pasted_length d.ends 0 (ends_of 0 sized.units) (omega (arith, room-is.ends)), sized.count, room-is.ends)
 
-  bytes-head : take (n - 0) (drop 0 d'.bytes) ≡ stream_bytes sized.units
-  bytes-head = ap (λ y. take (n - 0) (drop 0 y)) bytes-are ∙ pasted-front d.bytes (stream_bytes sized.units) (n - 0) (omega (arith, sized.bytes))
+  bytes-head : take s.bytes d'.bytes ≡ stream_bytes sized.units
+  bytes-head = ap (λ y. take s.bytes y) bytes-are ∙ pasted-front d.bytes (stream_bytes sized.units) s.bytes sized.bytes
 
-  ends-head : take (u - 0) (drop 0 d'.ends) ≡ ends_of 0 sized.units
-  ends-head = ap (λ y. take (u - 0) (drop 0 y)) ends-are ∙ pasted-front d.ends (ends_of 0 sized.units) (u - 0) (omega (arith, sized.count, ends-length 0 sized.units))
-
--- ---- one container or the other
-
-module _ {c k : Container} (q : k ≡ c) where
-  pub write-form : (s es d : List ℕ) {a : Answer ℕ} {o : List ℕ} → (a ≡ count_of (write_at c (bytes_room (length d)) s es)) × (o ≡ out_after (write_at c (bytes_room (length d)) s es) d)
-      → Fills (λ n. write_at k (bytes_room n) s es) a (record { entry = d; exit = o })
-  write-form s es d (i, j) =
-      let w = ap (λ (y : Container). write_at y (bytes_room (length d)) s es) (sym q) in
-      record { answer = i ∙ ap (λ y. count_of y) w; lent = j ∙ ap (λ y. out_after y d) w }
-
-  pub read-form : (s d m : List ℕ) (r : Split) {o f : List ℕ} → Says (read c (room_in d m) s) (split_says r) d m o f
-      → Stores (λ room. read k room s) r (record { entry = record { bytes = d; ends = m }; exit = record { bytes = o; ends = f } })
-  read-form s d m r e = stores (λ room. read k room s) (rw q e)
+  ends-head : take s.units d'.ends ≡ ends_of 0 sized.units
+  ends-head = ap (λ y. take s.units y) ends-are ∙ pasted-front d.ends (ends_of 0 sized.units) s.units (omega (arith, sized.count, ends-length 0 sized.units))
 
 -- ---- the stages
 
 module _ (c : Container) (us : List (List ℕ)) where
   -- gathered
-  module _ (d d' : Store) (r : Split) (w : Stores (gathered us) r (record { entry = d; exit = d' })) (o : List ℕ) where
+  module _ (d d' : Store) (o : List ℕ) where
     abbrev W : Answer (List ℕ)
     W = written c us (record { units = d; out = o })
 
@@ -165,35 +137,36 @@ module _ (c : Container) (us : List (List ℕ)) where
     unfolding written and_next
     written-some q = rw q
 
-    pub write-stop : (k : ℕ) → r ≡ SplitRefused k → Writes c us (CountRefused k) (record { entry = record { units = d; out = o }; exit = record { units = d'; out = o } })
+    pub write-stop : (e : Refusal) → Stores (gathered us) (Err e) (record { entry = d; exit = d' })
+        → Writes c us (Err e) (record { entry = record { units = d; out = o }; exit = record { units = d'; out = o } })
     unfolding written and_next
-    write-stop k t =
-        let z : W ≡ refused k = rw (split-none (gathered us (store_room d)) r k w.answer t) in
+    write-stop e w =
+        let z : W ≡ refused (number e) = rw (units-none (gathered us (store_room d)) (number e) w.answer) in
         record { answer = sym (ap (λ i. count_of i) z); lent = ap₂ (λ i j. record { units = i; out = j }) w.lent (sym (ap (λ i. out_after i o) z)) }
 
-    module _ (n u : ℕ) (t : r ≡ Units n u) where
-      pub write-long : n ≤ length d'.bytes
-      write-long = bytes-long (gathered us (store_room d)) d (gathered-fits us (store_room d)) r w.answer d' w.lent n u t
+    module _ (s : Sizes) (w : Stores (gathered us) (Ok s) (record { entry = d; exit = d' })) where
+      pub write-long : s.bytes ≤ length d'.bytes
+      write-long = bytes-long (gathered us (store_room d)) d (gathered-fits us (store_room d)) s w.answer d' w.lent
 
-      pub write-slots : u ≤ length d'.ends
-      write-slots = ends-long (gathered us (store_room d)) d (gathered-fits us (store_room d)) r w.answer d' w.lent n u t
+      pub write-slots : s.units ≤ length d'.ends
+      write-slots = ends-long (gathered us (store_room d)) d (gathered-fits us (store_room d)) s w.answer d' w.lent
 
-      whole : write_at c (bytes_room (length o)) (take (n - 0) (drop 0 d'.bytes)) (take (u - 0) (drop 0 d'.ends)) ≡ W
+      whole : write_at c (bytes_room (length o)) (take s.bytes d'.bytes) (take s.units d'.ends) ≡ W
       whole =
-          let z = sized (gathered us (store_room d)) d (gathered-fits us (store_room d)) r w.answer d' w.lent n u t in
+          let z = sized (gathered us (store_room d)) d (gathered-fits us (store_room d)) s w.answer d' w.lent in
           ap₂ (λ i j. write_at c (bytes_room (length o)) i j)
-          (bytes-head (gathered us (store_room d)) d (gathered-fits us (store_room d)) r w.answer d' w.lent n u t)
-          (ends-head (gathered us (store_room d)) d (gathered-fits us (store_room d)) r w.answer d' w.lent n u t)
+          (bytes-head (gathered us (store_room d)) d (gathered-fits us (store_room d)) s w.answer d' w.lent)
+          (ends-head (gathered us (store_room d)) d (gathered-fits us (store_room d)) s w.answer d' w.lent)
           ∙ lent-write c (bytes_room (length o)) z.units ∙ written-some z.are
 
-      pub write-go : (o' : List ℕ) (j : ByteCount)
-          → Fills (λ m. write_at c (bytes_room m) (take (n - 0) (drop 0 d'.bytes)) (take (u - 0) (drop 0 d'.ends))) (byte_count_says j) (record { entry = o; exit = o' })
-          → Writes c us j (record { entry = record { units = d; out = o }; exit = record { units = d'; out = o' } })
-      write-go o' j f =
+      pub write-go : (o' : List ℕ) (r : Result ℕ Refusal)
+          → Fills (λ m. write_at c (bytes_room m) (take s.bytes d'.bytes) (take s.units d'.ends)) r (record { entry = o; exit = o' })
+          → Writes c us r (record { entry = record { units = d; out = o }; exit = record { units = d'; out = o' } })
+      write-go o' r f =
           record { answer = f.answer ∙ ap (λ i. count_of i) whole; lent = ap₂ (λ i j. record { units = i; out = j }) w.lent (f.lent ∙ ap (λ i. out_after i o) whole) }
 
   -- written
-  module _ (d d' : WriteLent) (r : ByteCount) (w : Writes c us r (record { entry = d; exit = d' })) (b : Store) where
+  module _ (d d' : WriteLent) (b : Store) where
     abbrev R : Answer (List (List ℕ))
     R = carried_units c us (record { written = d; back = b })
 
@@ -201,13 +174,14 @@ module _ (c : Container) (us : List (List ℕ)) where
     unfolding carried_units and_next
     carried_some q = rw q
 
-    pub carry-stop : (k : ℕ) → r ≡ CountRefused k → Carries c us (SplitRefused k) (record { entry = record { written = d; back = b }; exit = record { written = d'; back = b } })
+    pub carry-stop : (e : Refusal) → Writes c us (Err e) (record { entry = d; exit = d' })
+        → Carries c us (Err e) (record { entry = record { written = d; back = b }; exit = record { written = d'; back = b } })
     unfolding carried_units and_next
-    carry-stop k t =
-        let z : R ≡ refused k = rw (joined-none (written c us d) r k w.answer t) in
+    carry-stop e w =
+        let z : R ≡ refused (number e) = rw (bytes-none (written c us d) (number e) w.answer) in
         record { answer = sym (ap (λ i. sizes_of i) z); lent = ap₂ (λ i j. record { written = i; back = j }) w.lent (sym (ap (λ i. store_after i b) z)) }
 
-    module _ (n : ℕ) (t : r ≡ Bytes n) where
+    module _ (n : ℕ) (w : Writes c us (Ok n) (record { entry = d; exit = d' })) where
       bytes_fit : (bs : List ℕ) → written c us d ≡ accepted bs → length bs ≤ length d.out
       unfolding written and_next
       bytes_fit bs q = go (gathered us (store_room d.units)) q
@@ -221,22 +195,22 @@ module _ (c : Container) (us : List (List ℕ)) where
 
       pub carry-long : n ≤ length d'.out
       carry-long =
-          let (bs, q, e) = joined-some (written c us d) r n w.answer t in
+          let (bs, q, e) = bytes-some (written c us d) n w.answer in
           let f = bytes_fit bs q in
           omega (arith, ap length (out-is bs q), pasted_length d.out 0 bs (omega (arith, f)), e, f)
 
-      back_whole : read c (store_room b) (take (n - 0) (drop 0 d'.out)) ≡ R
+      back_whole : read c (store_room b) (take n d'.out) ≡ R
       back_whole =
-          let (bs, q, e) = joined-some (written c us d) r n w.answer t in
-          ap (λ i. read c (store_room b) i) (ap (λ i. take (n - 0) (drop 0 i)) (out-is bs q) ∙ pasted-front d.out bs (n - 0) (omega (arith, e))) ∙ carried_some q
+          let (bs, q, e) = bytes-some (written c us d) n w.answer in
+          ap (λ i. read c (store_room b) i) (ap (λ i. take n i) (out-is bs q) ∙ pasted-front d.out bs n e) ∙ carried_some q
 
-      pub carry-go : (b' : Store) (j : Split) → Stores (λ room. read c room (take (n - 0) (drop 0 d'.out))) j (record { entry = b; exit = b' })
-          → Carries c us j (record { entry = record { written = d; back = b }; exit = record { written = d'; back = b' } })
-      carry-go b' j f =
+      pub carry-go : (b' : Store) (r : Result Sizes Refusal) → Stores (λ room. read c room (take n d'.out)) r (record { entry = b; exit = b' })
+          → Carries c us r (record { entry = record { written = d; back = b }; exit = record { written = d'; back = b' } })
+      carry-go b' r f =
           record { answer = f.answer ∙ ap (λ i. sizes_of i) back_whole; lent = ap₂ (λ i j. record { written = i; back = j }) w.lent (f.lent ∙ ap (λ i. store_after i b) back_whole) }
 
   -- read back
-  module _ (d d' : CarryLent) (r : Split) (w : Carries c us r (record { entry = d; exit = d' })) (cue : ℕ) (g : List ℕ) where
+  module _ (d d' : CarryLent) (cue : ℕ) (g : List ℕ) where
     abbrev S : Answer (List ℕ)
     S = shown c us cue (record { carried = d; shown = g })
 
@@ -244,13 +218,14 @@ module _ (c : Container) (us : List (List ℕ)) where
     unfolding shown and_next
     shown-some q = rw q
 
-    pub show-stop : (k : ℕ) → r ≡ SplitRefused k → Plays c us cue (ShowsRefused k) (record { entry = record { carried = d; shown = g }; exit = record { carried = d'; shown = g } })
+    pub show-stop : (e : Refusal) → Carries c us (Err e) (record { entry = d; exit = d' })
+        → Plays c us cue (Err e) (record { entry = record { carried = d; shown = g }; exit = record { carried = d'; shown = g } })
     unfolding shown and_next
-    show-stop k t =
-        let z : S ≡ refused k = rw (split-none (carried_units c us d) r k w.answer t) in
+    show-stop e w =
+        let z : S ≡ refused (number e) = rw (units-none (carried_units c us d) (number e) w.answer) in
         record { answer = sym (ap (λ i. count_of i) z); lent = ap₂ (λ i j. record { carried = i; shown = j }) w.lent (sym (ap (λ i. out_after i g) z)) }
 
-    module _ (n u : ℕ) (t : r ≡ Units n u) where
+    module _ (s : Sizes) (w : Carries c us (Ok s) (record { entry = d; exit = d' })) where
       back_fits : (vs : List (List ℕ)) → carried_units c us d ≡ accepted vs → HasRoom (store_room d.back) vs
       unfolding carried_units and_next
       back_fits vs q = go (written c us d.written) q
@@ -262,26 +237,26 @@ module _ (c : Container) (us : List (List ℕ)) where
       back_is : d'.back ≡ store_after (carried_units c us d) d.back
       back_is = ap (λ (y : CarryLent). y.back) w.lent
 
-      pub show-long : n ≤ length d'.back.bytes
-      show-long = bytes-long (carried_units c us d) d.back back_fits r w.answer d'.back back_is n u t
+      pub show-long : s.bytes ≤ length d'.back.bytes
+      show-long = bytes-long (carried_units c us d) d.back back_fits s w.answer d'.back back_is
 
-      pub show-slots : u ≤ length d'.back.ends
-      show-slots = ends-long (carried_units c us d) d.back back_fits r w.answer d'.back back_is n u t
+      pub show-slots : s.units ≤ length d'.back.ends
+      show-slots = ends-long (carried_units c us d) d.back back_fits s w.answer d'.back back_is
 
       played : (vs : List (List ℕ)) → HasRoom (store_room d.back) vs → play_from (length g) cue (stream_bytes vs) (ends_of 0 vs) ≡ from_cue (length g) cue vs
       unfolding play_from stream_bytes and_next
       played vs f = rw (le-leb (length (stream_bytes vs)) limit f.small, units-there 0 vs)
 
-      shown-whole : play_from (length g) cue (take (n - 0) (drop 0 d'.back.bytes)) (take (u - 0) (drop 0 d'.back.ends)) ≡ S
+      shown-whole : play_from (length g) cue (take s.bytes d'.back.bytes) (take s.units d'.back.ends) ≡ S
       shown-whole =
-          let z = sized (carried_units c us d) d.back back_fits r w.answer d'.back back_is n u t in
+          let z = sized (carried_units c us d) d.back back_fits s w.answer d'.back back_is in
           ap₂ (λ i j. play_from (length g) cue i j)
-          (bytes-head (carried_units c us d) d.back back_fits r w.answer d'.back back_is n u t)
-          (ends-head (carried_units c us d) d.back back_fits r w.answer d'.back back_is n u t)
+          (bytes-head (carried_units c us d) d.back back_fits s w.answer d'.back back_is)
+          (ends-head (carried_units c us d) d.back back_fits s w.answer d'.back back_is)
           ∙ played z.units (back_fits z.units z.are) ∙ shown-some z.are
 
-      pub show-go : (g' : List ℕ) (j : Shows)
-          → Fills (λ room. play_from room cue (take (n - 0) (drop 0 d'.back.bytes)) (take (u - 0) (drop 0 d'.back.ends))) (shows_say j) (record { entry = g; exit = g' })
-          → Plays c us cue j (record { entry = record { carried = d; shown = g }; exit = record { carried = d'; shown = g' } })
-      show-go g' j f =
+      pub show-go : (g' : List ℕ) (r : Result ℕ Refusal)
+          → Fills (λ room. play_from room cue (take s.bytes d'.back.bytes) (take s.units d'.back.ends)) r (record { entry = g; exit = g' })
+          → Plays c us cue r (record { entry = record { carried = d; shown = g }; exit = record { carried = d'; shown = g' } })
+      show-go g' r f =
           record { answer = f.answer ∙ ap (λ i. count_of i) shown-whole; lent = ap₂ (λ i j. record { carried = i; shown = j }) w.lent (f.lent ∙ ap (λ i. out_after i g) shown-whole) }

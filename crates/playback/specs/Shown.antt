@@ -1,32 +1,23 @@
 -- What playing units from a cue on shows, a number for each position.
 use Rattle.std.specs.Prelude.{ℕ, suc, ◌+◌, ◌-◌, ◌≤◌, ◌≡◌, List, [], ◌∷◌, cond as pick, ◌&&◌, length, drop, leb}
 use Rattle.std.proofs.Math.Option.{Option, none, some}
-use Rattle.bitio.specs.Parse.{Answer, refused, accepted, and_next}
+use Rattle.bitio.specs.Parse.{Answer, refused, accepted, answer, and_next}
 use Rattle.bitio.specs.Limits.{led34}
 use Rattle.container.specs.Units.{units_at}
 use Rattle.player.specs.Player.{State, start, Played, play, state_after}
-use Rattle.player.specs.declared.slots.Answer.{Answer as CodeAnswer}
-use Rattle.player.specs.declared.slots.Answer.TheVariants.{Shown, Nothing, Refused}
-use Rattle.playback.specs.declared.play.Shows.{Shows}
-use Rattle.playback.specs.declared.play.Shows.TheVariants.{Positions, Refused as ShowsRefused}
 
 -- ---- the numbers
 
-abbrev pub position_number : Option ℕ → ℕ
-position_number none = 0
-position_number (some q) = q
-
 -- The position shown, 0 where nothing is shown, 2^64 - 1 - n for refusal n.
 -- Positions count from 1 and refusals are u32, so that the three can be told apart.
-abbrev pub shown_number : Answer Played → ℕ
-shown_number (refused n) = 18446744073709551615 - n
-shown_number (accepted r) = position_number r.shown
+abbrev pub answer_number : Answer (Option ℕ) → ℕ
+answer_number (refused n) = 18446744073709551615 - n
+answer_number (accepted none) = 0
+answer_number (accepted (some q)) = q
 
--- the same of the answer in the code
-abbrev pub code_number : CodeAnswer → ℕ
-code_number (Shown q) = q
-code_number Nothing = 0
-code_number (Refused n) = 18446744073709551615 - n
+-- the same of a unit played
+abbrev pub shown_number : Answer Played → ℕ
+shown_number x = answer_number (answer (λ r. r.shown) x)
 
 -- ---- units played
 
@@ -47,11 +38,6 @@ from_cue room cue us =
 -- units in lent memory, s their bytes and es their ends: 34 leads, 36 is next
 unfoldable pub play_from : ℕ → ℕ → List ℕ → List ℕ → Answer (List ℕ)
 play_from room cue s es = led34 (length s) (and_next (units_at s es) (from_cue room cue))
-
--- 01's number, or how many positions have their number
-abbrev pub shows_say : Shows → Answer ℕ
-shows_say (Positions n) = accepted n
-shows_say (ShowsRefused k) = refused k
 
 -- ---- for the code
 

@@ -1,17 +1,16 @@
 -- The way of a list's units: gathered, written in a container, read back, and played from a cue.
 -- Of lent memory only the lengths count. 35: a stage has no room; 34 and all others are the operations' own.
-use Rattle.std.specs.Prelude.{ℕ, List, length}
+use Rattle.std.specs.Prelude.{ℕ, List, length, Result}
 use denote.Triple.Both.{Both}
 use Rattle.bitio.specs.Parse.{Answer, and_next}
+use Rattle.bitio.specs.declared.refusal.Refusal.{Refusal}
 use Rattle.container.specs.Limits.{bytes_room}
 use Rattle.container.specs.Container.{Container, stream, annexb, read, write}
-use Rattle.container.specs.Units.{sizes_of, split_says, count_of, out_after, byte_count_says}
-use Rattle.container.specs.declared.units.Split.{Split}
-use Rattle.container.specs.declared.units.ByteCount.{ByteCount}
+use Rattle.container.specs.Units.{sizes_of, count_of, out_after}
+use Rattle.container.specs.declared.units.Sizes.{Sizes}
 use Rattle.playback.specs.Lent.{Does, Store, store_room, store_after, store}
 use Rattle.playback.specs.Gather.{gathered}
-use Rattle.playback.specs.Shown.{from_cue, shows_say}
-use Rattle.playback.specs.declared.play.Shows.{Shows}
+use Rattle.playback.specs.Shown.{from_cue}
 use Rattle.playback.specs.declared.way.Form.{Form}
 use Rattle.playback.specs.declared.way.Form.TheVariants.{Stream, AnnexB}
 
@@ -53,8 +52,8 @@ module _ (c : Container) (us : List (List ℕ)) where
   abbrev pub written_after : WriteLent → WriteLent
   written_after d = record { units = store_after (gathered us (store_room d.units)) d.units; out = out_after (written d) d.out }
 
-  abbrev pub Writes : ByteCount → Both WriteLent WriteLent → Type 0
-  Writes r = Does (λ d. count_of (written d)) written_after (byte_count_says r)
+  abbrev pub Writes : Result ℕ Refusal → Both WriteLent WriteLent → Type 0
+  Writes = Does (λ d. count_of (written d)) written_after
 
   -- and read back
   unfoldable pub carried_units : CarryLent → Answer (List (List ℕ))
@@ -63,8 +62,8 @@ module _ (c : Container) (us : List (List ℕ)) where
   abbrev pub carried_after : CarryLent → CarryLent
   carried_after d = record { written = written_after d.written; back = store_after (carried_units d) d.back }
 
-  abbrev pub Carries : Split → Both CarryLent CarryLent → Type 0
-  Carries r = Does (λ d. sizes_of (carried_units d)) carried_after (split_says r)
+  abbrev pub Carries : Result Sizes Refusal → Both CarryLent CarryLent → Type 0
+  Carries = Does (λ d. sizes_of (carried_units d)) carried_after
 
   -- and played from the cue, a number for each position
   module _ (cue : ℕ) where
@@ -74,5 +73,5 @@ module _ (c : Container) (us : List (List ℕ)) where
     abbrev pub shown_after : PlayLent → PlayLent
     shown_after d = record { carried = carried_after d.carried; shown = out_after (shown d) d.shown }
 
-    abbrev pub Plays : Shows → Both PlayLent PlayLent → Type 0
-    Plays r = Does (λ d. count_of (shown d)) shown_after (shows_say r)
+    abbrev pub Plays : Result ℕ Refusal → Both PlayLent PlayLent → Type 0
+    Plays = Does (λ d. count_of (shown d)) shown_after

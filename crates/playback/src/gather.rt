@@ -6,70 +6,63 @@ ghost use Rattle.container.specs.Stream.{stream_bytes};
 ghost use Rattle.container.specs.Units.{ends_of};
 ghost use Rattle.container.specs.Limits.{room_in};
 ghost use Rattle.playback.specs.Lent.{store, Stores};
-ghost use Rattle.playback.specs.Gather.{units_named, gathered, HasRoom};
+ghost use Rattle.playback.specs.Gather.{units_listed, gathered, HasRoom};
 
 use assemble::unit::unit;
-use bitio::numbers::plus;
-use container::room::has_room;
-use container::units::Split;
+use bitio::refusal::Refusal;
+use container::units::Sizes;
 use obu::writer::put_bytes;
 
-// How many bytes the units have, as far as a usize counts them.
-fn measure<'a>(list: &[u32], pictures: &'a [u8], ends: &[u32], shows: &'a [u8]) -> usize
-    ensures { result ≡ capped (length (stream_bytes (units_named list.now pictures.now ends.now shows.now))) }
-{
-    let mut n: usize = 0;
-    let mut i: usize = 0;
-    while i < list.len() {
-        let u = unit(pictures, shows, ends, list[i]);
-        n = plus(n, u.len());
-        i = i + 1;
-    }
-    n
+// A list's entries, and what assembly handed out for them to name units in.
+#[derive(Clone, Copy)]
+pub struct Listed<'a> {
+    pub list: &'a [u32],
+    pub pictures: &'a [u8],
+    pub ends: &'a [u32],
+    pub shows: &'a [u8],
 }
 
-// Writes the units and their ends, where their room is known.
-fn put_units<'a>(
-    units: &mut [u8],
-    unit_ends: &mut [u32],
-    list: &[u32],
-    pictures: &'a [u8],
-    ends: &[u32],
-    shows: &'a [u8],
-)
-    requires { HasRoom (room_in units.old unit_ends.old) (units_named list.now pictures.now ends.now shows.now) }
-    ensures units_after { units.new ≡ pasted units.old 0 (stream_bytes (units_named list.now pictures.now ends.now shows.now)) }
-    ensures unit_ends_after { unit_ends.new ≡ pasted unit_ends.old 0 (ends_of 0 (units_named list.now pictures.now ends.now shows.now)) }
-{
-    let mut w: usize = 0;
-    let mut i: usize = 0;
-    while i < list.len() {
-        let u = unit(pictures, shows, ends, list[i]);
-        w = put_bytes(units, w, u);
-        unit_ends[i] = w as u32;
-        i = i + 1;
+impl Listed<'_> {
+    // How many units there are, and how many bytes they have, as far as a usize counts.
+    fn sizes(&self) -> Sizes
+        ensures { result ≡ record { bytes = capped (length (stream_bytes (units_listed self.now))); units = length self.now.list.now } }
+    {
+        let mut bytes: usize = 0;
+        for entry in self.list {
+            bytes = bytes.saturating_add(unit(self.pictures, self.shows, self.ends, *entry).len());
+        }
+        Sizes {
+            bytes,
+            units: self.list.len(),
+        }
     }
-}
 
-// The units that the list's entries name: their bytes to `units`, the end of each to `unit_ends`. A refusal changes neither.
-pub fn gather_units<'a>(
-    units: &mut [u8],
-    unit_ends: &mut [u32],
-    list: &[u32],
-    pictures: &'a [u8],
-    ends: &[u32],
-    shows: &'a [u8],
-) -> Split
-    ensures { Stores (gathered (units_named list.now pictures.now ends.now shows.now)) result (record {
-      entry = store units.old unit_ends.old;
-      exit = store units.new unit_ends.new;
-    }) }
-{
-    let count = list.len();
-    let bytes = measure(list, pictures, ends, shows);
-    if !has_room(bytes, count, units.len(), unit_ends.len()) {
-        return Split::Refused(35);
+    // Writes the units and their ends, where their room is known.
+    fn put(&self, units: &mut [u8], unit_ends: &mut [u32])
+        requires { HasRoom (room_in units.old unit_ends.old) (units_listed self.now) }
+        ensures units_after { units.new ≡ pasted units.old 0 (stream_bytes (units_listed self.now)) }
+        ensures unit_ends_after { unit_ends.new ≡ pasted unit_ends.old 0 (ends_of 0 (units_listed self.now)) }
+    {
+        let mut at: usize = 0;
+        for i in 0..self.list.len() {
+            let u = unit(self.pictures, self.shows, self.ends, self.list[i]);
+            at = put_bytes(units, at, u);
+            unit_ends[i] = at as u32;
+        }
     }
-    put_units(units, unit_ends, list, pictures, ends, shows);
-    Split::Units(bytes, count)
+
+    // The units that the entries name: their bytes to `units`, the end of each to `unit_ends`. A refusal changes neither.
+    pub fn gather(&self, units: &mut [u8], unit_ends: &mut [u32]) -> Result<Sizes, Refusal>
+        ensures { Stores (gathered (units_listed self.now)) result (record {
+          entry = store units.old unit_ends.old;
+          exit = store units.new unit_ends.new;
+        }) }
+    {
+        let sizes = self.sizes();
+        if !sizes.have_room(units, unit_ends) {
+            return Err(Refusal::NoRoom);
+        }
+        self.put(units, unit_ends);
+        Ok(sizes)
+    }
 }

@@ -1,53 +1,40 @@
 -- Laws of the kept header: one payload read in the code, a walk over a unit's OBUs, and what is kept behind it.
 use Prim.Native.Nat.{ℕ}
-use native.Mathlib.Omega.{arith}
-use mathlib.Core.Path.{◌≡◌, refl, sym, ap, ap₂, ◌∙◌}
+use mathlib.Core.Path.{◌≡◌, refl, sym, ap, ◌∙◌}
 use mathlib.Core.List.{List, [], ◌∷◌, ◌++◌}
 use mathlib.Core.Bool.{Bool, true, false, cond as pick}
-use mathlib.Core.Option.{Option, some}
+use mathlib.Core.Option.{some}
 use Rattle.bitio.specs.Parse.{Answer, refused, accepted, answer, and_next}
 use Rattle.obu.specs.Obu.{Obu, obus}
 use Rattle.bitio.proofs.ParseLaws.{next-none}
 use Rattle.obu.specs.Unit.{is_sequence}
-use Rattle.header.specs.Sequence.{Sequence, sequence_read}
-use Rattle.header.specs.SequencePoints.{padded}
+use Rattle.header.specs.Sequence.{Sequence, in_array}
+use Rattle.header.specs.declared.seq_header.SequenceObu.{SequenceObu}
 use Rattle.header.specs.Support.{supported_sequence}
-use Rattle.header.specs.declared.seq_header.SequenceHeader.{SequenceHeader as Header'}
-use Rattle.header.specs.declared.seq_header.SequenceAnswer.TheVariants.{Header, Refused}
-use Rattle.header.specs.declared.seq_header.SequenceRead.{SequenceRead}
 use Rattle.header.proofs.SupportLaws.{supported-read}
 use Rattle.frame.proofs.FrameFromLaws.{read_whole}
 use Rattle.player.specs.Player.{keep_as, keep}
-use Rattle.player.specs.Values.{kept_of, kept_says, headers_say, keeping, header_kept, kept_behind}
-use Rattle.player.specs.declared.keep.Last.TheVariants.{Header as Keeps}
-use Rattle.player.specs.declared.keep.Kept.{Kept}
-use Rattle.player.specs.declared.keep.Headers.TheVariants.{Read, Refused as RefusedAt}
-use Rattle.player.specs.declared.keep.Keeping.{Keeping}
+use Rattle.player.specs.Values.{kept_of, kept_says, kept_behind}
+use Rattle.std.specs.Prelude.{Option as Optional, Some, None, Result, Ok, Err, is_ok, ◌&&◌}
+use Rattle.bitio.specs.Refusal.{number, says}
+use Rattle.bitio.specs.declared.refusal.Refusal.{Refusal}
 
--- what the code answers for a sequence payload, and what is kept then
-module _ (s : List ℕ) (r : SequenceRead) (p : r ≡ sequence_read (supported_sequence s)) where
-  pub header_refused : (k : ℕ) → r.answer ≡ Refused k → refused k ≡ header_kept s
-  unfolding header_kept and_next
-  header_refused k a = go (supported_sequence s) p
-    where
-      go : (x : Answer Sequence) → r ≡ sequence_read x → refused k ≡ and_next x (λ q. accepted (kept_of q))
-      go (refused j) p =
-          let z : Refused j ≡ Refused k = sym (ap (λ y. y.answer) p) ∙ a in
-          let i : k ≡ j = cc in
-          ap (λ y. refused y) i
-      go (accepted q) p = let z : Header q.header ≡ Refused k = sym (ap (λ y. y.answer) p) ∙ a in let w : ◌≡◌ {A = ℕ} 0 1 = cc in absurd (omega arith)
+-- what is kept in the code
+abbrev Kept : Type 0
+Kept = Optional SequenceObu
 
-  pub header_read : (h : Header') → r.answer ≡ Header h → accepted (record { last = Keeps h; points = r.operating_points }) ≡ header_kept s
-  unfolding header_kept and_next
-  header_read h a = go (supported_sequence s) p
-    where
-      go : (x : Answer Sequence) → r ≡ sequence_read x → accepted (record { last = Keeps h; points = r.operating_points }) ≡ and_next x (λ q. accepted (kept_of q))
-      go (refused k) p = let z : Refused k ≡ Header h = sym (ap (λ y. y.answer) p) ∙ a in let w : ◌≡◌ {A = ℕ} 0 1 = cc in absurd (omega arith)
-      go (accepted q) p =
-          let z : Header q.header ≡ Header h = sym (ap (λ y. y.answer) p) ∙ a in
-          let i : h ≡ q.header = cc in
-          let j : r.operating_points ≡ padded q.points = ap (λ y. y.operating_points) p in
-          ap₂ (λ y ps. accepted (record { last = Keeps y; points = ps })) i j
+-- one sequence payload of a unit: 14 to 16, 17 to 20, or the header that is kept from it on
+abbrev pub header_kept : List ℕ → Answer Kept
+header_kept s = and_next (supported_sequence s) (λ q. accepted (kept_of q))
+
+-- which is what the code keeps of what it has read
+pub header-kept : (s : List ℕ) (r : Result SequenceObu Refusal) (x : Result Kept Refusal) → says r ≡ answer in_array (supported_sequence s) → says x ≡ answer (λ y. Some y) (says r) → says x ≡ header_kept s
+unfolding and_next
+header-kept s r x e f = f ∙ ap (answer (λ y. Some y)) e ∙ go (supported_sequence s)
+  where
+    go : (x : Answer Sequence) → answer (λ y. Some y) (answer in_array x) ≡ and_next x (λ q. accepted (kept_of q))
+    go (refused k) = refl
+    go (accepted q) = refl
 
 -- ---- one OBU more
 
@@ -64,35 +51,57 @@ module _ (o : Obu) (f : Kept → Answer Kept) (e : (k : Kept) → keep_as kept_o
       go true (refused n) ih = refl
       go true (accepted q) ih = ih (kept_of q)
 
-module _ (k : Kept) (front : List Obu) (o : Obu) {x : Keeping} (h : x ≡ keeping k (keep_as kept_of k front)) where
-  so_far : (a b : Answer Kept) → and_next (headers_say (keeping k a).answer) (λ _. b) ≡ and_next a (λ _. b)
-  unfolding and_next
-  so_far (refused n) b = refl
-  so_far (accepted j) b = refl
-
+module _ (k : Kept) (front : List Obu) (o : Obu) where
   -- a sequence header
-  pub turn-header : {p : List ℕ} {y : Keeping} → is_sequence o ≡ true → p ≡ o.payload → y ≡ keeping k (and_next (headers_say x.answer) (λ _. header_kept p)) → y ≡ keeping k (keep_as kept_of k (front ++ (o ∷ [])))
-  unfolding keep_as header_kept
-  turn-header {p = p} t e g =
-      g ∙ ap (λ z. keeping k (and_next (headers_say z.answer) (λ _. header_kept p))) h
-      ∙ ap (keeping k) (so_far (keep_as kept_of k front) (header_kept p) ∙ ap (λ z. and_next (keep_as kept_of k front) (λ _. header_kept z)) e ∙ sym (keep-next o (λ _. header_kept o.payload) one front k))
+  pub turn-header : is_sequence o ≡ true → and_next (keep_as kept_of k front) (λ _. header_kept o.payload) ≡ keep_as kept_of k (front ++ (o ∷ []))
+  unfolding keep_as
+  turn-header t = sym (keep-next o (λ _. header_kept o.payload) one front k)
     where
       one : (k : Kept) → keep_as kept_of k (o ∷ []) ≡ header_kept o.payload
       one k = rw t
 
   -- any other OBU
-  pub turn-other : is_sequence o ≡ false → x ≡ keeping k (keep_as kept_of k (front ++ (o ∷ [])))
+  pub turn-other : is_sequence o ≡ false → keep_as kept_of k front ≡ keep_as kept_of k (front ++ (o ∷ []))
   unfolding keep_as
-  turn-other t = h ∙ ap (keeping k) (sym (keep-next o (λ j. accepted j) one front k ∙ next-none (keep_as kept_of k front)))
+  turn-other t = sym (keep-next o (λ j. accepted j) one front k ∙ next-none (keep_as kept_of k front))
     where
       one : (k : Kept) → keep_as kept_of k (o ∷ []) ≡ accepted k
       one k = rw t
+
+  -- in the code: a header that is read where none was refused
+  pub read-more : (r : Result Kept Refusal) {x : Answer Kept} → says r ≡ keep_as kept_of k front → (is_sequence o && is_ok r) ≡ true → x ≡ header_kept o.payload → x ≡ keep_as kept_of k (front ++ (o ∷ []))
+  unfolding and_next
+  read-more (Ok j) e t f = f ∙ ap (λ y. and_next y (λ _. header_kept o.payload)) e ∙ turn-header (and_true (is_sequence o) t)
+    where
+      and_true : (b : Bool) → (b && true) ≡ true → b ≡ true
+      and_true true h = refl
+      and_true false h = h
+  read-more (Err n) e t f = absurd (never (is_sequence o) t)
+    where
+      never : (b : Bool) → (b && false) ≡ true → ⊥
+      never true h = cc
+      never false h = cc
+
+  -- and any other OBU, or one behind a refusal
+  pub read-same : (r : Result Kept Refusal) → says r ≡ keep_as kept_of k front → (is_sequence o && is_ok r) ≡ false → says r ≡ keep_as kept_of k (front ++ (o ∷ []))
+  unfolding and_next
+  read-same (Ok j) e t = e ∙ turn-other (and_false (is_sequence o) t)
+    where
+      and_false : (b : Bool) → (b && true) ≡ false → b ≡ false
+      and_false true h = h
+      and_false false h = refl
+  read-same (Err n) e t = by-type (is_sequence o) refl
+    where
+      by-type : (b : Bool) → is_sequence o ≡ b → refused (number n) ≡ keep_as kept_of k (front ++ (o ∷ []))
+      by-type true h = ap (λ y. and_next y (λ _. header_kept o.payload)) e ∙ turn-header h
+      by-type false h = e ∙ turn-other h
 
 -- ---- what is kept says what the definition keeps
 
 keep-says : (os : List Obu) (k : Kept) → answer kept_says (keep_as kept_of k os) ≡ keep (kept_says k) os
 unfolding keep_as and_next
-keep-says [] k = refl
+keep-says [] None = refl
+keep-says [] (Some x) = refl
 keep-says (o ∷ os) k = go (is_sequence o) (supported_sequence o.payload) refl (keep-says os)
   where
     go : (b : Bool) (a : Answer Sequence) → supported_sequence o.payload ≡ a → ((k : Kept) → answer kept_says (keep_as kept_of k os) ≡ keep (kept_says k) os)
@@ -101,41 +110,11 @@ keep-says (o ∷ os) k = go (is_sequence o) (supported_sequence o.payload) refl 
     go true (refused n) i ih = refl
     go true (accepted q) i ih = ih (kept_of q) ∙ ap (λ z. keep z os) (ap (λ y. some y) (read_whole o.payload q (supported-read o.payload q i)))
 
-module _ (k : Kept) (u : List ℕ) where
-  abbrev kept : Answer Kept
-  kept = and_next (obus u) (keep_as kept_of k)
-
-  abbrev says : Answer (Option Sequence)
-  says = and_next (obus u) (keep (kept_says k))
-
-  behind-says : answer kept_says kept ≡ says
-  unfolding and_next
-  behind-says = go (obus u)
-    where
-      go : (x : Answer (List Obu)) → answer kept_says (and_next x (keep_as kept_of k)) ≡ and_next x (keep (kept_says k))
-      go (refused n) = refl
-      go (accepted os) = keep-says os k
-
-  pub behind-refused : (n : ℕ) → (kept_behind k u).answer ≡ RefusedAt n → refused n ≡ says
-  unfolding kept_behind
-  behind-refused n e = go kept e ∙ behind-says
-    where
-      go : (x : Answer Kept) → (keeping k x).answer ≡ RefusedAt n → refused n ≡ answer kept_says x
-      go (refused j) e = let i : n ≡ j = cc in ap (λ y. refused y) i
-      go (accepted j) e = let z : ◌≡◌ {A = ℕ} 0 1 = cc in absurd (omega arith)
-
-  pub behind-read : (kept_behind k u).answer ≡ Read → accepted (kept_says (kept_behind k u).kept) ≡ says
-  unfolding kept_behind
-  behind-read e = go kept e ∙ behind-says
-    where
-      go : (x : Answer Kept) → (keeping k x).answer ≡ Read → accepted (kept_says (keeping k x).kept) ≡ answer kept_says x
-      go (refused n) e = let z : ◌≡◌ {A = ℕ} 0 1 = cc in absurd (omega arith)
-      go (accepted j) e = refl
-
-  pub behind-kept : (q : Option Sequence) → says ≡ accepted q → kept_says (kept_behind k u).kept ≡ q
-  unfolding kept_behind
-  behind-kept q e = go kept (behind-says ∙ e)
-    where
-      go : (x : Answer Kept) → answer kept_says x ≡ accepted q → kept_says (keeping k x).kept ≡ q
-      go (refused n) e = let z : ◌≡◌ {A = ℕ} 0 1 = cc in absurd (omega arith)
-      go (accepted j) e = cc
+-- what is kept behind a unit in the code
+pub behind-says : (k : Kept) (u : List ℕ) → answer kept_says (kept_behind k u) ≡ and_next (obus u) (keep (kept_says k))
+unfolding kept_behind and_next
+behind-says k u = go (obus u)
+  where
+    go : (x : Answer (List Obu)) → answer kept_says (and_next x (keep_as kept_of k)) ≡ and_next x (keep (kept_says k))
+    go (refused n) = refl
+    go (accepted os) = keep-says os k

@@ -1,5 +1,5 @@
 -- The player (01, 'Player (added)'): eight slots, a kept sequence header, and what playing one unit does.
-use Rattle.std.specs.Prelude.{ℕ, List, [], ◌∷◌, Bool, true, false, cond as pick, length, get_or, replicate, eqb}
+use Rattle.std.specs.Prelude.{ℕ, List, [], ◌∷◌, Bool, true, cond as pick, length, get_or, replicate, Option as Optional, Some, None}
 use Rattle.std.proofs.Math.Option.{Option, none, some}
 use Rattle.bitio.specs.Parse.{Answer, refused, accepted, and_next}
 use Rattle.bitio.specs.Limits.{led34}
@@ -7,7 +7,8 @@ use Rattle.obu.specs.Obu.{Obu, obus}
 use Rattle.obu.specs.Unit.{is_sequence}
 use Rattle.header.specs.Sequence.{Sequence}
 use Rattle.header.specs.Support.{supported_sequence}
-use Rattle.frame.specs.Frame.{key_frame, parse_frame}
+use Rattle.frame.specs.FrameType.{is_key}
+use Rattle.frame.specs.Frame.{parse_frame}
 use Rattle.frame.specs.Refresh.{refresh}
 use Rattle.frame.specs.UnitFrame.{frame_payload}
 use Rattle.frame.specs.declared.frame_header.FrameHeaderInfo.{FrameHeaderInfo}
@@ -16,38 +17,40 @@ use Rattle.player.specs.declared.slots.Slot.{Slot}
 
 -- ---- the slots
 
--- 01: empty, or holding a unit position, with the marks showable and key; of an empty one nothing else is looked at
-abbrev pub empty : Slot
-empty = record { is_filled = false; position = 0; showable = false; key = false }
+-- 01: what a slot holds: nothing, or a unit position, with the marks showable and key
+abbrev pub Held : Type 0
+Held = Optional Slot
 
-abbrev pub filled : ℕ → Bool → Bool → Slot
-filled q showable key = record { is_filled = true; position = q; showable = showable; key = key }
+abbrev pub empty : Held
+empty = None
+
+abbrev pub filled : ℕ → Bool → Bool → Held
+filled q showable key = Some (record { position = q; showable = showable; key = key })
 
 -- the position shown, if any, and the slots afterwards
 pub record Shown : Type 0 where
   pub shown : Option ℕ
-  pub slots : List Slot
+  pub slots : List Held
 
 -- AV1 7.21: a slot is shown; if it holds a key, the key goes to every slot with its marks. 37 slot empty, 38 not showable
-abbrev pub show_slot : List Slot → Slot → Answer Shown
-show_slot slots s =
-    pick s.is_filled
-    (pick s.showable (accepted (record { shown = some s.position; slots = pick s.key (replicate 8 s) slots })) (refused 38))
-    (refused 37)
+abbrev pub show_slot : List Held → Held → Answer Shown
+show_slot slots None = refused 37
+show_slot slots (Some s) =
+    pick s.showable (accepted (record { shown = some s.position; slots = pick s.key (replicate 8 (Some s)) slots })) (refused 38)
 
 -- a frame, played under position p
-abbrev pub act : List Slot → ℕ → FrameHeaderInfo → Answer Shown
+abbrev pub act : List Held → ℕ → FrameHeaderInfo → Answer Shown
 act slots p (Existing i) = show_slot slots (get_or slots i empty)
 act slots p (Frame f) =
     accepted (record {
       shown = pick f.show_frame (some p) none;
-      slots = refresh f.refresh_frame_flags (filled p f.showable_frame (eqb f.frame_type key_frame)) slots;
+      slots = refresh f.refresh_frame_flags (filled p f.showable_frame (is_key f.frame_type)) slots;
     })
 
 -- ---- a unit
 
 pub record State : Type 0 where
-  pub slots : List Slot
+  pub slots : List Held
   pub kept : Option Sequence
 
 -- eight empty slots and no header

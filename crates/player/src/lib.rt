@@ -4,5 +4,3 @@
 pub mod keep;
 pub mod play;
 pub mod slots;
-pub mod start;
-pub mod step;

@@ -1,29 +1,51 @@
-// A unit, played on lent slots: document 01's entry, over the step by value.
+// The player's state, and a unit played on it: document 01's entry.
 ghost use Rattle.std.specs.Prelude.{◌≡◌};
-ghost use Rattle.player.specs.Values.{played_by};
+ghost use Rattle.bitio.specs.Parse.{answer};
+ghost use Rattle.player.specs.Player.{play};
+ghost use Rattle.player.specs.Values.{shown_says, state_says, start_state, state_left};
 
-use crate::slots::Answer;
-use crate::step::{Played, State, step};
+use crate::keep::keep_headers;
+use crate::slots::{Slots, step};
+use bitio::limits::LIMIT;
+use bitio::refusal::Refusal;
+use frame::unit_frame::unit_frame;
+use header::seq_header::SequenceObu;
 
-// The slots and the kept header are lent, and left as the step leaves them.
-pub fn play_unit(state: &mut State, position: u64, unit: &[u8]) -> Answer
-    ensures { (result ≡ (played_by state.old position unit.now).answer)
-        × (state.new ≡ (played_by state.old position unit.now).state) }
-{
-    let s = *state;
-    let r = step(s, position, unit);
-    *state = r.state;
-    r.answer
+#[derive(Clone, Copy)]
+pub struct State {
+    pub slots: Slots,
+    // the last sequence header, if there has been one
+    pub kept: Option<SequenceObu>,
 }
 
-// The same from a value to a value: who calls it lends nothing.
-pub fn played(state: State, position: u64, unit: &[u8]) -> Played
-    ensures { result ≡ played_by state position unit.now }
-{
-    let mut lent = state;
-    let answer = play_unit(&mut lent, position, unit);
-    Played {
-        answer: answer,
-        state: lent,
+impl State {
+    // Before the first unit.
+    pub fn start() -> State
+        ensures { result ≡ start_state }
+    {
+        State {
+            slots: [None; 8],
+            kept: None,
+        }
+    }
+
+    // A unit, played under a position: the position shown, if any. A refused one leaves the state as it was.
+    pub fn play(&mut self, position: u64, unit: &[u8]) -> Result<Option<u64>, Refusal>
+        ensures answer { shown_says result ≡ answer (λ r. r.shown) (play (state_says self.old) position unit.now) }
+        ensures state { self.new ≡ state_left self.old position unit.now }
+    {
+        if unit.len() > LIMIT {
+            return Err(Refusal::InputTooLong);
+        }
+        let kept = keep_headers(self.kept, unit)?;
+        let Some(sequence) = kept else {
+            return Err(Refusal::NoSequenceHeader);
+        };
+        let info = unit_frame(unit, &sequence, true)?;
+        // document 01's form: a step by value, whose result the lent slots take
+        let (slots, shown) = step(self.slots, position, info)?;
+        self.slots = slots;
+        self.kept = kept;
+        Ok(shown)
     }
 }

@@ -1,54 +1,82 @@
 -- What putting a byte string into memory comes to.
-use mathlib.Core.Path.{◌≡◌, refl, sym, ap, ◌∙◌}
-use mathlib.Core.List.{List, []}
-use mathlib.Core.Bool.{true, false}
-use Prim.Native.Nat.{ℕ, ◌+◌, ◌≤◌, ◌<◌}
-use native.Mathlib.Omega.{arith}
-use native.Mathlib.Nat.{add-zero}
-use lib.ListN.{length}
+use Rattle.std.proofs.Common.{◌≡◌, refl, sym, ap, ◌∙◌, List, [], ◌∷◌, ◌++◌, Bool, true, false, ◌&&◌, cond as pick, Option, Some, None, option_map, nat_eq, eqb, ℕ, ◌+◌, ◌-◌, ◌/◌, ◌%◌, ◌≤◌, ◌<◌, length, take, arith}
+use Rattle.std.proofs.Math.Seq.{drop-drop}
+use borrow.Rule.Slice.PartMut.{put_mid}
+use Rattle.std.specs.Str.{bytes_eq}
 use borrow.Author.Tests.{le-leb, lt-leb}
-use Rattle.bitio.specs.Lent.{has_room, pasted}
-use Rattle.bitio.proofs.LentLaws.{pasted-nil, lent-room, lent-full}
-use Rattle.protocol.specs.Text.{Meaning, none, spells}
-use Rattle.protocol.specs.Says.{decoded_to, decoded_in}
-
--- the answer is a, and d became e
-abbrev pub Comes : List ℕ → ℕ → Meaning (List ℕ) → Meaning ℕ → List ℕ → Type 0
-Comes d w m a e = (a ≡ decoded_to d w m) × (e ≡ decoded_in d w m)
+use Rattle.bitio.specs.Lent.{has_room, pasted, lent}
+use Rattle.protocol.specs.Text.{ascii, all_hex, hex_bytes, pairs, byte_string, decoded_to, decoded_in}
+use Rattle.protocol.proofs.TextLaws.{bytes_length}
 
 module _ (d : List ℕ) (w : ℕ) where
-  room : (xs : List ℕ) → w + length xs ≤ length d → has_room d w xs ≡ true
-  unfolding has_room
-  room xs h = le-leb (w + length xs) (length d) h
+  pub to_none : (m : Option (List ℕ)) → option_map length m ≡ None → decoded_to d w m ≡ None
+  unfolding decoded_to
+  to_none None e = refl
+  to_none (Some xs) e = cc
 
-  full : (xs : List ℕ) → length d < w + length xs → has_room d w xs ≡ false
-  unfolding has_room
-  full xs h = lt-leb (w + length xs) (length d) h
+  pub in_none : (m : Option (List ℕ)) → option_map length m ≡ None → decoded_in d w m ≡ d
+  unfolding decoded_in
+  in_none None e = refl
+  in_none (Some xs) e = cc
 
-  pub comes-none : (m : Meaning (List ℕ)) → m ≡ none → Comes d w m none d
-  unfolding decoded_to decoded_in
-  comes-none m e = rw e (refl, refl)
+  pub to_full : (m : Option (List ℕ)) (n : ℕ) → option_map length m ≡ Some n → length d < w + n → decoded_to d w m ≡ None
+  unfolding decoded_to has_room
+  to_full None n e h = cc
+  to_full (Some xs) n e h = let l : length xs ≡ n = cc in rw (l, lt-leb (w + n) (length d) h) refl
 
-  comes-full : (xs : List ℕ) → length d < w + length xs → Comes d w (spells xs) none d
-  unfolding decoded_to decoded_in
-  comes-full xs h = (rw (full xs h), sym (lent-full d w xs h))
+  pub in_full : (m : Option (List ℕ)) (n : ℕ) → option_map length m ≡ Some n → length d < w + n → decoded_in d w m ≡ d
+  unfolding decoded_in has_room lent
+  in_full None n e h = cc
+  in_full (Some xs) n e h = let l : length xs ≡ n = cc in rw (l, lt-leb (w + n) (length d) h) refl
 
-  pub comes-too-long : (m : Meaning (List ℕ)) (xs : List ℕ) → m ≡ spells xs → length d < w + length xs → Comes d w m none d
-  comes-too-long m xs e h = rw e (comes-full xs h)
+  pub to_room : (m : Option (List ℕ)) (n : ℕ) → option_map length m ≡ Some n → w + n ≤ length d → decoded_to d w m ≡ Some (w + n)
+  unfolding decoded_to has_room
+  to_room None n e h = cc
+  to_room (Some xs) n e h = let l : length xs ≡ n = cc in rw (l, le-leb (w + n) (length d) h) refl
 
-  -- past the end nothing has room
-  pub comes-past : (m : Meaning (List ℕ)) → length d < w → Comes d w m none d
-  unfolding decoded_to decoded_in
-  comes-past none h = (refl, refl)
-  comes-past (spells xs) h = comes-full xs (omega arith)
+-- - has no bytes
+dash : (s : List ℕ) → bytes_eq s (ascii "-") ≡ true → hex_bytes s ≡ []
+unfolding hex_bytes
+dash [] h = refl
+dash (c ∷ []) h = refl
+dash (c ∷ d ∷ s) h = go (nat_eq c 45) h
+  where
+    go : (t : Bool) → t && false ≡ true → hex_bytes (c ∷ d ∷ s) ≡ []
+    go true e = cc
+    go false e = cc
 
-  pub comes-bytes : (m : Meaning (List ℕ)) (xs : List ℕ) (n : ℕ) → m ≡ spells xs → length xs ≡ n → w + n ≤ length d → Comes d w m (spells (w + n)) (pasted d w xs)
-  unfolding decoded_to decoded_in
-  comes-bytes m xs n e l h =
-      let k : w + length xs ≤ length d = omega arith in
-      rw (e, ← l) (rw (room xs k), sym (lent-room d w xs k))
+-- the bytes of a byte string are those of its digits
+bytes_are : (s xs : List ℕ) → byte_string s ≡ Some xs → xs ≡ hex_bytes s
+unfolding byte_string pairs
+bytes_are s xs e = go (bytes_eq s (ascii "-")) refl (eqb (length s) 0) (eqb (length s % 2) 0 && all_hex s) e
+  where
+    go : (b : Bool) → bytes_eq s (ascii "-") ≡ b → (x y : Bool) → pick b (Some []) (pick x None (pick y (Some (hex_bytes s)) None)) ≡ Some xs → xs ≡ hex_bytes s
+    go true p x y q = let r : xs ≡ [] = cc in r ∙ sym (dash s p)
+    go false p true y q = cc
+    go false p false true q = cc
+    go false p false false q = cc
 
-  pub comes-dash : (m : Meaning (List ℕ)) → m ≡ spells [] → w ≤ length d → Comes d w m (spells w) d
-  comes-dash m e h =
-      let p = comes-bytes m [] 0 e refl (rw (add-zero w) h) in
-      (ap (λ (n : ℕ). spells n) (sym (add-zero w)) ∙ p.0, sym (pasted-nil d w) ∙ p.1)
+module _ (s : List ℕ) (n : ℕ) (e : option_map length (byte_string s) ≡ Some n) where
+  pub count_is : n ≡ length s / 2
+  count_is = go (byte_string s) refl e
+    where
+      go : (m : Option (List ℕ)) → byte_string s ≡ m → option_map length m ≡ Some n → n ≡ length s / 2
+      go None p q = cc
+      go (Some xs) p q = let l : length xs ≡ n = cc in let b = ap length (bytes_are s xs p) in omega (arith, bytes_length s)
+
+  pub in_room : (d : List ℕ) (w : ℕ) → w + n ≤ length d → decoded_in d w (byte_string s) ≡ pasted d w (hex_bytes s)
+  unfolding decoded_in has_room lent
+  in_room d w h = go (byte_string s) refl e
+    where
+      go : (m : Option (List ℕ)) → byte_string s ≡ m → option_map length m ≡ Some n → decoded_in d w m ≡ pasted d w (hex_bytes s)
+      go None p q = cc
+      go (Some xs) p q = let l : length xs ≡ n = cc in rw (l, le-leb (w + n) (length d) h) (ap (pasted d w) (bytes_are s xs p))
+
+  -- as a loan of that part gives it back
+  pub put_is : (d : List ℕ) (w : ℕ) {j : ℕ} {xs : List ℕ} → j ≡ w + n → w + n ≤ length d → xs ≡ hex_bytes s
+      → put_mid w (j - w) d xs ≡ decoded_in d w (byte_string s)
+  unfolding pasted
+  put_is d w {j} {xs} i h x =
+      let k : j - w ≡ n = omega arith in
+      let l : length (hex_bytes s) ≡ n = omega (arith, count_is, bytes_length s) in
+      rw (k, x, in_room d w h, l) (ap (λ (r : List ℕ). take w d ++ (hex_bytes s ++ r)) (drop-drop n w d))

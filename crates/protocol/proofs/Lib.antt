@@ -1,10 +1,8 @@
+pub mod AnswerLaws
 pub mod ToldLaws
 pub mod TextLaws
-pub mod DecodeLaws
-pub mod MarkedLaws
-pub mod RoomLaws
-pub mod FieldLaws
 pub mod TypedLaws
-pub mod LineLaws
+pub mod DecodeLaws
+pub mod KindLaws
+pub mod FieldLaws
 pub mod PrintLaws
-pub mod AnswerLaws

@@ -3,7 +3,7 @@ use Prim.Native.Nat.{ℕ}
 use mathlib.Core.Path.{◌≡◌, sym, ap, ◌∙◌}
 use mathlib.Core.List.{List, ◌++◌}
 use Rattle.bitio.specs.Parse.{Answer, refused, accepted}
-use Rattle.protocol.specs.declared.answer.Answer.{Answer as Line}
+use Rattle.protocol.specs.Answers.{Line}
 use Rattle.protocol.specs.Answers.{parts_of, refused_with, Numbered, numbered, with_numbers, filled, parted}
 use Rattle.protocol.specs.Told.{numbers_by, told}
 use Rattle.protocol.proofs.AnswerLaws.{numbers_more}

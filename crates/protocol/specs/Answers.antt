@@ -1,15 +1,30 @@
 -- What a request is answered, with what it tells in the memory lent to it. What has no room there is left out.
-use Rattle.std.specs.Prelude.{ℕ, ◌+◌, ◌%◌, ◌^◌, List, [], ◌∷◌, Bool, false, cond as pick, ◌&&◌, length, set, ltb}
+use Rattle.std.specs.Prelude.{ℕ, ◌+◌, ◌%◌, ◌^◌, List, [], ◌∷◌, Bool, false, cond as pick, ◌&&◌, Option, Some, None, length, set, ltb}
+use Rattle.std.specs.Option.{option_map}
 use Rattle.bitio.specs.Lent.{pasted, has_room}
-use Rattle.protocol.specs.declared.answer.Answer.{Answer as Line}
+use Rattle.bitio.specs.Refusal.{number}
+use Rattle.protocol.specs.declared.answer.Answer.{Answer}
+
+-- document 01's number of a refusal, or none, and how much of the memory lent is the answer's: bytes, ends of its parts, and
+-- numbers; dirty where a call has changed memory that it does not account for
+pub record Line : Type 0 where
+  pub refusal : Option ℕ
+  pub bytes : ℕ
+  pub ends : ℕ
+  pub numbers : ℕ
+  pub is_dirty : Bool
+
+-- an answer of the code
+abbrev pub line : Answer → Line
+line a = record { refusal = option_map number a.refused; bytes = a.bytes; ends = a.ends; numbers = a.numbers; is_dirty = a.is_dirty }
 
 -- so many bytes, in so many parts
 abbrev pub parts_of : ℕ → ℕ → Line
-parts_of n u = record { refusal = 0; bytes = n; ends = u; numbers = 0; is_dirty = false }
+parts_of n u = record { refusal = None; bytes = n; ends = u; numbers = 0; is_dirty = false }
 
 -- document 01's number k
 abbrev pub refused_with : ℕ → Line
-refused_with k = record { refusal = k; bytes = 0; ends = 0; numbers = 0; is_dirty = false }
+refused_with k = record { refusal = Some k; bytes = 0; ends = 0; numbers = 0; is_dirty = false }
 
 -- ---- numbers
 

@@ -1,89 +1,121 @@
--- Kinds of fields and of printed items, two hexadecimal digits each (src/kinds.rt), one behind the other in one number.
-use Rattle.std.specs.Prelude.{ℕ, ◌+◌, ◌*◌, ◌/◌, ◌%◌, List, [], ◌∷◌, cond as pick, eqb}
+-- What fields and printed items are (src/kinds.rt), and what stands before each.
+use Rattle.std.specs.Prelude.{ℕ, ◌+◌, ◌-◌, ◌*◌, ◌/◌, ◌%◌, ◌^◌, List, [], ◌∷◌, cond as pick, Option, Some, None, eqb}
+use Rattle.std.specs.Option.{option_map}
+use Rattle.protocol.specs.declared.kinds.Kind.{Kind}
+use Rattle.protocol.specs.declared.kinds.Kind.TheVariants.{Bytes, Number, Number32, Byte, OptionalByte, Count, Named, Refused, Told, Negative, Slots}
+use Rattle.protocol.specs.declared.kinds.Before.{Before}
+use Rattle.protocol.specs.declared.kinds.Before.TheVariants.{Space, Colon, Comma}
+use Rattle.protocol.specs.declared.kinds.Item.{Item}
 use Rattle.protocol.specs.declared.kinds.Format.{Format}
 
--- ---- kinds by name
-
--- a byte string; of an answer its next part
-abbrev pub bytes_kind : ℕ
-bytes_kind = 1
-
--- a number; one of 32 bits, one of 8; the last, or `-`
-abbrev pub number_kind : ℕ
-number_kind = 2
-
-abbrev pub number32_kind : ℕ
-number32_kind = 3
-
-abbrev pub byte_kind : ℕ
-byte_kind = 4
-
-abbrev pub optional_byte_kind : ℕ
-optional_byte_kind = 5
-
--- which stands for this number
+-- what an optional byte that is not given is read as
 abbrev pub no_byte : ℕ
 no_byte = 256
 
--- of answers alone: how many parts there are, the part that a number names, `no` and a number
-abbrev pub count_kind : ℕ
-count_kind = 6
+-- the largest number of a field of a kind
+abbrev pub largest_of : Kind → Option ℕ
+largest_of Number = Some (2 ^ 64 - 1)
+largest_of Number32 = Some (2 ^ 32 - 1)
+largest_of Byte = Some 255
+largest_of OptionalByte = Some 255
+largest_of _ = None
 
-abbrev pub named_kind : ℕ
-named_kind = 7
+abbrev pub separator_of : Before → ℕ
+separator_of Space = 32
+separator_of Colon = 58
+separator_of Comma = 44
 
-abbrev pub refused_kind : ℕ
-refused_kind = 8
+-- of a kind, behind a space, a colon or a comma
+abbrev pub plain : Kind → Item
+plain kind = record { before = Space; kind = kind }
 
--- items whose kinds stand among the numbers, before theirs, as one number
-abbrev pub told_kind : ℕ
-told_kind = 9
+abbrev pub after_colon : Kind → Item
+after_colon kind = record { before = Colon; kind = kind }
 
--- a number below 0, told without its sign, and the word `slots`, whatever the number
-abbrev pub negative_kind : ℕ
-negative_kind = 10
+abbrev pub after_comma : Kind → Item
+after_comma kind = record { before = Comma; kind = kind }
 
-abbrev pub slots_kind : ℕ
-slots_kind = 11
+-- ---- items told among the numbers
 
--- no field is of this one
-abbrev pub no_kind : ℕ
-no_kind = 15
+abbrev pub kind_code : Kind → ℕ
+kind_code Bytes = 1
+kind_code Number = 2
+kind_code Number32 = 3
+kind_code Byte = 4
+kind_code OptionalByte = 5
+kind_code Count = 6
+kind_code Named = 7
+kind_code Refused = 8
+kind_code Told = 9
+kind_code Negative = 10
+kind_code Slots = 11
 
--- behind a colon or a comma, and not a space
-abbrev pub after_colon : ℕ → ℕ
-after_colon kind = 0x10 + kind
+abbrev pub before_code : Before → ℕ
+before_code Space = 0
+before_code Colon = 1
+before_code Comma = 2
 
-abbrev pub after_comma : ℕ → ℕ
-after_comma kind = 0x20 + kind
+-- two hexadecimal digits
+abbrev pub item_code : Item → ℕ
+item_code i = 16 * before_code i.before + kind_code i.kind
 
--- ---- kinds in one number
-
--- the first is lowest
-abbrev pub packed : List ℕ → ℕ
+-- the items of one number: the first in its lowest digits
+abbrev pub packed : List Item → ℕ
 packed [] = 0
-packed (k ∷ ks) = k + 256 * packed ks
+packed (i ∷ is) = item_code i + 256 * packed is
+
+-- and back; any other digit tells a number
+unfoldable pub kind_of : ℕ → Kind
+kind_of d =
+    pick (eqb d 1) Bytes (pick (eqb d 5) OptionalByte (pick (eqb d 6) Count (pick (eqb d 7) Named (
+    pick (eqb d 8) Refused (pick (eqb d 10) Negative (pick (eqb d 11) Slots Number))))))
+
+unfoldable pub before_of : ℕ → Before
+before_of d = pick (eqb d 1) Colon (pick (eqb d 2) Comma Space)
+
+-- of the two lowest digits
+abbrev pub item_of : ℕ → Item
+item_of c = record { before = before_of (c / 16 % 16); kind = kind_of (c % 16) }
+
+-- ---- formats
+
+-- items that follow each other, and those that may follow them any number of times
+pub record Form : Type 0 where
+  pub items : List Item
+  pub repeated : List Item
+
+abbrev pub form : Format → Form
+form f = record { items = f.items.now; repeated = f.repeated.now }
 
 -- these; any number of times these; these, and then those any number of times
-abbrev pub just : List ℕ → Format
-just ks = record { kinds = packed ks; repeated = 0 }
+abbrev pub just : List Item → Form
+just is = record { items = is; repeated = [] }
 
-abbrev pub any : List ℕ → Format
-any rs = record { kinds = 0; repeated = packed rs }
+abbrev pub any : List Item → Form
+any rs = record { items = []; repeated = rs }
 
-abbrev pub then_any : List ℕ → List ℕ → Format
-then_any ks rs = record { kinds = packed ks; repeated = packed rs }
+abbrev pub then_any : List Item → List Item → Form
+then_any is rs = record { items = is; repeated = rs }
 
--- ---- a format by its head
+-- the first item, if there is one, and what follows it
+abbrev pub split_items : List Item → List Item → Option (Item × Form)
+split_items [] rs = None
+split_items (i ∷ is) rs = Some (i, then_any is rs)
 
--- what stands before an item of the first of these kinds: a colon, a comma or a space
-unfoldable pub separator_of : ℕ → ℕ
-separator_of kinds = pick (eqb (kinds / 16 % 16) 1) 58 (pick (eqb (kinds / 16 % 16) 2) 44 32)
+abbrev pub split_form : List Item → List Item → Option (Item × Form)
+split_form [] rs = split_items rs rs
+split_form (i ∷ is) rs = split_items (i ∷ is) rs
 
--- with a kind at its head, if any may follow
-unfoldable pub refilled_of : Format → Format
-refilled_of f = pick (eqb f.kinds 0) (record { kinds = f.repeated; repeated = f.repeated }) f
+unfoldable pub split_of : Form → Option (Item × Form)
+split_of f = split_form f.items f.repeated
 
--- behind the kind at its head
-abbrev pub rest_of : Format → Format
-rest_of f = record { kinds = f.kinds / 256; repeated = f.repeated }
+abbrev pub split_said : Option (Item × Format) → Option (Item × Form)
+split_said r = option_map (λ (x : Item × Format). (x.0, form x.1)) r
+
+-- what stands before the first item
+abbrev pub stop_by : Option (Item × Form) → ℕ
+stop_by None = 32
+stop_by (Some x) = separator_of x.0.before
+
+abbrev pub stop_of : Form → ℕ
+stop_of f = stop_by (split_of f)

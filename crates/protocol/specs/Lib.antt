@@ -1,6 +1,5 @@
 pub mod Told
 pub mod Text
-pub mod Says
 pub mod Marked
 pub mod Room
 pub mod Kinds

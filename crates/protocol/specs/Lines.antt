@@ -3,11 +3,11 @@ use Rattle.std.specs.Prelude.{ℕ, ◌+◌, ◌≤◌, ◌<◌, ◌≡◌, Bool,
 use Rattle.protocol.specs.declared.input.Input.{Input}
 
 abbrev pub start_input : Input
-start_input = record { from = 0; to = 0; len = 0; is_whole = false; is_over = false }
+start_input = record { from = 0; to = 0; is_over = false }
 
 -- no line lies behind the last line end
-abbrev pub is_line : Input → Bool
-is_line i = not i.is_over || ltb 0 i.len
+abbrev pub is_line : Bool → ℕ → Bool
+is_line over n = not over || ltb 0 n
 
 -- d became e by keeping the first n characters of a line; n is one more than the room where the line has more
 pub record Kept (d e : List ℕ) (n : ℕ) : Type 0 where

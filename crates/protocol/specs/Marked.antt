@@ -1,6 +1,7 @@
 -- Lent memory: marked before a call, and looked at after it.
-use Rattle.std.specs.Prelude.{ℕ, List, [], ◌∷◌, Bool, true, false, not, ◌&&◌, cond as pick, length, drop, replicate, eqb}
-use Rattle.protocol.specs.declared.answer.Answer.{Answer as Line}
+use Rattle.std.specs.Prelude.{ℕ, List, Bool, not, ◌&&◌, cond as pick, length, drop, replicate, eqb}
+use Rattle.std.specs.List.{list_all}
+use Rattle.protocol.specs.Answers.{Line}
 
 -- A5 in every byte of an element
 abbrev pub byte_mark : ℕ
@@ -17,9 +18,8 @@ abbrev pub marked_for : Bool → ℕ → List ℕ → List ℕ
 marked_for own m d = pick own d (replicate (length d) m)
 
 -- every element is the mark m
-unfoldable pub is_marked : ℕ → List ℕ → Bool
-is_marked m [] = true
-is_marked m (b ∷ s) = pick (eqb b m) (is_marked m s) false
+abbrev pub is_marked : ℕ → List ℕ → Bool
+is_marked m s = list_all (λ b. eqb b m) s
 
 -- after a call: what the answer does not account for is as it was marked
 abbrev pub is_clean : Bool → Line → (bytes ends numbers : List ℕ) → Bool

@@ -1,71 +1,51 @@
 -- How much a request is lent (the protocol's prefix `room B E T `).
-use Rattle.std.specs.Prelude.{ℕ, ◌+◌, ◌-◌, ◌/◌, ◌%◌, ◌^◌, List, Bool, true, false, ◌&&◌, cond as pick, length, leb, eqb}
-use Rattle.protocol.specs.Text.{Meaning, none, spells, read_number, word, word_at, word_key}
-use Rattle.protocol.specs.declared.fields.NumberField.{NumberField}
+use Rattle.std.specs.Prelude.{ℕ, ◌+◌, List, Bool, true, ◌&&◌, cond as pick, Option, Some, None, length, leb}
+use Rattle.std.specs.Option.{option_map, option_and_then}
+use Rattle.std.specs.Str.{bytes_eq}
+use Rattle.protocol.specs.Text.{ascii, read_number, word, word_at}
 use Rattle.protocol.specs.declared.lent.Room.{Room}
+use Rattle.protocol.specs.declared.lent.Prefix.{Prefix}
+use Rattle.protocol.specs.declared.lent.Share.{Share}
+use Rattle.protocol.specs.declared.lent.Share.TheVariants.{Nothing, Few, All}
+use Rattle.protocol.specs.declared.lent.Shares.{Shares}
 use Rattle.protocol.specs.declared.lent.Lent.{Lent}
 
 -- ---- a number wherever it stands
 
--- no number: the next field starts behind every line
-abbrev pub no_number : NumberField
-no_number = record { value = 0; next = 2 ^ 64 - 1 }
-
-abbrev pub number_to : ℕ → Meaning ℕ → NumberField
-number_to next none = no_number
-number_to next (spells v) = record { value = v; next = next }
-
 -- the number at i, and where the next field starts
-unfoldable pub number_field : List ℕ → ℕ → NumberField
-number_field s i = pick (leb i (length s)) (number_to (i + length (word_at 32 s i) + 1) (read_number (word_at 32 s i))) no_number
+unfoldable pub number_field : List ℕ → ℕ → Option (ℕ × ℕ)
+number_field s i = pick (leb i (length s)) (option_map (λ v. (v, i + length (word_at 32 s i) + 1)) (read_number (word_at 32 s i))) None
 
 -- ---- the prefix
 
-abbrev pub no_room : Room
-no_room = record { is_given = false; bytes = 0; ends = 0; times = 0; next = 0 }
+-- the three numbers from i on
+abbrev pub room_from : List ℕ → ℕ → Option Prefix
+room_from s i =
+    option_and_then (λ (b : ℕ × ℕ). option_and_then (λ (e : ℕ × ℕ). option_map (λ (t : ℕ × ℕ).
+    record { room = Some (record { bytes = b.0; ends = e.0; times = t.0 }); next = t.1 })
+    (number_field s e.1)) (number_field s b.1)) (number_field s i)
 
-abbrev pub room_of : NumberField → NumberField → NumberField → Room
-room_of b e t = record { is_given = true; bytes = b.value; ends = e.value; times = t.value; next = t.next }
-
--- the three numbers behind a word's end
-abbrev pub room_behind : List ℕ → ℕ → Room
-room_behind s i =
-    room_of (number_field s (i + 1)) (number_field s (number_field s (i + 1)).next)
-    (number_field s (number_field s (number_field s (i + 1)).next).next)
-
--- `room`, and three numbers
-unfoldable pub room_prefix : List ℕ → Room
-room_prefix s = pick (eqb (word_key (word 32 s)) 0x726f6f6d) (room_behind s (length (word 32 s))) no_room
+-- `room`, and three numbers; or no prefix
+unfoldable pub room_prefix : List ℕ → Option Prefix
+room_prefix s = pick (bytes_eq (word 32 s) (ascii "room")) (room_from s (length (word 32 s) + 1)) (Some (record { room = None; next = 0 }))
 
 -- ---- what is lent
 
--- none (0); as the prefix says; ample: all there is (1), or 512
-abbrev pub size_lent : Room → ℕ → ℕ → ℕ → ℕ
-size_lent r kind given most = pick (eqb kind 0) 0 (pick r.is_given given (pick (eqb kind 1) most 512))
+-- of one sort of memory: none; as the prefix says; ample: 512, or all there is
+abbrev pub size_lent : Share → Option ℕ → ℕ → ℕ
+size_lent Nothing given most = 0
+size_lent Few (Some n) most = n
+size_lent All (Some n) most = n
+size_lent Few None most = 512
+size_lent All None most = most
 
--- a hexadecimal digit each for bytes, ends and numbers, then 1 for memory of its own
-abbrev pub lends_bytes : ℕ
-lends_bytes = 0x1
-
-abbrev pub lends_few_bytes : ℕ
-lends_few_bytes = 0x2
-
-abbrev pub lends_ends : ℕ
-lends_ends = 0x10
-
-abbrev pub lends_numbers : ℕ
-lends_numbers = 0x100
-
-abbrev pub fills_own : ℕ
-fills_own = 0x1000
-
-abbrev pub lent_by : Room → ℕ → Lent
-lent_by r kinds =
+abbrev pub lent_by : Shares → Option Room → Lent
+lent_by x r =
     record {
-      is_own = eqb (kinds / 0x1000) 1;
-      bytes = size_lent r (kinds % 16) r.bytes 65536;
-      ends = size_lent r (kinds / 16 % 16) r.ends 32768;
-      numbers = size_lent r (kinds / 256 % 16) r.times 32768;
+      is_own = x.is_own;
+      bytes = size_lent x.bytes (option_map (λ (r : Room). r.bytes) r) 65536;
+      ends = size_lent x.ends (option_map (λ (r : Room). r.ends) r) 32768;
+      numbers = size_lent x.numbers (option_map (λ (r : Room). r.times) r) 32768;
     }
 
 -- no more than there is

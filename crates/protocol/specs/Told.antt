@@ -1,8 +1,7 @@
 -- What an operation of a library answers, told as a request's answer in the memory lent to it.
 use Rattle.std.specs.Prelude.{ℕ, List}
 use Rattle.bitio.specs.Parse.{Answer, refused, accepted}
-use Rattle.protocol.specs.declared.answer.Answer.{Answer as Line}
-use Rattle.protocol.specs.Answers.{parts_of, refused_with, Numbered, numbered, with_numbers, Filled, Parted, parted, with_parts}
+use Rattle.protocol.specs.Answers.{Line, parts_of, refused_with, Numbered, numbered, with_numbers, Filled, Parted, parted, with_parts}
 
 -- a refusal by document 01's number, or what f makes of the rest
 abbrev pub told_by : {A : Type 0} → (A → Line) → Answer A → Line

@@ -1,23 +1,24 @@
 -- Text typed into a buffer of 65,536 bytes, which is written out whenever it is full.
-use Rattle.std.specs.Prelude.{ℕ, zero, suc, ◌+◌, ◌/◌, List, [], ◌∷◌, cond as pick, set, leb, ltb}
+use Rattle.std.specs.Prelude.{ℕ, zero, suc, ◌+◌, ◌/◌, List, [], ◌∷◌, cond as pick, replicate, set, leb, ltb}
 use Rattle.io.specs.Digits.{last_digits}
 use Rattle.protocol.specs.Text.{hex_text}
+use Rattle.protocol.specs.declared.output.Output.{Output}
 
--- the buffer, and the place behind what waits in it
-pub record Typed : Type 0 where
-  pub at : ℕ
-  pub out : List ℕ
-
-abbrev pub typing : ℕ → List ℕ → Typed
-typing at out = record { at = at; out = out }
+-- nothing waits yet
+abbrev pub start_output : Output
+start_output = record { buffer = replicate 65536 0; at = 0 }
 
 -- where the next character goes: at the start of a buffer that was written out
 unfoldable pub next_place : ℕ → ℕ
 next_place at = pick (leb 65536 at) 0 at
 
-unfoldable pub typed : Typed → List ℕ → Typed
+-- one character
+abbrev pub typed_one : Output → ℕ → Output
+typed_one t c = record { buffer = set t.buffer (next_place t.at) c; at = next_place t.at + 1 }
+
+unfoldable pub typed : Output → List ℕ → Output
 typed t [] = t
-typed t (c ∷ s) = typed (typing (next_place t.at + 1) (set t.out (next_place t.at) c)) s
+typed t (c ∷ s) = typed (typed_one t c) s
 
 -- ---- values as text
 

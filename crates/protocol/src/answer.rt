@@ -1,11 +1,13 @@
 // What a request is answered: a refusal, or so much of the memory lent to it. What has no room there is left out.
 ghost use Rattle.std.specs.Prelude.{◌≡◌, [], ◌∷◌};
-ghost use Rattle.protocol.specs.Answers.{parts_of, refused_with, numbered, with_numbers, parted, with_parts};
+ghost use Rattle.bitio.specs.Refusal.{number};
+ghost use Rattle.protocol.specs.Answers.{line, parts_of, refused_with, numbered, with_numbers, parted, with_parts};
+
+use bitio::refusal::Refusal;
 
 #[derive(Clone, Copy)]
 pub struct Answer {
-    // document 01's number, 0 for no refusal
-    pub refusal: u32,
+    pub refused: Option<Refusal>,
     pub bytes: usize,
     // parts of the bytes; one more, with no end here, may lie behind them
     pub ends: usize,
@@ -16,10 +18,10 @@ pub struct Answer {
 
 // So many bytes, in so many parts.
 pub fn parts(bytes: usize, ends: usize) -> Answer
-    ensures { result ≡ parts_of bytes ends }
+    ensures { line result ≡ parts_of bytes ends }
 {
     Answer {
-        refusal: 0,
+        refused: None,
         bytes,
         ends,
         numbers: 0,
@@ -28,72 +30,70 @@ pub fn parts(bytes: usize, ends: usize) -> Answer
 }
 
 pub fn done() -> Answer
-    ensures { result ≡ parts_of 0 0 }
+    ensures { line result ≡ parts_of 0 0 }
 {
     parts(0, 0)
 }
 
-pub fn refused(number: u32) -> Answer
-    ensures { result ≡ refused_with number }
+pub fn refused(refusal: Refusal) -> Answer
+    ensures { line result ≡ refused_with (number refusal) }
 {
-    let mut answer = done();
-    answer.refusal = number;
-    answer
+    Answer {
+        refused: Some(refusal),
+        ..done()
+    }
 }
 
 impl Answer {
     // With one more number.
+    #[tactic(auto, unfolding(crate::specs::Answers::with_numbers, crate::specs::Answers::with_number))]
     pub fn number(self, v: u64, numbers: &mut [u64]) -> Answer
-        ensures { numbered result numbers.new ≡ with_numbers (numbered self numbers.old) (v ∷ []) }
+        ensures { numbered (line result) numbers.new ≡ with_numbers (numbered (line self) numbers.old) (v ∷ []) }
     {
-        let i = self.numbers;
-        let mut answer = self;
-        if i < numbers.len() {
-            numbers[i] = v;
-            answer.numbers = i + 1;
+        if self.numbers >= numbers.len() {
+            return self;
         }
-        answer
+        numbers[self.numbers] = v;
+        Answer {
+            numbers: self.numbers + 1,
+            ..self
+        }
     }
 
+    #[tactic(auto, using(crate::proofs::AnswerLaws::numbers_more))]
     pub fn pair(self, a: u64, b: u64, numbers: &mut [u64]) -> Answer
-        ensures { numbered result numbers.new ≡ with_numbers (numbered self numbers.old) (a ∷ b ∷ []) }
+        ensures { numbered (line result) numbers.new ≡ with_numbers (numbered (line self) numbers.old) (a ∷ b ∷ []) }
     {
         self.number(a, numbers).number(b, numbers)
     }
 
+    #[tactic(auto, using(crate::proofs::AnswerLaws::number_next), unfolding(crate::specs::Answers::with_numbers))]
     pub fn list(self, list: &[u64], numbers: &mut [u64]) -> Answer
-        ensures { numbered result numbers.new ≡ with_numbers (numbered self numbers.old) list.now }
+        ensures { numbered (line result) numbers.new ≡ with_numbers (numbered (line self) numbers.old) list.now }
     {
         let mut answer = self;
-        let mut i: usize = 0;
-        while i < list.len() {
-            answer = answer.number(list[i], numbers);
-            i += 1;
+        for v in list {
+            answer = answer.number(*v, numbers);
         }
         answer
     }
 
     // With one more part.
+    #[tactic(auto, unfolding(crate::specs::Answers::with_parts, crate::specs::Answers::with_part, bitio::specs::Lent::has_room, bitio::specs::Lent::pasted))]
     pub fn part(self, src: &[u8], memory: &mut [u8], ends: &mut [u32]) -> Answer
-        ensures { parted result memory.new ends.new ≡ with_parts (parted self memory.old ends.old) (src.now ∷ []) }
+        ensures { parted (line result) memory.new ends.new ≡ with_parts (parted (line self) memory.old ends.old) (src.now ∷ []) }
     {
         let at = self.bytes;
-        let i = self.ends;
-        if i >= ends.len() {
-            return self;
-        }
-        if at > memory.len() {
-            return self;
-        }
-        if memory.len() - at < src.len() {
+        if self.ends >= ends.len() || at > memory.len() || src.len() > memory.len() - at {
             return self;
         }
         let end = at + src.len();
         memory[at..end].copy_from_slice(src);
-        ends[i] = (end % 0x1_0000_0000) as u32;
-        let mut answer = self;
-        answer.bytes = end;
-        answer.ends = i + 1;
-        answer
+        ends[self.ends] = (end % 0x1_0000_0000) as u32;
+        Answer {
+            bytes: end,
+            ends: self.ends + 1,
+            ..self
+        }
     }
 }

@@ -1,17 +1,17 @@
 // The fields of a line, each of the kind that its request asks for. Byte strings go into `decoded`, one behind the other,
 // and the end of each into `ends`; numbers go into `numbers`.
 ghost use Rattle.std.specs.Prelude.{◌≡◌, List, ℕ};
-ghost use Rattle.protocol.specs.Says.{decimal_says};
 ghost use Rattle.protocol.specs.Room.{number_field};
-ghost use Rattle.protocol.specs.Fields.{fields_read, spoiled_of, bytes_field, largest_of, is_dash, value_of, value_field, field_of, fields_of, is_all_of};
+ghost use Rattle.protocol.specs.Fields.{place, fields_read, bytes_field, value_of, value_field, field_of, is_all_of, fields_of};
+ghost use Rattle.protocol.specs.Kinds.{form};
 
-use crate::kinds::{BYTES, Format, NO_BYTE, NUMBER, NUMBER_32, OPTIONAL_BYTE, separator};
-use crate::text::{Decimal, Decoded, decode, read_decimal, word_end};
+use crate::kinds::{Format, Kind, NO_BYTE};
+use crate::text::{decode, read_decimal, word_at};
 
 // How far the fields of a line have been read.
 #[derive(Clone, Copy)]
 pub struct Fields {
-    // where the next one starts: one past the line's end where none is left, far behind it once one was bad
+    // where the next one starts: one past the line's end where none is left
     pub next: usize,
     // the kinds that follow
     pub format: Format,
@@ -21,122 +21,89 @@ pub struct Fields {
     pub numbers: usize,
 }
 
+// A word as a number of this kind.
+#[tactic(auto, unfolding(crate::specs::Fields::value_of))]
+fn value(kind: Kind, word: &[u8]) -> Option<u64>
+    ensures { result ≡ value_of kind word.now }
+{
+    if kind == Kind::OptionalByte && word == b"-".as_slice() {
+        return Some(NO_BYTE);
+    }
+    let most = kind.largest()?;
+    let v = read_decimal(word)?;
+    if v <= most { Some(v) } else { None }
+}
+
 impl Fields {
-    fn spoiled(self) -> Fields
-        ensures { result ≡ spoiled_of self }
+    // Whether no field of the line is left, and none is missing.
+    fn is_all(self, line: &[u8]) -> bool
+        ensures { result ≡ is_all_of (place self) line.now }
     {
-        let mut fields = self;
-        fields.next = usize::MAX;
-        fields
+        self.next == line.len() + 1 && self.format.items.is_empty()
     }
 
-    // Whether every field of the line was read and was good, and none is missing.
-    pub fn is_all(self, line: &[u8]) -> bool
-        ensures { result ≡ is_all_of self line.now }
+    #[tactic(auto, unfolding(crate::specs::Fields::bytes_field))]
+    fn read_bytes(self, word: &[u8], decoded: &mut [u8], ends: &mut [u32]) -> Option<Fields>
+        ensures { (ns : List ℕ) → fields_read result decoded.new ends.new ns ≡ bytes_field (place self) decoded.old ends.old ns word.now }
     {
-        let format = self.format;
-        (self.next == line.len() + 1) & (format.kinds == 0)
+        let end = decode(word, decoded, self.bytes)?;
+        if self.ends >= ends.len() {
+            return None;
+        }
+        ends[self.ends] = (end % 0x1_0000_0000) as u32;
+        Some(Fields {
+            bytes: end,
+            ends: self.ends + 1,
+            ..self
+        })
+    }
+
+    #[tactic(auto, unfolding(crate::specs::Fields::value_field))]
+    fn read_number(self, kind: Kind, word: &[u8], numbers: &mut [u64]) -> Option<Fields>
+        ensures { (d es : List ℕ) → fields_read result d es numbers.new ≡ value_field (place self) d es numbers.old kind word.now }
+    {
+        let v = value(kind, word)?;
+        if self.numbers >= numbers.len() {
+            return None;
+        }
+        numbers[self.numbers] = v;
+        Some(Fields {
+            numbers: self.numbers + 1,
+            ..self
+        })
+    }
+
+    // One more field, if one is left: it ends at what stands before the next.
+    #[tactic(auto, unfolding(crate::specs::Fields::field_of))]
+    fn read_field(
+        self,
+        line: &[u8],
+        decoded: &mut [u8],
+        ends: &mut [u32],
+        numbers: &mut [u64],
+    ) -> Option<Fields>
+        ensures { fields_read result decoded.new ends.new numbers.new ≡ field_of line.now (place self) decoded.old ends.old numbers.old }
+    {
+        let from = self.next;
+        if from > line.len() {
+            return Some(self);
+        }
+        let (item, format) = self.format.split()?;
+        let word = word_at(line, from, format.stop());
+        let behind = Fields {
+            next: from + word.len() + 1,
+            format,
+            ..self
+        };
+        if item.kind == Kind::Bytes {
+            behind.read_bytes(word, decoded, ends)
+        } else {
+            behind.read_number(item.kind, word, numbers)
+        }
     }
 }
 
-fn read_bytes(word: &[u8], decoded: &mut [u8], ends: &mut [u32], so_far: Fields) -> Fields
-    ensures { (ns : List ℕ) → fields_read result decoded.new ends.new ns ≡ bytes_field (fields_read so_far decoded.old ends.old ns) word.now }
-{
-    let i = so_far.ends;
-    let Decoded::End(end) = decode(word, decoded, so_far.bytes) else {
-        return so_far.spoiled();
-    };
-    if i >= ends.len() {
-        return so_far.spoiled();
-    }
-    ends[i] = (end % 0x1_0000_0000) as u32;
-    let mut fields = so_far;
-    fields.bytes = end;
-    fields.ends = i + 1;
-    fields
-}
-
-fn largest(kind: u64) -> u64
-    ensures { result ≡ largest_of kind }
-{
-    match kind {
-        NUMBER => u64::MAX,
-        NUMBER_32 => 0xffff_ffff,
-        _ => 255,
-    }
-}
-
-fn is_dash(word: &[u8]) -> bool
-    ensures { result ≡ is_dash word.now }
-{
-    if word.len() == 1 {
-        return word[0] == b'-';
-    }
-    false
-}
-
-fn value(kind: u64, word: &[u8]) -> Decimal
-    ensures { decimal_says result ≡ value_of kind word.now }
-{
-    if (kind < NUMBER) | (kind > OPTIONAL_BYTE) {
-        return Decimal::Bad;
-    }
-    if (kind == OPTIONAL_BYTE) & is_dash(word) {
-        return Decimal::Value(NO_BYTE);
-    }
-    let Decimal::Value(v) = read_decimal(word) else {
-        return Decimal::Bad;
-    };
-    if v > largest(kind) {
-        return Decimal::Bad;
-    }
-    Decimal::Value(v)
-}
-
-fn read_number(kind: u64, word: &[u8], numbers: &mut [u64], so_far: Fields) -> Fields
-    ensures { (d es : List ℕ) → fields_read result d es numbers.new ≡ value_field (fields_read so_far d es numbers.old) kind word.now }
-{
-    let i = so_far.numbers;
-    let Decimal::Value(v) = value(kind, word) else {
-        return so_far.spoiled();
-    };
-    if i >= numbers.len() {
-        return so_far.spoiled();
-    }
-    numbers[i] = v;
-    let mut fields = so_far;
-    fields.numbers = i + 1;
-    fields
-}
-
-// One more field, if one is left: it ends at what stands before the next.
-fn read_field(
-    line: &[u8],
-    decoded: &mut [u8],
-    ends: &mut [u32],
-    numbers: &mut [u64],
-    so_far: Fields,
-) -> Fields
-    ensures { fields_read result decoded.new ends.new numbers.new ≡ field_of line.now (fields_read so_far decoded.old ends.old numbers.old) }
-{
-    let from = so_far.next;
-    if from > line.len() {
-        return so_far;
-    }
-    let format = so_far.format.refilled();
-    let rest = format.rest();
-    let end = word_end(line, from, separator(rest.refilled().kinds));
-    let kind = format.kinds % 16;
-    let mut behind = so_far;
-    behind.format = rest;
-    behind.next = end + 1;
-    if kind == BYTES {
-        return read_bytes(&line[from..end], decoded, ends, behind);
-    }
-    read_number(kind, &line[from..end], numbers, behind)
-}
-
-// All fields from `next` on: there are fewer of them than characters.
+// All fields from `next` on, of which there are fewer than characters; none where one of them is bad or missing.
 pub fn read_fields(
     line: &[u8],
     next: usize,
@@ -144,8 +111,8 @@ pub fn read_fields(
     decoded: &mut [u8],
     ends: &mut [u32],
     numbers: &mut [u64],
-) -> Fields
-    ensures { fields_read result decoded.new ends.new numbers.new ≡ fields_of line.now next format decoded.old ends.old numbers.old }
+) -> Option<Fields>
+    ensures { fields_read result decoded.new ends.new numbers.new ≡ fields_of line.now next (form format) decoded.old ends.old numbers.old }
 {
     let mut fields = Fields {
         next,
@@ -154,39 +121,24 @@ pub fn read_fields(
         ends: 0,
         numbers: 0,
     };
-    let mut i: usize = 0;
-    while i < line.len() {
-        fields = read_field(line, decoded, ends, numbers, fields);
-        i += 1;
+    for _ in 0..line.len() {
+        fields = fields.read_field(line, decoded, ends, numbers)?;
     }
-    fields
-}
-
-#[derive(Clone, Copy)]
-pub(crate) struct NumberField {
-    pub value: u64,
-    pub next: usize,
+    if fields.is_all(line) {
+        Some(fields)
+    } else {
+        None
+    }
 }
 
 // A number wherever it stands, and where the next field starts.
-pub(crate) fn number(line: &[u8], from: usize) -> NumberField
+#[tactic(auto, unfolding(crate::specs::Room::number_field))]
+pub(crate) fn number(line: &[u8], from: usize) -> Option<(u64, usize)>
     ensures { result ≡ number_field line.now from }
 {
     if from > line.len() {
-        return NumberField {
-            value: 0,
-            next: usize::MAX,
-        };
+        return None;
     }
-    let end = word_end(line, from, b' ');
-    let Decimal::Value(value) = read_decimal(&line[from..end]) else {
-        return NumberField {
-            value: 0,
-            next: usize::MAX,
-        };
-    };
-    NumberField {
-        value,
-        next: end + 1,
-    }
+    let word = word_at(line, from, b' ');
+    Some((read_decimal(word)?, from + word.len() + 1))
 }

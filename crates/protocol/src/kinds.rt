@@ -1,83 +1,153 @@
-// Kinds of fields and of printed items, two hexadecimal digits each. The low one says what it is, the high one what stands
-// before it: 0 a space, 1 a colon, 2 a comma. The kinds of a line are one number, the first kind lowest.
-ghost use Rattle.std.specs.Prelude.{◌≡◌};
-ghost use Rattle.protocol.specs.Kinds.{separator_of, refilled_of, rest_of};
+// What fields and printed items are, and what stands before each.
+ghost use Rattle.std.specs.Prelude.{◌≡◌, ◌*◌, ◌^◌, ◌<◌, ◌≤◌, length};
+ghost use Rattle.protocol.specs.Kinds.{separator_of, largest_of, item_code, item_of, packed, split_of, split_said, form, stop_of};
 
-// A byte string; of an answer its next part.
-pub(crate) const BYTES: u64 = 1;
-
-pub const NUMBER: u64 = 2;
-
-pub(crate) const NUMBER_32: u64 = 3;
-
-// 4 is a number up to 255, and this the same, or `-` for none.
-pub const OPTIONAL_BYTE: u64 = 5;
+#[derive(Clone, Copy, PartialEq, Eq)]
+pub enum Kind {
+    // a byte string; of an answer its next part
+    Bytes = 1,
+    Number = 2,
+    // one of 32 bits
+    Number32 = 3,
+    // one of 8
+    Byte = 4,
+    // the same, or `-` for none
+    OptionalByte = 5,
+    // of answers alone: how many parts there are,
+    Count = 6,
+    // the part that a number names,
+    Named = 7,
+    // `no` and a number,
+    Refused = 8,
+    // items whose kinds stand among the numbers, before theirs, as one number,
+    Told = 9,
+    // a number below 0, told without its sign,
+    Negative = 10,
+    // and the word `slots`, whatever the number
+    Slots = 11,
+}
 
 // What an optional byte that is not given is read as.
 pub const NO_BYTE: u64 = 256;
 
-// Of answers alone: how many parts there are,
-pub(crate) const COUNT: u64 = 6;
-
-// the part that a number names,
-pub const NAMED: u64 = 7;
-
-// `no` and a number,
-pub const REFUSED: u64 = 8;
-
-// items whose kinds stand among the numbers, before theirs, as one number,
-pub(crate) const TOLD: u64 = 9;
-
-// a number below 0, told without its sign,
-pub const NEGATIVE: u64 = 10;
-
-// and the word `slots`, whatever the number.
-pub const SLOTS: u64 = 11;
-
-// Put to a kind: a colon stands before it,
-pub const COLON: u64 = 0x10;
-
-// or a comma.
-pub const COMMA: u64 = 0x20;
-
-// What stands before an item of the first of these kinds.
-pub(crate) fn separator(kinds: u64) -> u8
-    ensures { result ≡ separator_of kinds }
-{
-    match kinds / 16 % 16 {
-        1 => b':',
-        2 => b',',
-        _ => b' ',
+impl Kind {
+    // The largest number of a field of this kind.
+    pub(crate) fn largest(self) -> Option<u64>
+        ensures { result ≡ largest_of self }
+    {
+        match self {
+            Kind::Number => Some(u64::MAX),
+            Kind::Number32 => Some(0xffff_ffff),
+            Kind::Byte | Kind::OptionalByte => Some(255),
+            _ => None,
+        }
     }
 }
 
-// Kinds that follow each other, and those that may follow them any number of times.
+#[derive(Clone, Copy)]
+pub enum Before {
+    Space = 0,
+    Colon = 1,
+    Comma = 2,
+}
+
+impl Before {
+    pub(crate) fn separator(self) -> u8
+        ensures { result ≡ separator_of self }
+    {
+        match self {
+            Before::Space => b' ',
+            Before::Colon => b':',
+            Before::Comma => b',',
+        }
+    }
+}
+
+#[derive(Clone, Copy)]
+pub struct Item {
+    pub before: Before,
+    pub kind: Kind,
+}
+
+pub const NUMBER: Item = Item {
+    before: Before::Space,
+    kind: Kind::Number,
+};
+
+impl Item {
+    // The two hexadecimal digits that tell it among an answer's numbers.
+    #[tactic(auto, using(crate::proofs::KindLaws::code_small))]
+    pub fn code(self) -> u64
+        ensures value { result ≡ item_code self }
+        ensures bound { result < 256 }
+    {
+        16 * self.before as u64 + self.kind as u64
+    }
+
+    #[tactic(auto, unfolding(crate::specs::Kinds::kind_of, crate::specs::Kinds::before_of))]
+    pub(crate) fn from_code(code: u64) -> Item
+        ensures { result ≡ item_of code }
+    {
+        let before = match code / 16 % 16 {
+            1 => Before::Colon,
+            2 => Before::Comma,
+            _ => Before::Space,
+        };
+        let kind = match code % 16 {
+            1 => Kind::Bytes,
+            5 => Kind::OptionalByte,
+            6 => Kind::Count,
+            7 => Kind::Named,
+            8 => Kind::Refused,
+            10 => Kind::Negative,
+            11 => Kind::Slots,
+            _ => Kind::Number,
+        };
+        Item { before, kind }
+    }
+}
+
+// Items told by one number, the first in its lowest digits.
+// kept: an answer is lent fixed memory, where a number for each of its kinds has no room
+pub fn packed(items: &[Item]) -> u64
+    requires { length items.now ≤ 8 }
+    ensures value { result ≡ packed items.now }
+    ensures bound { result < 2 ^ (8 * length items.now) }
+{
+    match items {
+        [] => 0,
+        [first, others @ ..] => first.code() + 256 * packed(others),
+    }
+}
+
+// Items that follow each other, and those that may follow them any number of times.
 #[derive(Clone, Copy)]
 pub struct Format {
-    pub kinds: u64,
-    pub repeated: u64,
+    pub items: &'static [Item],
+    pub repeated: &'static [Item],
 }
 
 impl Format {
-    // With a kind at its head, if any may follow.
-    pub(crate) fn refilled(self) -> Format
-        ensures { result ≡ refilled_of self }
+    // The first item, if there is one, and what follows it.
+    #[tactic(auto, unfolding(crate::specs::Kinds::split_of))]
+    pub(crate) fn split(self) -> Option<(Item, Format)>
+        ensures { split_said result ≡ split_of (form self) }
     {
-        if self.kinds == 0 {
-            return Format {
-                kinds: self.repeated,
-                repeated: self.repeated,
-            };
-        }
-        self
+        let items = if self.items.is_empty() {
+            self.repeated
+        } else {
+            self.items
+        };
+        let (first, items) = items.split_first()?;
+        let format = Format { items, ..self };
+        Some((*first, format))
     }
 
-    // Behind the kind at its head.
-    pub(crate) fn rest(self) -> Format
-        ensures { result ≡ rest_of self }
+    // What stands before the first item: a space where there is none.
+    pub(crate) fn stop(self) -> u8
+        ensures { result ≡ stop_of (form self) }
     {
-        let mut format = self;
-        format.kinds = format.kinds / 256;
-        format
+        self.split()
+            .map_or(b' ', |(item, _)| item.before.separator())
     }
 }

@@ -1,59 +1,58 @@
 // Memory that a request is lent: marked before the call, and looked at after it.
-ghost use Rattle.std.specs.Prelude.{◌≡◌, length, drop, replicate};
+ghost use Rattle.std.specs.Prelude.{◌≡◌, drop};
+ghost use Rattle.protocol.specs.Answers.{line};
 ghost use Rattle.protocol.specs.Marked.{byte_mark, end_mark, number_mark, marked_for, is_marked, is_clean};
 ghost use Rattle.protocol.specs.Room.{room_prefix, size_lent, lent_by, is_there, lent_within};
 
 use crate::answer::Answer;
 use crate::fields::number;
-use crate::text::{word_end, word_key};
+use crate::text::word_at;
 
 // As much as there ever is of bytes, of ends or list entries, and of times or cues.
 pub const BYTES_LENT: usize = 65536;
 
 pub const ENDS_LENT: usize = 32768;
 
+const BYTE_MARK: u8 = 0xa5;
+
 pub const END_MARK: u32 = 0xa5a5_a5a5;
 
 const NUMBER_MARK: u64 = 0xa5a5_a5a5_a5a5_a5a5;
 
-// `room` as word_key has it.
-const ROOM: u64 = 0x726f_6f6d;
-
-// How much a line's prefix `room B E T ` lends, and where the request starts.
+// How much a line's prefix `room B E T ` lends.
 #[derive(Clone, Copy)]
 pub struct Room {
-    pub is_given: bool,
     pub bytes: u64,
     // ends or list entries
     pub ends: u64,
     // times or cues
     pub times: u64,
+}
+
+// What stands before the request, which starts at `next`.
+#[derive(Clone, Copy)]
+pub struct Prefix {
+    pub room: Option<Room>,
     pub next: usize,
 }
 
-pub fn room_prefix(line: &[u8]) -> Room
+// None where `room` is no three numbers' word.
+#[tactic(auto, unfolding(crate::specs::Room::room_prefix))]
+pub fn room_prefix(line: &[u8]) -> Option<Prefix>
     ensures { result ≡ room_prefix line.now }
 {
-    let end = word_end(line, 0, b' ');
-    if word_key(&line[0..end]) != ROOM {
-        return Room {
-            is_given: false,
-            bytes: 0,
-            ends: 0,
-            times: 0,
+    let word = word_at(line, 0, b' ');
+    if word != b"room".as_slice() {
+        return Some(Prefix {
+            room: None,
             next: 0,
-        };
+        });
     }
-    let bytes = number(line, end + 1);
-    let ends = number(line, bytes.next);
-    let times = number(line, ends.next);
-    Room {
-        is_given: true,
-        bytes: bytes.value,
-        ends: ends.value,
-        times: times.value,
-        next: times.next,
-    }
+    let (bytes, next) = number(line, word.len() + 1)?;
+    let (ends, next) = number(line, next)?;
+    let (times, next) = number(line, next)?;
+    let room = Some(Room { bytes, ends, times });
+    Some(Prefix { room, next })
 }
 
 // What a request is lent, exactly.
@@ -66,29 +65,49 @@ pub struct Lent {
     pub numbers: usize,
 }
 
-impl Room {
-    // As the prefix says, or ample: all there is (1), or 512 (2). Or none (0).
-    fn size(self, kind: u64, given: u64, most: usize) -> usize
-        ensures { result ≡ size_lent self kind given most }
-    {
-        if kind == 0 {
-            return 0;
-        }
-        if self.is_given {
-            return given as usize;
-        }
-        if kind == 1 { most } else { 512 }
-    }
+// How much of one sort of memory a request is lent where no prefix says so.
+#[derive(Clone, Copy)]
+pub enum Share {
+    // nor where one does
+    Nothing,
+    // 512
+    Few,
+    // all there is
+    All,
+}
 
-    // A digit each for bytes, ends and numbers, then 1 for memory of its own.
-    pub fn lent(self, kinds: u64) -> Lent
-        ensures { result ≡ lent_by self kinds }
+impl Share {
+    fn size(self, given: Option<u64>, most: usize) -> usize
+        ensures { result ≡ size_lent self given most }
+    {
+        let ample = match self {
+            Share::Nothing => return 0,
+            Share::Few => 512,
+            Share::All => most,
+        };
+        given.map_or(ample, |n| n as usize)
+    }
+}
+
+// What requests of a name are lent.
+#[derive(Clone, Copy)]
+pub struct Shares {
+    pub is_own: bool,
+    pub bytes: Share,
+    pub ends: Share,
+    pub numbers: Share,
+}
+
+impl Shares {
+    // As the prefix says, or ample.
+    pub fn lent(self, room: Option<Room>) -> Lent
+        ensures { result ≡ lent_by self room }
     {
         Lent {
-            is_own: kinds / 0x1000 == 1,
-            bytes: self.size(kinds % 16, self.bytes, BYTES_LENT),
-            ends: self.size(kinds / 16 % 16, self.ends, ENDS_LENT),
-            numbers: self.size(kinds / 256 % 16, self.times, ENDS_LENT),
+            is_own: self.is_own,
+            bytes: self.bytes.size(room.map(|r| r.bytes), BYTES_LENT),
+            ends: self.ends.size(room.map(|r| r.ends), ENDS_LENT),
+            numbers: self.numbers.size(room.map(|r| r.times), ENDS_LENT),
         }
     }
 }
@@ -97,52 +116,22 @@ impl Lent {
     pub fn is_there(self) -> bool
         ensures { result ≡ is_there self }
     {
-        (self.bytes <= BYTES_LENT) & (self.ends <= ENDS_LENT) & (self.numbers <= ENDS_LENT)
+        self.bytes <= BYTES_LENT && self.ends <= ENDS_LENT && self.numbers <= ENDS_LENT
     }
 
     // How much of the program's memory, so large, a request may fill.
     pub fn within(self, bytes: usize, ends: usize, numbers: usize) -> Lent
         ensures { result ≡ lent_within self bytes ends numbers }
     {
-        if self.is_own {
-            return Lent {
-                is_own: true,
-                bytes,
-                ends,
-                numbers,
-            };
+        if !self.is_own {
+            return self;
         }
-        self
-    }
-}
-
-fn mark(memory: &mut [u8])
-    ensures { memory.new ≡ replicate (length memory.old) byte_mark }
-{
-    let mut i: usize = 0;
-    while i < memory.len() {
-        memory[i] = 0xa5;
-        i += 1;
-    }
-}
-
-fn mark_ends(ends: &mut [u32])
-    ensures { ends.new ≡ replicate (length ends.old) end_mark }
-{
-    let mut i: usize = 0;
-    while i < ends.len() {
-        ends[i] = END_MARK;
-        i += 1;
-    }
-}
-
-fn mark_numbers(numbers: &mut [u64])
-    ensures { numbers.new ≡ replicate (length numbers.old) number_mark }
-{
-    let mut i: usize = 0;
-    while i < numbers.len() {
-        numbers[i] = NUMBER_MARK;
-        i += 1;
+        Lent {
+            is_own: true,
+            bytes,
+            ends,
+            numbers,
+        }
     }
 }
 
@@ -155,49 +144,28 @@ pub fn mark_lent(is_own: bool, memory: &mut [u8], ends: &mut [u32], numbers: &mu
     if is_own {
         return;
     }
-    mark(memory);
-    mark_ends(ends);
-    mark_numbers(numbers);
+    memory.fill(BYTE_MARK);
+    ends.fill(END_MARK);
+    numbers.fill(NUMBER_MARK);
 }
 
 // Whether every byte from `from` on is as it was marked.
 pub fn is_marked(memory: &[u8], from: usize) -> bool
     ensures { result ≡ is_marked byte_mark (drop from memory.now) }
 {
-    let mut i = from;
-    while i < memory.len() {
-        if memory[i] != 0xa5 {
-            return false;
-        }
-        i += 1;
-    }
-    true
+    memory.iter().skip(from).all(|b| *b == BYTE_MARK)
 }
 
 pub fn are_ends_marked(ends: &[u32], from: usize) -> bool
     ensures { result ≡ is_marked end_mark (drop from ends.now) }
 {
-    let mut i = from;
-    while i < ends.len() {
-        if ends[i] != END_MARK {
-            return false;
-        }
-        i += 1;
-    }
-    true
+    ends.iter().skip(from).all(|end| *end == END_MARK)
 }
 
 fn are_numbers_marked(numbers: &[u64], from: usize) -> bool
     ensures { result ≡ is_marked number_mark (drop from numbers.now) }
 {
-    let mut i = from;
-    while i < numbers.len() {
-        if numbers[i] != NUMBER_MARK {
-            return false;
-        }
-        i += 1;
-    }
-    true
+    numbers.iter().skip(from).all(|v| *v == NUMBER_MARK)
 }
 
 // Whether the call has left all memory as it was that its answer does not account for.
@@ -208,12 +176,12 @@ pub(crate) fn is_clean(
     ends: &[u32],
     numbers: &[u64],
 ) -> bool
-    ensures { result ≡ is_clean is_own answer memory.now ends.now numbers.now }
+    ensures { result ≡ is_clean is_own (line answer) memory.now ends.now numbers.now }
 {
     if is_own {
         return !answer.is_dirty;
     }
     is_marked(memory, answer.bytes)
-        & are_ends_marked(ends, answer.ends)
-        & are_numbers_marked(numbers, answer.numbers)
+        && are_ends_marked(ends, answer.ends)
+        && are_numbers_marked(numbers, answer.numbers)
 }

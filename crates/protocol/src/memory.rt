@@ -8,17 +8,12 @@ use obu::reader::payload;
 pub fn number_at(numbers: &[u64], i: usize) -> u64
     ensures { result ≡ get_or numbers.now i 0 }
 {
-    if i < numbers.len() {
-        return numbers[i];
-    }
-    0
+    numbers.get(i).copied().unwrap_or(0)
 }
 
 // Byte string i.
 pub fn part<'a, 'b>(s: &'a [u8], ends: &'b [u32], i: usize) -> &'a [u8]
     ensures { result.now ≡ part_in s.now ends.now i }
 {
-    let start = start_of(ends, i);
-    let end = end_of(ends, i);
-    payload(s, start, end)
+    payload(s, start_of(ends, i), end_of(ends, i))
 }

@@ -1,80 +1,82 @@
-// Answers as text, in a buffer that is written out whenever it is full. Each function takes the place where its text goes
-// and returns the place behind it. The contracts give the place and the buffer; what has reached standard output is the
-// world's, and no contract can speak of it.
-ghost use Rattle.std.specs.Prelude.{◌≡◌, ◌≤◌, ◌<◌, length};
-ghost use Rattle.protocol.specs.Text.{hex_text};
-ghost use Rattle.protocol.specs.Typed.{typing, next_place, typed, decimal_text, bytes_text};
+// Text on its way to standard output, in a buffer that is written out whenever it is full. The contracts give the place and
+// the buffer; what has reached standard output is the world's, and no contract can speak of it.
+ghost use Rattle.std.specs.Prelude.{◌≡◌, [], ◌∷◌, ◌<◌};
+ghost use Rattle.protocol.specs.Typed.{start_output, typed, decimal_text, bytes_text};
 
-use crate::text::encode_hex;
-use bitio::numbers::least;
+use crate::text::hex_digit;
 
 const SIZE: usize = 65536;
 
 pub type Buffer = [u8; SIZE];
 
-// Writes out the bytes that wait. (Of a part `0..at` the check asks no proof of its length, as it
-// does of `..at`.)
-pub fn flush(out: &[u8], at: usize) {
-    if at <= out.len() {
-        io::write_all(1, &out[0..at]);
-    }
+#[derive(Drop)]
+pub struct Output {
+    buffer: Buffer,
+    // how many characters wait in it
+    at: usize,
 }
 
-// Where the next character goes.
-fn place(out: &[u8], at: usize) -> usize
-    ensures { (result ≡ next_place at) × (result < 65536) }
-{
-    if at >= SIZE {
-        flush(out, at);
-        return 0;
+impl Output {
+    pub fn new() -> Output
+        ensures { result ≡ start_output }
+    {
+        Output {
+            buffer: [0; SIZE],
+            at: 0,
+        }
     }
-    at
-}
 
-pub(crate) fn put_text(out: &mut Buffer, at: usize, text: &[u8]) -> usize
-    ensures { typing result out.new ≡ typed (typing at out.old) text.now }
-{
-    let mut to = at;
-    let mut i: usize = 0;
-    while i < text.len() {
-        to = place(out, to);
-        out[to] = text[i];
-        to += 1;
-        i += 1;
+    // Writes out the characters that wait.
+    pub fn flush(&mut self)
+        ensures buffer { self.new.buffer ≡ self.old.buffer }
+        ensures at { self.new.at ≡ 0 }
+    {
+        if let Some(waiting) = self.buffer.get(..self.at) {
+            io::write_all(1, waiting);
+        }
+        self.at = 0;
     }
-    to
-}
 
-pub(crate) fn put_number(out: &mut Buffer, at: usize, v: u64) -> usize
-    ensures { typing result out.new ≡ typed (typing at out.old) (decimal_text v) }
-{
-    let mut digits = [0u8; 20];
-    let n = io::decimal(v, &mut digits);
-    put_text(out, at, &digits[..n])
-}
-
-fn put_hex_part(out: &mut Buffer, at: usize, s: &[u8]) -> usize
-    requires { length s.now ≤ 64 }
-    ensures { typing result out.new ≡ typed (typing at out.old) (hex_text s.now) }
-{
-    let mut digits = [0u8; 128];
-    let n = encode_hex(s, &mut digits);
-    put_text(out, at, &digits[0..n])
-}
-
-// Bytes in hexadecimal, `-` for none.
-pub(crate) fn put_hex(out: &mut Buffer, at: usize, s: &[u8]) -> usize
-    ensures { typing result out.new ≡ typed (typing at out.old) (bytes_text s.now) }
-{
-    if s.len() == 0 {
-        return put_text(out, at, b"-");
+    #[tactic(auto, unfolding(crate::specs::Typed::typed, crate::specs::Typed::next_place))]
+    fn put(&mut self, c: u8)
+        ensures { self.new ≡ typed self.old (c ∷ []) }
+    {
+        if self.at >= SIZE {
+            self.flush();
+        }
+        self.buffer[self.at] = c;
+        self.at += 1;
     }
-    let mut to = at;
-    let mut i: usize = 0;
-    while i < s.len() {
-        let n = least(64, s.len() - i);
-        to = put_hex_part(out, to, &s[i..i + n]);
-        i += n;
+
+    #[tactic(auto, using(crate::proofs::TypedLaws::typed_next), unfolding(crate::specs::Typed::typed))]
+    pub(crate) fn put_text(&mut self, text: &[u8])
+        ensures { self.new ≡ typed self.old text.now }
+    {
+        for c in text {
+            self.put(*c);
+        }
     }
-    to
+
+    #[tactic(auto, using(crate::proofs::TypedLaws::decimal_is))]
+    pub(crate) fn put_number(&mut self, v: u64)
+        ensures { self.new ≡ typed self.old (decimal_text v) }
+    {
+        let mut digits = [0u8; 20];
+        let n = io::decimal(v, &mut digits);
+        self.put_text(&digits[..n]);
+    }
+
+    // Bytes in hexadecimal, `-` for none.
+    #[tactic(auto, using(crate::proofs::TypedLaws::hex_next), unfolding(crate::specs::Typed::typed, crate::specs::Text::hex_text))]
+    pub(crate) fn put_hex(&mut self, s: &[u8])
+        ensures { self.new ≡ typed self.old (bytes_text s.now) }
+    {
+        if s.is_empty() {
+            self.put(b'-');
+        }
+        for b in s {
+            self.put(hex_digit(*b / 16));
+            self.put(hex_digit(*b % 16));
+        }
+    }
 }

@@ -1,25 +1,23 @@
 // Answers as lines, by a format, from the memory that they account for.
-ghost use Rattle.std.specs.Prelude.{◌≡◌, ◌-◌, ◌^◌};
-ghost use Rattle.protocol.specs.Told.{told};
-ghost use Rattle.protocol.specs.Typed.{typing, typed};
-ghost use Rattle.protocol.specs.Printed.{part_end, part_start, part_text, value_text, item_text, is_printed, opened_at, opened_of, past_of, items_text, print_start, format_of, head_text, answer_text, bad_line};
+ghost use Rattle.std.specs.Prelude.{◌≡◌, ◌-◌, ◌^◌, option_map};
+ghost use Rattle.protocol.specs.Answers.{line};
+ghost use Rattle.protocol.specs.Kinds.{form};
+ghost use Rattle.protocol.specs.Typed.{typed};
+ghost use Rattle.protocol.specs.Printed.{left_told, printing, part_end, part_start, part_text, value_text, body_text, item_text, is_over, told_at, opened_at, next_of, past_of, items_text, print_start, format_of, head_text, answer_text, bad_line};
 
 use crate::answer::Answer;
-use crate::kinds::{
-    BYTES, COUNT, Format, NAMED, NEGATIVE, NO_BYTE, NUMBER, OPTIONAL_BYTE, REFUSED, SLOTS, TOLD,
-    separator,
-};
+use crate::kinds::{Format, Item, Kind, NO_BYTE, NUMBER};
 use crate::lent::is_clean;
 use crate::memory::number_at;
-use crate::output::{Buffer, put_hex, put_number, put_text};
+use crate::output::Output;
 use bitio::ends::end_of;
-use bitio::numbers::plus;
 
 // How far an answer has been printed.
 #[derive(Clone, Copy)]
 struct Printed {
-    // the kind of the item that comes, and those that follow
-    kind: u64,
+    // the item that comes, those told that follow it, and those of the format behind them
+    item: Item,
+    told: u64,
     format: Format,
     // how many parts and numbers are behind it
     parts: usize,
@@ -27,217 +25,218 @@ struct Printed {
 }
 
 impl Printed {
-    // Repeated kinds end where there is no more for the first of them.
-    fn is_all(self, answer: Answer) -> bool
-        ensures { result ≡ is_printed answer self }
-    {
-        let format = self.format;
-        if format.repeated % 16 == BYTES {
-            return (format.kinds == 0) & (self.parts >= answer.ends);
-        }
-        let is_used = (self.numbers >= answer.numbers) | (format.repeated == 0);
-        (format.kinds == 0) & is_used
-    }
-
-    // At an item of the first of these kinds, so many numbers being behind.
-    fn opened_at(self, format: Format, numbers: usize) -> Printed
-        ensures { result ≡ opened_at self format numbers }
+    fn start(format: Format) -> Printed
+        ensures { printing result ≡ print_start (form format) }
     {
         Printed {
-            kind: format.kinds % 256,
-            format: format.rest(),
-            parts: self.parts,
-            numbers,
+            item: NUMBER,
+            told: 0,
+            format,
+            parts: 0,
+            numbers: 0,
         }
     }
 
-    // At the next item.
-    fn opened(self, numbers: &[u64]) -> Printed
-        ensures { result ≡ opened_of numbers.now self }
+    // At the first of the items that a number tells, so many numbers being behind.
+    fn told_at(self, told: u64, numbers: usize) -> Printed
+        ensures { printing result ≡ told_at told numbers (printing self) }
     {
-        let format = self.format.refilled();
-        if format.kinds % 256 == TOLD {
-            let mut told = format;
-            told.kinds = number_at(numbers, self.numbers);
-            return self.opened_at(told, plus(self.numbers, 1));
+        Printed {
+            item: Item::from_code(told % 256),
+            told: told / 256,
+            numbers,
+            ..self
         }
-        self.opened_at(format, self.numbers)
     }
 
     // Behind an item that took a part or a number.
     fn past(self) -> Printed
-        ensures { result ≡ past_of self }
+        ensures { printing result ≡ past_of (printing self) }
     {
-        let kind = self.kind % 16;
-        let mut next = self;
-        if kind == BYTES {
-            next.parts = plus(self.parts, 1);
-            return next;
+        match self.item.kind {
+            Kind::Bytes => Printed {
+                parts: self.parts.saturating_add(1),
+                ..self
+            },
+            Kind::Count => self,
+            _ => Printed {
+                numbers: self.numbers.saturating_add(1),
+                ..self
+            },
         }
-        if kind == COUNT {
-            return self;
+    }
+}
+
+// What a call has left: its answer, and the memory lent to it.
+#[derive(Clone, Copy)]
+pub struct Left<'a> {
+    pub answer: Answer,
+    pub memory: &'a [u8],
+    pub ends: &'a [u32],
+    pub numbers: &'a [u64],
+}
+
+impl<'a> Left<'a> {
+    // Where part i ends: the last one with all the answer's bytes.
+    fn part_end(self, i: usize) -> usize
+        ensures { result ≡ part_end (line self.entry.answer) self.entry.ends.now i }
+    {
+        if i < self.answer.ends {
+            end_of(self.ends, i)
+        } else {
+            self.answer.bytes
         }
-        next.numbers = plus(self.numbers, 1);
-        next
+    }
+
+    fn part_start(self, i: usize) -> usize
+        ensures { result ≡ part_start (line self.entry.answer) self.entry.ends.now i }
+    {
+        if i == 0 { 0 } else { self.part_end(i - 1) }
+    }
+
+    #[tactic(auto, unfolding(crate::specs::Printed::part_text, bitio::specs::Lent::span))]
+    fn put_part(self, i: usize, out: &mut Output)
+        ensures { out.new ≡ typed out.old (part_text (line self.entry.answer) self.entry.memory.now self.entry.ends.now i) }
+    {
+        let start = self.part_start(i);
+        let end = self.part_end(i);
+        if start <= end && end <= self.memory.len() {
+            out.put_hex(&self.memory[start..end]);
+        } else {
+            out.put_text(b"dirty");
+        }
+    }
+
+    // Whether no more is left for an item of this kind.
+    fn is_over(self, kind: Kind, printed: Printed) -> bool
+        ensures { result ≡ is_over (line self.entry.answer) kind (printing printed) }
+    {
+        if kind == Kind::Bytes {
+            printed.parts >= self.answer.ends
+        } else {
+            printed.numbers >= self.answer.numbers
+        }
+    }
+
+    // At the first item of the format, with the rest of it.
+    fn opened_at(self, item: Item, format: Format, printed: Printed) -> Printed
+        ensures { printing result ≡ opened_at (left_told self.entry) item (form format) (printing printed) }
+    {
+        let opened = Printed {
+            item,
+            format,
+            ..printed
+        };
+        if item.kind != Kind::Told {
+            return opened;
+        }
+        let told = number_at(self.numbers, printed.numbers);
+        opened.told_at(told, printed.numbers.saturating_add(1))
+    }
+
+    // At the next item, if there is one: repeated kinds end where there is no more for the first of them.
+    #[tactic(auto, unfolding(crate::specs::Printed::next_of))]
+    fn next(self, printed: Printed) -> Option<Printed>
+        ensures { option_map printing result ≡ next_of (left_told self.entry) (printing printed) }
+    {
+        if printed.told > 0 {
+            return Some(printed.told_at(printed.told, printed.numbers));
+        }
+        let (item, format) = printed.format.split()?;
+        if printed.format.items.is_empty() && self.is_over(item.kind, printed) {
+            return None;
+        }
+        Some(self.opened_at(item, format, printed))
+    }
+
+    // The item that comes, behind what stands before it.
+    #[tactic(auto, unfolding(crate::specs::Printed::item_text, crate::specs::Typed::typed))]
+    fn put_item(self, printed: Printed, out: &mut Output)
+        ensures { out.new ≡ typed out.old (item_text (left_told self.entry) (printing printed)) }
+    {
+        out.put_text(&[printed.item.before.separator()]);
+        let v = number_at(self.numbers, printed.numbers);
+        match printed.item.kind {
+            Kind::Bytes => self.put_part(printed.parts, out),
+            Kind::Named => self.put_part(v as usize, out),
+            Kind::Count => out.put_number(self.answer.ends as u64),
+            kind => put_value(kind, v, out),
+        }
+    }
+
+    // All items. Nothing says that kinds which take nothing end, so the turns are counted up to a number that no run reaches.
+    fn put_items(self, format: Format, out: &mut Output)
+        ensures { out.new ≡ typed out.old (items_text (2 ^ 64 - 1) (left_told self.entry) (print_start (form format))) }
+    {
+        let mut printed = Printed::start(format);
+        for _ in 0..u64::MAX {
+            let Some(next) = self.next(printed) else {
+                return;
+            };
+            self.put_item(next, out);
+            printed = next.past();
+        }
     }
 }
 
-// Where part i of an answer ends: the last one with all its bytes.
-fn part_end(answer: Answer, ends: &[u32], i: usize) -> usize
-    ensures { result ≡ part_end answer ends.now i }
+#[tactic(auto, unfolding(crate::specs::Typed::typed))]
+fn put_value(kind: Kind, v: u64, out: &mut Output)
+    ensures { out.new ≡ typed out.old (value_text kind v) }
 {
-    if i < answer.ends {
-        return end_of(ends, i);
-    }
-    answer.bytes
-}
-
-fn part_start(answer: Answer, ends: &[u32], i: usize) -> usize
-    ensures { result ≡ part_start answer ends.now i }
-{
-    if i == 0 {
-        return 0;
-    }
-    part_end(answer, ends, i - 1)
-}
-
-fn put_part(
-    answer: Answer,
-    memory: &[u8],
-    ends: &[u32],
-    i: usize,
-    out: &mut Buffer,
-    at: usize,
-) -> usize
-    ensures { typing result out.new ≡ typed (typing at out.old) (part_text answer memory.now ends.now i) }
-{
-    let start = part_start(answer, ends, i);
-    let end = part_end(answer, ends, i);
-    if (start <= end) & (end <= memory.len()) {
-        return put_hex(out, at, &memory[start..end]);
-    }
-    put_text(out, at, b"dirty")
-}
-
-fn put_value(kind: u64, v: u64, out: &mut Buffer, at: usize) -> usize
-    ensures { typing result out.new ≡ typed (typing at out.old) (value_text kind v) }
-{
-    if (kind == OPTIONAL_BYTE) & (v == NO_BYTE) {
-        return put_text(out, at, b"-");
-    }
-    if kind == REFUSED {
-        let to = put_text(out, at, b"no ");
-        return put_number(out, to, v);
-    }
-    if kind == NEGATIVE {
-        let to = put_text(out, at, b"-");
-        return put_number(out, to, v);
-    }
-    if kind == SLOTS {
-        return put_text(out, at, b"slots");
-    }
-    put_number(out, at, v)
-}
-
-// The item that comes, behind what stands before it.
-fn put_item(
-    answer: Answer,
-    memory: &[u8],
-    ends: &[u32],
-    numbers: &[u64],
-    out: &mut Buffer,
-    at: usize,
-    item: Printed,
-) -> usize
-    ensures { typing result out.new ≡ typed (typing at out.old) (item_text (told answer memory.now ends.now numbers.now) item) }
-{
-    let before = [separator(item.kind)];
-    let to = put_text(out, at, &before);
-    let v = number_at(numbers, item.numbers);
-    let kind = item.kind % 16;
     match kind {
-        BYTES => put_part(answer, memory, ends, item.parts, out, to),
-        NAMED => put_part(answer, memory, ends, v as usize, out, to),
-        COUNT => put_number(out, to, answer.ends as u64),
-        _ => put_value(kind, v, out, to),
+        Kind::OptionalByte if v == NO_BYTE => out.put_text(b"-"),
+        Kind::Refused => {
+            out.put_text(b"no ");
+            out.put_number(v);
+        }
+        Kind::Negative => {
+            out.put_text(b"-");
+            out.put_number(v);
+        }
+        Kind::Slots => out.put_text(b"slots"),
+        _ => out.put_number(v),
     }
 }
 
-// All items. Nothing says that kinds which take nothing end, so the turns are counted down from a number that no run uses up.
-fn put_items(
-    answer: Answer,
-    format: Format,
-    memory: &[u8],
-    ends: &[u32],
-    numbers: &[u64],
-    out: &mut Buffer,
-    at: usize,
-) -> usize
-    ensures { typing result out.new ≡ typed (typing at out.old) (items_text (2 ^ 64 - 1) (told answer memory.now ends.now numbers.now) (print_start format)) }
+// `ok`, or `no` and the refusal's number.
+fn put_head(answer: Answer, out: &mut Output)
+    ensures { out.new ≡ typed out.old (head_text (line answer).refusal) }
 {
-    let mut printed = Printed {
-        kind: 0,
-        format,
-        parts: 0,
-        numbers: 0,
-    };
-    let mut to = at;
-    let mut turns = u64::MAX;
-    while turns > 0 && !printed.is_all(answer) {
-        let item = printed.opened(numbers);
-        to = put_item(answer, memory, ends, numbers, out, to, item);
-        printed = item.past();
-        turns -= 1;
+    match answer.refused {
+        Some(refusal) => put_value(Kind::Refused, u64::from(u32::from(refusal)), out),
+        None => out.put_text(b"ok"),
     }
-    to
 }
 
 // A refusal's line has its number, and what numbers come with it.
 fn format_of(answer: Answer, format: Format) -> Format
-    ensures { result ≡ format_of answer format }
+    ensures { form result ≡ format_of (line answer).refusal (form format) }
 {
-    if answer.refusal > 0 {
-        return Format {
-            kinds: 0,
-            repeated: NUMBER,
-        };
+    if answer.refused.is_none() {
+        return format;
     }
-    format
-}
-
-fn put_head(answer: Answer, out: &mut Buffer, at: usize) -> usize
-    ensures { typing result out.new ≡ typed (typing at out.old) (head_text answer) }
-{
-    if answer.refusal > 0 {
-        return put_value(REFUSED, answer.refusal as u64, out, at);
+    Format {
+        items: &[],
+        repeated: &[NUMBER],
     }
-    put_text(out, at, b"ok")
 }
 
 // The line of an answer, from what the call left in the memory lent to it.
-pub fn put_answer(
-    answer: Answer,
-    format: Format,
-    is_own: bool,
-    memory: &[u8],
-    ends: &[u32],
-    numbers: &[u64],
-    out: &mut Buffer,
-    at: usize,
-) -> usize
-    ensures { typing result out.new ≡ typed (typing at out.old) (answer_text (told answer memory.now ends.now numbers.now) format is_own) }
+pub fn put_answer(left: Left<'_>, format: Format, is_own: bool, out: &mut Output)
+    ensures { out.new ≡ typed out.old (answer_text (left_told left.entry) (form format) is_own) }
 {
-    let form = format_of(answer, format);
-    let to = put_head(answer, out, at);
-    let to = put_items(answer, form, memory, ends, numbers, out, to);
-    if is_clean(is_own, answer, memory, ends, numbers) {
-        return put_text(out, to, b"\n");
+    let answer = left.answer;
+    put_head(answer, out);
+    left.put_items(format_of(answer, format), out);
+    if is_clean(is_own, answer, left.memory, left.ends, left.numbers) {
+        out.put_text(b"\n");
+    } else {
+        out.put_text(b" dirty\n");
     }
-    put_text(out, to, b" dirty\n")
 }
 
-pub fn bad_line(out: &mut Buffer, at: usize) -> usize
-    ensures { typing result out.new ≡ typed (typing at out.old) bad_line }
+pub fn bad_line(out: &mut Output)
+    ensures { out.new ≡ typed out.old bad_line }
 {
-    put_text(out, at, b"bad line\n")
+    out.put_text(b"bad line\n");
 }

@@ -1,182 +1,110 @@
 // Text to values and back: hexadecimal digits, byte strings, decimal numbers, words.
-ghost use Rattle.std.specs.Prelude.{◌≡◌, true, ◌+◌, ◌*◌, ◌/◌, ◌≤◌, ◌<◌, length, drop};
-ghost use Rattle.bitio.specs.Lent.{pasted};
-ghost use Rattle.protocol.specs.Text.{hex_digit, hex_value, all_hex, hex_text, hex_bytes, byte_string, read_number, word, word_key};
-ghost use Rattle.protocol.specs.Says.{decoded_says, decoded_to, decoded_in, decimal_says};
+ghost use Rattle.std.specs.Prelude.{◌≡◌, ◌+◌, ◌/◌, ◌≤◌, ◌<◌, ◌==◌, position, length, option_map, IfSome};
+ghost use Rattle.protocol.specs.Text.{hex_digit, hex_value, byte_of, all_hex, hex_bytes, byte_string, decoded_to, decoded_in, read_number, word_at};
 
-#[derive(Clone, Copy)]
-pub(crate) enum Decimal {
-    Value(u64),
-    // no number, or one past the largest u64
-    Bad,
-}
-
-// What putting the bytes of a text into memory answers.
-#[derive(Clone, Copy)]
-pub(crate) enum Decoded {
-    // the place behind the bytes
-    End(usize),
-    // no byte string, or no room for its bytes
-    Bad,
-}
-
-fn hex_digit(v: u8) -> u8
+#[tactic(auto, unfolding(crate::specs::Text::hex_digit))]
+pub(crate) fn hex_digit(v: u8) -> u8
     requires { v < 16 }
     ensures { result ≡ hex_digit v }
 {
-    if v < 10 { 48 + v } else { 87 + v }
+    if v < 10 { b'0' + v } else { b'a' + (v - 10) }
 }
 
-fn hex_value(c: u8) -> u8
-    ensures { result ≡ hex_value c }
+#[tactic(auto, unfolding(crate::specs::Text::hex_value))]
+fn hex_value(c: u8) -> Option<u8>
+    ensures value { result ≡ hex_value c }
+    ensures below { IfSome result (λ v. v < 16) }
 {
-    if c < 48 {
-        return 16;
+    match c {
+        b'0'..=b'9' => Some(c - b'0'),
+        b'a'..=b'f' => Some(c - b'a' + 10),
+        _ => None,
     }
-    if c <= 57 {
-        return c - 48;
-    }
-    if c < 97 {
-        return 16;
-    }
-    if c <= 102 { c - 87 } else { 16 }
 }
 
-// Writes two digits a byte, and returns how many.
-pub(crate) fn encode_hex(s: &[u8], out: &mut [u8]) -> usize
-    requires { 2 * length s.now ≤ length out.old }
-    ensures value { result ≡ 2 * length s.now }
-    ensures out_after { out.new ≡ pasted out.old 0 (hex_text s.now) }
+// The byte of two digits.
+fn byte_of(a: u8, b: u8) -> u8
+    ensures { result ≡ byte_of a b }
 {
-    let mut i: usize = 0;
-    while i < s.len() {
-        let b = s[i];
-        out[2 * i] = hex_digit(b / 16);
-        out[2 * i + 1] = hex_digit(b % 16);
-        i += 1;
-    }
-    2 * i
+    16 * hex_value(a).unwrap_or(0) + hex_value(b).unwrap_or(0)
 }
 
 fn all_hex(text: &[u8]) -> bool
     ensures { result ≡ all_hex text.now }
 {
-    let mut i: usize = 0;
-    while i < text.len() {
-        if hex_value(text[i]) > 15 {
-            return false;
-        }
-        i += 1;
-    }
-    true
+    text.iter().all(|c| hex_value(*c).is_some())
 }
 
-// Writes a byte for each two digits, where their room is known.
-fn decode_hex(text: &[u8], out: &mut [u8], at: usize)
-    requires text_value { all_hex text.now ≡ true }
-    requires text_in_bounds { at + length text.now / 2 ≤ length out.old }
-    ensures { out.new ≡ pasted out.old at (hex_bytes text.now) }
+// Fills memory with a byte for each two digits.
+fn decode_hex(text: &[u8], out: &mut [u8])
+    requires { length text.now / 2 ≡ length out.old }
+    ensures { out.new ≡ hex_bytes text.now }
 {
-    let n = text.len() / 2;
-    let mut i: usize = 0;
-    while i < n {
-        out[at + i] = 16 * hex_value(text[2 * i]) + hex_value(text[2 * i + 1]);
-        i += 1;
+    for i in 0..out.len() {
+        out[i] = byte_of(text[2 * i], text[2 * i + 1]);
     }
 }
 
-// Writes the bytes of a byte string at `at`, or nothing if it is none or has no room there.
-pub(crate) fn decode(text: &[u8], out: &mut [u8], at: usize) -> Decoded
-    ensures result_value { decoded_says result ≡ decoded_to out.old at (byte_string text.now) }
+// How many bytes a byte string has, if the text is one.
+#[tactic(auto, using(crate::proofs::TextLaws::bytes_length), unfolding(crate::specs::Text::byte_string, crate::specs::Text::pairs))]
+fn byte_count(text: &[u8]) -> Option<usize>
+    ensures { result ≡ option_map length (byte_string text.now) }
+{
+    if text == b"-".as_slice() {
+        return Some(0);
+    }
+    if text.is_empty() || text.len() % 2 != 0 || !all_hex(text) {
+        return None;
+    }
+    Some(text.len() / 2)
+}
+
+// Writes the bytes of a byte string at `at`, and returns the place behind them; or writes nothing, if it is none or has no
+// room there.
+pub(crate) fn decode(text: &[u8], out: &mut [u8], at: usize) -> Option<usize>
+    ensures result_value { result ≡ decoded_to out.old at (byte_string text.now) }
     ensures out_after { out.new ≡ decoded_in out.old at (byte_string text.now) }
 {
-    let n = text.len();
-    let len = out.len();
-    if len < at {
-        return Decoded::Bad;
+    let end = at.checked_add(byte_count(text)?)?;
+    if end > out.len() {
+        return None;
     }
-    if n == 0 {
-        return Decoded::Bad;
-    }
-    if n == 1 {
-        if text[0] == 45 {
-            return Decoded::End(at);
-        }
-        return Decoded::Bad;
-    }
-    if n % 2 != 0 {
-        return Decoded::Bad;
-    }
-    if !all_hex(text) {
-        return Decoded::Bad;
-    }
-    if len - at < n / 2 {
-        return Decoded::Bad;
-    }
-    decode_hex(text, out, at);
-    Decoded::End(at + n / 2)
+    decode_hex(text, &mut out[at..end]);
+    Some(end)
 }
 
-pub(crate) fn read_decimal(text: &[u8]) -> Decimal
-    ensures { decimal_says result ≡ read_number text.now }
+#[tactic(auto, unfolding(crate::specs::Text::read_number, crate::specs::Text::number_from))]
+pub(crate) fn read_decimal(text: &[u8]) -> Option<u64>
+    ensures { result ≡ read_number text.now }
 {
-    if text.len() == 0 {
-        return Decimal::Bad;
+    if text.is_empty() {
+        return None;
     }
     let mut v: u64 = 0;
-    let mut i: usize = 0;
-    while i < text.len() {
-        let c = text[i];
-        if c < 48 {
-            return Decimal::Bad;
+    for c in text {
+        if !c.is_ascii_digit() {
+            return None;
         }
-        if c > 57 {
-            return Decimal::Bad;
-        }
-        let d = (c - 48) as u64;
-        if v > (0xffff_ffff_ffff_ffff - d) / 10 {
-            return Decimal::Bad;
-        }
-        v = 10 * v + d;
-        i += 1;
+        v = v.checked_mul(10)?.checked_add(u64::from(*c - b'0'))?;
     }
-    Decimal::Value(v)
+    Some(v)
 }
 
-// Where the word that starts at `from` ends: at the next `stop`, or with the line.
-pub fn word_end(line: &[u8], from: usize, stop: u8) -> usize
+// Where the first `stop` stands.
+fn find(line: &[u8], stop: u8) -> Option<usize>
+    ensures { result ≡ position (λ c. c == stop) line.now }
+{
+    line.iter().position(|c| *c == stop)
+}
+
+// The word that starts at `from`: up to the next `stop`, or the rest of the line.
+#[tactic(auto, using(crate::proofs::TextLaws::word_is))]
+pub fn word_at(line: &[u8], from: usize, stop: u8) -> &[u8]
     requires { from ≤ length line.now }
-    ensures lower_bound { (from ≤ result) × (result ≤ length line.now) }
-    ensures value { result ≡ from + length (word stop (drop from line.now)) }
+    ensures value { result.now ≡ word_at stop line.now from }
+    ensures within { from + length result.now ≤ length line.now }
 {
-    let mut i = from;
-    while i < line.len() {
-        if line[i] == stop {
-            return i;
-        }
-        i += 1;
-    }
-    i
-}
-
-// A word of 1 to 8 characters, the first no NUL, as a number that no other such word has; 0 for any other word.
-pub fn word_key(word: &[u8]) -> u64
-    ensures { result ≡ word_key word.now }
-{
-    if word.len() > 8 {
-        return 0;
-    }
-    if word.len() == 0 {
-        return 0;
-    }
-    if word[0] == 0 {
-        return 0;
-    }
-    let mut key: u64 = 0;
-    let mut i: usize = 0;
-    while i < word.len() {
-        key = 256 * key + word[i] as u64;
-        i += 1;
-    }
-    key
+    let rest = &line[from..];
+    let n = find(rest, stop).unwrap_or(rest.len());
+    &rest[..n]
 }

@@ -1,13 +1,12 @@
 // Answers the requests of the line protocol, one a line, from standard input to standard output.
 #![tactic(auto)]
 
-use bitio::numbers::least;
-use protocol::input;
-use protocol::input::{Input, read_line};
+use protocol::fields::Fields;
+use protocol::input::Input;
 use protocol::lent::mark_lent;
-use protocol::output::{Buffer, flush};
-use protocol::printer::{bad_line, put_answer};
-use replay_requests::{Request, operate, read_request};
+use protocol::output::{Buffer, Output};
+use protocol::printer::{Left, bad_line, put_answer};
+use replay_requests::{Given, Request, operate, read_request};
 
 // An end for each of a line's byte strings.
 const FIELDS: usize = 32768;
@@ -20,172 +19,116 @@ const ENDS: usize = 0x1_0000;
 
 const NUMBERS: usize = 0x4_0000;
 
-// The line of a request's answer, in memory that is lent exactly.
-fn answer_in(
-    request: Request,
-    s: &[u8],
-    ends: &[u32],
-    numbers: &[u64],
-    memory: &mut [u8],
-    out_ends: &mut [u32],
-    out_numbers: &mut [u64],
-    out: &mut Buffer,
-    at: usize,
-) -> usize {
-    let lent = request.lent;
-    let format = request.format;
-    let is_own = lent.is_own;
-    let key = request.key;
-    mark_lent(is_own, memory, out_ends, out_numbers);
-    let answer = operate(key, lent, s, ends, numbers, memory, out_ends, out_numbers);
-    put_answer(
-        answer,
-        format,
-        is_own,
-        memory,
-        out_ends,
-        out_numbers,
-        out,
-        at,
-    )
-}
-
-// The same, from all that the program has of each.
-fn answer_request(
-    request: Request,
-    decoded: &[u8],
-    ends: &[u32],
-    numbers: &[u64],
-    memory: &mut [u8],
-    out_ends: &mut [u32],
-    out_numbers: &mut [u64],
-    out: &mut Buffer,
-    at: usize,
-) -> usize {
-    if !request.is_line {
-        return at;
-    }
-    if !request.is_good {
-        return bad_line(out, at);
-    }
-    let fields = request.fields;
-    let lent = request
-        .lent
-        .within(memory.len(), out_ends.len(), out_numbers.len());
-    let s = least(fields.bytes, decoded.len());
-    let u = least(fields.ends, ends.len());
-    let n = least(fields.numbers, numbers.len());
-    let out_s = least(lent.bytes, memory.len());
-    let out_u = least(lent.ends, out_ends.len());
-    let out_n = least(lent.numbers, out_numbers.len());
-    answer_in(
-        request,
-        &decoded[0..s],
-        &ends[0..u],
-        &numbers[0..n],
-        &mut memory[0..out_s],
-        &mut out_ends[0..out_u],
-        &mut out_numbers[0..out_n],
-        out,
-        at,
-    )
-}
-
-// How far the program has come.
-#[derive(Clone, Copy)]
-struct Progress {
+// All that the program works in.
+#[derive(Drop)]
+struct Program {
     input: Input,
-    // how much output waits
-    at: usize,
+    piece: Buffer,
+    line: Buffer,
+    // where the fields of a line go
+    decoded: Buffer,
+    ends: [u32; FIELDS],
+    numbers: [u64; FIELDS],
+    // what requests are lent
+    memory: [u8; BYTES],
+    out_ends: [u32; ENDS],
+    out_numbers: [u64; NUMBERS],
+    output: Output,
 }
 
-// Answers the next line.
-fn advance(
-    rt: &impl std::io::Input,
-    piece: &mut Buffer,
-    line: &mut Buffer,
-    decoded: &mut [u8],
+// As many as fit of what the fields of a line gave.
+fn given<'a>(fields: Fields, bytes: &'a [u8], ends: &'a [u32], numbers: &'a [u64]) -> Given<'a> {
+    let s = fields.bytes.min(bytes.len());
+    let u = fields.ends.min(ends.len());
+    let n = fields.numbers.min(numbers.len());
+    Given {
+        bytes: &bytes[..s],
+        ends: &ends[..u],
+        numbers: &numbers[..n],
+    }
+}
+
+// The line of a request's answer, in memory of which so much as it asks for is lent, exactly.
+fn answer(
+    request: Request,
+    given: Given<'_>,
+    memory: &mut [u8],
     ends: &mut [u32],
     numbers: &mut [u64],
-    memory: &mut [u8],
-    out_ends: &mut [u32],
-    out_numbers: &mut [u64],
-    out: &mut Buffer,
-    so_far: Progress,
-) -> Progress {
-    let input = read_line(rt, piece, line, so_far.input);
-    let request = read_request(input, line, decoded, ends, numbers);
-    let at = answer_request(
-        request,
-        decoded,
+    output: &mut Output,
+) {
+    let lent = request.lent.within(memory.len(), ends.len(), numbers.len());
+    let s = lent.bytes.min(memory.len());
+    let u = lent.ends.min(ends.len());
+    let n = lent.numbers.min(numbers.len());
+    let memory = &mut memory[..s];
+    let ends = &mut ends[..u];
+    let numbers = &mut numbers[..n];
+    mark_lent(lent.is_own, memory, ends, numbers);
+    let answer = operate(
+        request.operation,
+        request.lent,
+        given,
+        memory,
         ends,
         numbers,
-        memory,
-        out_ends,
-        out_numbers,
-        out,
-        so_far.at,
     );
-    Progress { input, at }
+    let left = Left {
+        answer,
+        memory,
+        ends,
+        numbers,
+    };
+    put_answer(left, request.format, lent.is_own, output);
 }
 
-// Answers all lines. Nothing says that the input ends, so the turns are counted down from a number that no run uses up.
-fn serve(
-    rt: &impl std::io::Input,
-    piece: &mut Buffer,
-    line: &mut Buffer,
-    decoded: &mut [u8],
-    ends: &mut [u32],
-    numbers: &mut [u64],
-    memory: &mut [u8],
-    out_ends: &mut [u32],
-    out_numbers: &mut [u64],
-    out: &mut Buffer,
-    start: Progress,
-) {
-    let mut progress = start;
-    let mut turns = u64::MAX;
-    while turns > 0 && !progress.input.is_over {
-        progress = advance(
-            rt,
-            piece,
-            line,
-            decoded,
-            ends,
-            numbers,
-            memory,
-            out_ends,
-            out_numbers,
-            out,
-            progress,
+impl Program {
+    // Answers the line of so many characters that was read.
+    fn answer_line(&mut self, len: usize) {
+        let request = read_request(
+            len,
+            &self.line,
+            &mut self.decoded,
+            &mut self.ends,
+            &mut self.numbers,
         );
-        turns -= 1;
+        match request {
+            Some(request) => answer(
+                request,
+                given(request.fields, &self.decoded, &self.ends, &self.numbers),
+                &mut self.memory,
+                &mut self.out_ends,
+                &mut self.out_numbers,
+                &mut self.output,
+            ),
+            None => bad_line(&mut self.output),
+        }
     }
-    flush(out, progress.at);
+
+    // Answers all lines. Nothing says that the input ends, so the turns are counted up to a number that no run reaches.
+    fn serve(&mut self, rt: &impl std::io::Input) {
+        for _ in 0..u64::MAX {
+            let Some(len) = self.input.read_line(rt, &mut self.piece, &mut self.line) else {
+                break;
+            };
+            self.answer_line(len);
+        }
+        self.output.flush();
+    }
 }
 
 fn main(rt: HostRuntime) {
-    let mut piece = io::large_buffer();
-    let mut line = io::large_buffer();
-    let mut decoded = io::large_buffer();
-    let mut ends = [0u32; FIELDS];
-    let mut numbers = [0u64; FIELDS];
-    let mut memory = [0u8; BYTES];
-    let mut out_ends = [0u32; ENDS];
-    let mut out_numbers = [0u64; NUMBERS];
-    let mut out = io::large_buffer();
-    let input = input::start();
-    serve(
-        &rt,
-        &mut piece,
-        &mut line,
-        &mut decoded,
-        &mut ends,
-        &mut numbers,
-        &mut memory,
-        &mut out_ends,
-        &mut out_numbers,
-        &mut out,
-        Progress { input, at: 0 },
-    );
+    let mut program = Program {
+        input: Input::new(),
+        piece: io::large_buffer(),
+        line: io::large_buffer(),
+        decoded: io::large_buffer(),
+        ends: [0; FIELDS],
+        numbers: [0; FIELDS],
+        memory: [0; BYTES],
+        out_ends: [0; ENDS],
+        out_numbers: [0; NUMBERS],
+        output: Output::new(),
+    };
+    program.serve(&rt);
 }

@@ -1,5 +1,6 @@
 -- What the requests on bits, OBUs and headers are answered, with the memory lent to them.
 use Rattle.std.specs.Prelude.{ℕ, ◌%◌, ◌^◌, ◌≡◌, List, [], ◌∷◌, Bool, cond as pick, length, eqb}
+use Rattle.std.specs.Prelude.{Option as Optional, Some, None}
 use Rattle.std.proofs.Math.Option.{Option, none, some}
 use mir.Val.{bool_byte}
 use Rattle.bitio.specs.Parse.{Answer, refused, accepted, answer, and_next}
@@ -8,8 +9,6 @@ use Rattle.bitio.specs.Bits.{Reading, fails, reads, read_bits}
 use Rattle.bitio.specs.Uvlc.{read_uvlc}
 use Rattle.bitio.specs.Leb.{read_leb, leb_answer, leb_bytes}
 use Rattle.bitio.specs.Lent.{placed, lent}
-use Rattle.bitio.specs.declared.leb128.Leb.{Leb}
-use Rattle.bitio.specs.declared.leb128.Leb.TheVariants.{Value, Bad}
 use Rattle.obu.specs.Obu.{Obu, obus}
 use Rattle.obu.specs.Write.{obu_placed, obu_lent}
 use Rattle.header.specs.Sequence.{Sequence, parse_sequence}
@@ -18,12 +17,12 @@ use Rattle.header.specs.declared.seq_header.SequenceHeader.{SequenceHeader}
 use Rattle.header.specs.Timed.{timed}
 use Rattle.emit.specs.Emit.{emit_placed, emit_lent}
 use Rattle.frame.specs.Frame.{parse_frame_from}
+use Rattle.frame.specs.FrameType.{type_number}
 use Rattle.frame.specs.declared.frame_header.FrameHeaderInfo.{FrameHeaderInfo}
 use Rattle.frame.specs.declared.frame_header.FrameHeaderInfo.TheVariants.{Existing, Frame}
-use Rattle.protocol.specs.Answers.{parts_of, refused_with, Numbered, Filled, filled}
+use Rattle.protocol.specs.Answers.{Line, parts_of, refused_with, Numbered, Filled, filled}
 use Rattle.protocol.specs.Kinds.{no_byte}
 use Rattle.protocol.specs.Told.{told_by, count_told, numbers_by, Told, told, tell_numbers, tell_parts}
-use Rattle.protocol.specs.declared.answer.Answer.{Answer as Line}
 use Rattle.replay_headers.specs.Fields.{sequence_fields}
 
 -- ---- bits and leb128: a number, and the place behind it
@@ -33,9 +32,9 @@ reading_answer (fails k) = refused k
 reading_answer (reads v p) = accepted (v ∷ p ∷ [])
 
 -- 4: no number
-abbrev pub leb_says : Leb → Answer (List ℕ)
-leb_says (Value v n) = accepted (v ∷ n ∷ [])
-leb_says Bad = refused 4
+abbrev pub leb_says : Optional (ℕ × ℕ) → Answer (List ℕ)
+leb_says (Some (v, n)) = accepted (v ∷ n ∷ [])
+leb_says None = refused 4
 
 -- bits DATA POS N
 abbrev pub bits_told : List ℕ → ℕ → ℕ → List ℕ → Numbered
@@ -128,7 +127,7 @@ emit_told s is-timed num den m = emitted_told (emitted_of is-timed (num % 2 ^ 32
 
 abbrev pub frame_fields : FrameHeaderInfo → List ℕ
 frame_fields (Existing slot) = 1 ∷ slot ∷ []
-frame_fields (Frame f) = 0 ∷ f.frame_type ∷ bool_byte f.show_frame ∷ bool_byte f.showable_frame ∷ f.refresh_frame_flags ∷ f.order_hint ∷ []
+frame_fields (Frame f) = 0 ∷ type_number f.frame_type ∷ bool_byte f.show_frame ∷ bool_byte f.showable_frame ∷ f.refresh_frame_flags ∷ f.order_hint ∷ []
 
 -- frame SEQUENCE FRAME
 abbrev pub frame_told : List ℕ → List ℕ → List ℕ → Numbered

@@ -2,6 +2,7 @@
 #![tactic(auto)]
 
 pub mod bitio_ops;
+mod count;
 pub mod header_ops;
 pub mod obu_ops;
 mod sequence_fields;

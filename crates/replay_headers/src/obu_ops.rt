@@ -2,23 +2,21 @@
 ghost use Rattle.std.specs.Prelude.{◌≡◌};
 ghost use Rattle.obu.specs.Place.{extension_says, part};
 ghost use Rattle.obu.specs.Write.{obu};
-ghost use Rattle.protocol.specs.Answers.{filled};
+ghost use Rattle.protocol.specs.Answers.{line, filled};
 ghost use Rattle.protocol.specs.Told.{told};
 ghost use Rattle.replay_headers.specs.Headers.{extension_number, extension_from, tell_obu, AllTold, obus_told, obuput_told};
 
-use obu::reader::{Extension, Obu, ObuAt, obu_at, payload};
-use obu::unit::{Counted, Kind, count_obus};
-use obu::writer::{ObuPut, put_obu};
-use protocol::answer::{Answer, done, parts, refused};
+use crate::count::count;
+use obu::reader::{Obu, obu_at, payload};
+use obu::unit::{Kind, count_obus};
+use obu::writer::put_obu;
+use protocol::answer::{Answer, done, refused};
 use protocol::kinds::NO_BYTE;
 
-fn extension_number(extension: Extension) -> u64
+fn extension_number(extension: Option<u8>) -> u64
     ensures { result ≡ extension_number (extension_says extension) }
 {
-    match extension {
-        Extension::Absent => NO_BYTE,
-        Extension::Byte(e) => e as u64,
-    }
+    extension.map_or(NO_BYTE, |e| e as u64)
 }
 
 // One more OBU: TYPE and EXT, and its payload as a part.
@@ -30,11 +28,11 @@ fn put_one(
     ends: &mut [u32],
     numbers: &mut [u64],
 ) -> Answer
-    ensures { told result memory.new ends.new numbers.new ≡ tell_obu (told so_far memory.old ends.old numbers.old) (obu o.obu_type (extension_says o.extension) (part s.now o.start o.end)) }
+    ensures { told (line result) memory.new ends.new numbers.new ≡ tell_obu (told (line so_far) memory.old ends.old numbers.old) (obu o.obu_type (extension_says o.extension) (part s.now o.start o.end)) }
 {
-    let extension = o.extension;
-    let answer = so_far.pair(o.obu_type as u64, extension_number(extension), numbers);
-    answer.part(payload(s, o.start, o.end), memory, ends)
+    so_far
+        .pair(o.obu_type as u64, extension_number(o.extension), numbers)
+        .part(payload(s, o.start, o.end), memory, ends)
 }
 
 // All OBUs of a unit that reads.
@@ -45,14 +43,11 @@ fn put_obus(
     ends: &mut [u32],
     numbers: &mut [u64],
 ) -> Answer
-    ensures { AllTold s.now (told so_far memory.old ends.old numbers.old) (told result memory.new ends.new numbers.new) }
+    ensures { AllTold s.now (told (line so_far) memory.old ends.old numbers.old) (told (line result) memory.new ends.new numbers.new) }
 {
     let mut answer = so_far;
     let mut at: usize = 0;
-    while at < s.len() {
-        let ObuAt::Found(o) = obu_at(s, at) else {
-            return answer;
-        };
+    while let Some(o) = obu_at(s, at).unwrap_or(None) {
         answer = put_one(s, o, answer, memory, ends, numbers);
         at = o.end;
     }
@@ -61,34 +56,31 @@ fn put_obus(
 
 // obus UNIT
 pub fn obus(s: &[u8], memory: &mut [u8], ends: &mut [u32], numbers: &mut [u64]) -> Answer
-    ensures { told result memory.new ends.new numbers.new ≡ obus_told s.now memory.old ends.old numbers.old }
+    ensures { told (line result) memory.new ends.new numbers.new ≡ obus_told s.now memory.old ends.old numbers.old }
 {
     match count_obus(s, Kind::Any) {
-        Counted::Count(n) => {
+        Ok(n) => {
             let answer = done().number(n as u64, numbers);
             put_obus(s, answer, memory, ends, numbers)
         }
-        Counted::Refused(k) => refused(k),
+        Err(refusal) => refused(refusal),
     }
 }
 
-fn extension_of(value: u64) -> Extension
+fn extension_of(value: u64) -> Option<u8>
     ensures { extension_says result ≡ extension_from value }
 {
     if value == NO_BYTE {
-        return Extension::Absent;
+        None
+    } else {
+        Some((value % 256) as u8)
     }
-    Extension::Byte((value % 256) as u8)
 }
 
 // obuput TYPE EXT PAYLOAD
 pub fn obuput(kind: u64, extension: u64, payload: &[u8], memory: &mut [u8]) -> Answer
-    ensures { filled result memory.new ≡ obuput_told kind extension payload.now memory.old }
+    ensures { filled (line result) memory.new ≡ obuput_told kind extension payload.now memory.old }
 {
-    let e = extension_of(extension);
-    match put_obu(memory, 0, (kind % 256) as u8, e, payload) {
-        ObuPut::Next(n) => parts(n, 0),
-        ObuPut::WrongType => refused(2),
-        ObuPut::Full => refused(35),
-    }
+    let obu_type = (kind % 256) as u8;
+    count(put_obu(memory, 0, obu_type, extension_of(extension), payload))
 }

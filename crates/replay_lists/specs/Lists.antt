@@ -4,15 +4,17 @@ use Rattle.std.proofs.Math.Option.{none, some}
 use Rattle.blocks.specs.Numbers.{record_of}
 use Rattle.pictures.specs.declared.settings.Settings.{Settings}
 use Rattle.pictures.specs.Assemble.{Outcome, stopped, made, Output, named}
-use Rattle.assemble.specs.Whole.{Lent, outcome, lent_after, counts_of}
+use Rattle.assemble.specs.Whole.{Lent, six, outcome, lent_after, counts_of}
 use Rattle.assemble.specs.declared.multi.Counts.{Counts}
-use Rattle.protocol.specs.declared.answer.Answer.{Answer as Line}
 use Rattle.protocol.specs.declared.lent.Lent.{Lent as LineLent}
-use Rattle.protocol.specs.Answers.{parts_of, refused_with}
-use Rattle.protocol.specs.Kinds.{number_kind, named_kind, after_comma}
+use Rattle.protocol.specs.Answers.{Line, parts_of, refused_with}
+use Rattle.protocol.specs.Kinds.{plain, after_comma, item_code}
+use Rattle.protocol.specs.declared.kinds.Item.{Item}
+use Rattle.protocol.specs.declared.kinds.Kind.TheVariants.{Number, Named}
 use Rattle.protocol.specs.Marked.{byte_mark, end_mark, is_marked}
 use Rattle.obu.specs.Place.{part}
 use Rattle.protocol.specs.Told.{Told, told, tell_numbers, tell_parts}
+use Rattle.replay_lists.specs.declared.assembled.Slices.{Slices}
 
 -- ---- what is asked: the fields GOP FPS DEN, then the frames of each segment
 
@@ -39,15 +41,14 @@ segment_records es fs i (suc k) = segment_record es fs i ++ segment_records es f
 abbrev pub segments_asked : List ℕ → ℕ
 segments_asked es = min (length es / 2) 10923
 
--- the six, by name
-abbrev pub slices_of : (list cues pictures ends shows header : List ℕ) → Lent
-slices_of list cues pictures ends shows header =
-    record { list = list; cues = cues; pictures = pictures; ends = ends; shows = shows; header = header }
+-- the slices that assembly is lent, in the code
+abbrev pub handed : Slices → Lent
+handed x = six x.list.now x.cues.now x.pictures.now x.ends.now x.shows.now x.header.now
 
 -- list, cues and picture bytes as the request lends them, the others ample; all are marked
 abbrev pub slices_lent : LineLent → Lent
 slices_lent room =
-    slices_of (replicate (min room.ends 32768) end_mark) (replicate (min room.numbers 32768) end_mark) (replicate (min room.bytes 65536) byte_mark)
+    six (replicate (min room.ends 32768) end_mark) (replicate (min room.numbers 32768) end_mark) (replicate (min room.bytes 65536) byte_mark)
     (replicate 32768 end_mark) (replicate 54615 byte_mark) (replicate 32768 byte_mark)
 
 -- ---- what is told, d being the slices after the call
@@ -66,14 +67,14 @@ abbrev pub parts_made : Counts → Lent → List (List ℕ)
 parts_made c d = entry_units d.pictures d.ends d.shows 0 (entry_count c) ++ (part d.header 0 c.header ∷ [])
 
 -- numbers that tell their kinds: that of the first, and that of the others
-unfoldable pub kind_fields : ℕ → ℕ → List ℕ → List ℕ
+unfoldable pub kind_fields : Item → Item → List ℕ → List ℕ
 kind_fields first others [] = []
-kind_fields first others (v ∷ vs) = first ∷ v ∷ kind_fields others others vs
+kind_fields first others (v ∷ vs) = item_code first ∷ v ∷ kind_fields others others vs
 
 -- how many units, the slot, the header's part; each cue, a comma before all but the first; the part that each entry names
 abbrev pub numbers_made : Counts → (list cues : List ℕ) → List ℕ
 numbers_made c list cues =
-    (c.units ∷ c.golden_slot ∷ entry_count c ∷ []) ++ (kind_fields number_kind (after_comma number_kind) (take c.cues cues) ++ kind_fields named_kind named_kind (take c.units list))
+    (c.units ∷ c.golden_slot ∷ entry_count c ∷ []) ++ (kind_fields (plain Number) (after_comma Number) (take c.cues cues) ++ kind_fields (plain Named) (plain Named) (take c.units list))
 
 -- in the memory s, es, ns lent to the answer; a refusal leaves its bytes and ends
 unfoldable pub assembled_told : Outcome Counts → Lent → List ℕ → List ℕ → List ℕ → Told
@@ -94,7 +95,7 @@ slices_marked c d =
     && is_marked byte_mark (drop c.header d.header)
 
 abbrev pub as_dirty : Bool → Line → Line
-as_dirty dirty a = record { refusal = a.refusal; bytes = a.bytes; ends = a.ends; numbers = a.numbers; is_dirty = dirty }
+as_dirty dirty a = record a { is_dirty = dirty }
 
 -- told as dirty, unless all is marked
 unfoldable pub handed_told : Outcome Counts → Lent → List ℕ → List ℕ → List ℕ → Told

@@ -1,25 +1,30 @@
 -- What a request to play is answered: for each unit what was shown, with its kind told.
 use Rattle.std.specs.Prelude.{ℕ, suc, List, [], ◌∷◌, ◌++◌}
-use Rattle.player.specs.Values.{played_by, start_state}
-use Rattle.player.specs.declared.slots.Answer.{Answer as Shows}
-use Rattle.player.specs.declared.slots.Answer.TheVariants.{Shown, Nothing, Refused}
-use Rattle.player.specs.declared.step.State.{State}
+use Rattle.std.proofs.Math.Option.{Option, none, some}
+use Rattle.bitio.specs.Parse.{Answer, refused, accepted, answer}
 use Rattle.obu.specs.Place.{part_in}
+use Rattle.player.specs.Player.{State, start, play, state_after}
 use Rattle.protocol.specs.Answers.{parts_of, Numbered, numbered, with_numbers}
-use Rattle.protocol.specs.Kinds.{number_kind, optional_byte_kind, no_byte, refused_kind}
+use Rattle.protocol.specs.Kinds.{plain, item_code, no_byte}
+use Rattle.protocol.specs.declared.kinds.Kind.TheVariants.{Number, OptionalByte, Refused}
 
 -- a position as a number, `-`, or `no` and document 01's number
-abbrev pub shown_fields : Shows → List ℕ
-shown_fields (Shown q) = number_kind ∷ q ∷ []
-shown_fields Nothing = optional_byte_kind ∷ no_byte ∷ []
-shown_fields (Refused k) = refused_kind ∷ k ∷ []
+abbrev pub shown_fields : Answer (Option ℕ) → List ℕ
+shown_fields (accepted (some q)) = item_code (plain Number) ∷ q ∷ []
+shown_fields (accepted none) = item_code (plain OptionalByte) ∷ no_byte ∷ []
+shown_fields (refused k) = item_code (plain Refused) ∷ k ∷ []
+
+-- what the unit u, played under position p, shows
+abbrev pub shown_by : State → ℕ → List ℕ → Answer (Option ℕ)
+shown_by st p u = answer (λ r. r.shown) (play st p u)
 
 -- byte string i of s, es being the ends, is played under the first position, and so on
 unfoldable pub play_fields : List ℕ → List ℕ → State → ℕ → List ℕ → List ℕ
 play_fields s es st i [] = []
 play_fields s es st i (p ∷ ps) =
-    shown_fields (played_by st p (part_in s es i)).answer ++ play_fields s es (played_by st p (part_in s es i)).state (suc i) ps
+    let u = part_in s es i in
+    shown_fields (shown_by st p u) ++ play_fields s es (state_after st p u) (suc i) ps
 
 -- play POS:UNIT .., from empty slots on
 abbrev pub play_told : (s es ps ns : List ℕ) → Numbered
-play_told s es ps ns = with_numbers (numbered (parts_of 0 0) ns) (play_fields s es start_state 0 ps)
+play_told s es ps ns = with_numbers (numbered (parts_of 0 0) ns) (play_fields s es start 0 ps)

@@ -1,16 +1,15 @@
 // The operation of the crate assemble.
-ghost use Rattle.std.specs.Prelude.{◌≡◌, replicate};
+ghost use Rattle.std.specs.Prelude.{◌≡◌};
 ghost use Rattle.bitio.specs.Lent.{pasted};
 ghost use Rattle.blocks.specs.Numbers.{segment_count};
 ghost use Rattle.assemble.specs.Whole.{outcome};
-ghost use Rattle.protocol.specs.Marked.{byte_mark, end_mark};
+ghost use Rattle.protocol.specs.Answers.{line};
 ghost use Rattle.protocol.specs.Told.{told};
-ghost use Rattle.replay_lists.specs.Lists.{settings_of, segment_records, slices_of, slices_lent, outcome_told, assemble_told};
+ghost use Rattle.replay_lists.specs.Lists.{settings_of, segment_records, slices_lent, outcome_told, assemble_told};
 
-use crate::assembled::put_assembled;
+use crate::assembled::Slices;
 use assemble::multi::assemble_multi;
 use bitio::ends::{end_of, start_of};
-use bitio::numbers::least;
 use blocks::numbers::{Segment, WIDTH, put_record, segment_count};
 use pictures::settings::Settings;
 use protocol::answer::Answer;
@@ -39,9 +38,7 @@ fn settings_of(numbers: &[u64]) -> Settings
 fn put_segments(ends: &[u32], numbers: &[u64], segments: &mut [u64])
     ensures { segments.new ≡ pasted segments.old 0 (segment_records ends.now numbers.now 0 (segment_count segments.old)) }
 {
-    let count = segment_count(segments);
-    let mut i: usize = 0;
-    while i < count {
+    for i in 0..segment_count(segments) {
         let middle = end_of(ends, 2 * i) as u64;
         put_record(
             segments,
@@ -54,44 +51,10 @@ fn put_segments(ends: &[u32], numbers: &[u64], segments: &mut [u64])
                 frames: number_at(numbers, 3 + i),
             },
         );
-        i += 1;
     }
 }
 
-// Assembly into lent slices, and what it left in them.
-fn assemble_into(
-    settings: Settings,
-    s: &[u8],
-    segments: &[u64],
-    list: &mut [u32],
-    cues: &mut [u32],
-    pictures: &mut [u8],
-    memory: &mut [u8],
-    out_ends: &mut [u32],
-    numbers: &mut [u64],
-) -> Answer
-    ensures { told result memory.new out_ends.new numbers.new ≡ outcome_told (outcome s.now segments.now settings (slices_of list.old cues.old pictures.old (replicate 32768 end_mark) (replicate 54615 byte_mark) (replicate 32768 byte_mark))) (slices_of list.old cues.old pictures.old (replicate 32768 end_mark) (replicate 54615 byte_mark) (replicate 32768 byte_mark)) memory.old out_ends.old numbers.old }
-{
-    let mut ends = [END_MARK; ENDS_LENT];
-    let mut shows = [0xa5u8; SHOWS];
-    let mut header = [0xa5u8; ENDS_LENT];
-    let answer = assemble_multi(
-        s,
-        segments,
-        settings,
-        list,
-        cues,
-        pictures,
-        &mut ends,
-        &mut shows,
-        &mut header,
-    );
-    put_assembled(
-        answer, list, cues, pictures, &ends, &shows, &header, memory, out_ends, numbers,
-    )
-}
-
-// The same, where list, cues and picture bytes are lent exactly.
+// Assembly into slices of which list, cues and picture bytes are lent exactly, and what it left in them.
 fn assemble_lent(
     settings: Settings,
     lent: Lent,
@@ -101,43 +64,29 @@ fn assemble_lent(
     out_ends: &mut [u32],
     numbers: &mut [u64],
 ) -> Answer
-    ensures { told result memory.new out_ends.new numbers.new ≡ outcome_told (outcome s.now segments.now settings (slices_lent lent)) (slices_lent lent) memory.old out_ends.old numbers.old }
+    ensures { told (line result) memory.new out_ends.new numbers.new ≡ outcome_told (outcome s.now segments.now settings (slices_lent lent)) (slices_lent lent) memory.old out_ends.old numbers.old }
 {
-    let mut list = [END_MARK; ENDS_LENT];
-    let mut cues = [END_MARK; ENDS_LENT];
-    let mut pictures = [0xa5u8; BYTES_LENT];
-    let u = least(lent.ends, ENDS_LENT);
-    let t = least(lent.numbers, ENDS_LENT);
-    let b = least(lent.bytes, BYTES_LENT);
-    assemble_into(
-        settings,
-        s,
-        segments,
-        &mut list[0..u],
-        &mut cues[0..t],
-        &mut pictures[0..b],
-        memory,
-        out_ends,
-        numbers,
-    )
-}
-
-// The same, where `segments` has room for the numbers of just those that there are.
-fn assemble_with(
-    lent: Lent,
-    s: &[u8],
-    ends: &[u32],
-    fields: &[u64],
-    segments: &mut [u64],
-    memory: &mut [u8],
-    out_ends: &mut [u32],
-    numbers: &mut [u64],
-) -> Answer
-    ensures { told result memory.new out_ends.new numbers.new ≡ outcome_told (outcome s.now (pasted segments.old 0 (segment_records ends.now fields.now 0 (segment_count segments.old))) (settings_of fields.now) (slices_lent lent)) (slices_lent lent) memory.old out_ends.old numbers.old }
-{
-    put_segments(ends, fields, segments);
-    let settings = settings_of(fields);
-    assemble_lent(settings, lent, s, segments, memory, out_ends, numbers)
+    let list = &mut [END_MARK; ENDS_LENT];
+    let cues = &mut [END_MARK; ENDS_LENT];
+    let pictures = &mut [0xa5u8; BYTES_LENT];
+    let ends = &mut [END_MARK; ENDS_LENT];
+    let shows = &mut [0xa5u8; SHOWS];
+    let header = &mut [0xa5u8; ENDS_LENT];
+    let list = &mut list[..lent.ends.min(ENDS_LENT)];
+    let cues = &mut cues[..lent.numbers.min(ENDS_LENT)];
+    let pictures = &mut pictures[..lent.bytes.min(BYTES_LENT)];
+    let made = assemble_multi(
+        s, segments, settings, list, cues, pictures, ends, shows, header,
+    );
+    let slices = Slices {
+        list,
+        cues,
+        pictures,
+        ends,
+        shows,
+        header,
+    };
+    slices.put_handed(made, memory, out_ends, numbers)
 }
 
 // assemble GOP FPS DEN KEY GOLDEN FRAMES ..
@@ -150,18 +99,11 @@ pub fn assemble(
     out_ends: &mut [u32],
     numbers: &mut [u64],
 ) -> Answer
-    ensures { told result memory.new out_ends.new numbers.new ≡ assemble_told lent s.now ends.now fields.now memory.old out_ends.old numbers.old }
+    ensures { told (line result) memory.new out_ends.new numbers.new ≡ assemble_told lent s.now ends.now fields.now memory.old out_ends.old numbers.old }
 {
     let mut segments = [0u64; NUMBERS];
-    let len = WIDTH * least(ends.len() / 2, SEGMENTS);
-    assemble_with(
-        lent,
-        s,
-        ends,
-        fields,
-        &mut segments[0..len],
-        memory,
-        out_ends,
-        numbers,
-    )
+    let segments = &mut segments[..WIDTH * (ends.len() / 2).min(SEGMENTS)];
+    put_segments(ends, fields, segments);
+    let settings = settings_of(fields);
+    assemble_lent(settings, lent, s, segments, memory, out_ends, numbers)
 }

@@ -1,3 +1,1 @@
-mod TableLaws
-mod OperateLaws
-mod RequestLaws
+pub mod RowLaws

@@ -1,76 +1,67 @@
 -- A line as a request: its name's row, its fields, and what it is lent.
-use Rattle.std.specs.Prelude.{ℕ, ◌+◌, min, List, true, ◌&&◌, length, take, eqb}
-use Rattle.protocol.specs.Text.{word_at, word_key}
+use Rattle.std.specs.Prelude.{ℕ, ◌+◌, min, List, Option, Some, None, cond as pick, length, take, leb, eqb}
+use Rattle.std.specs.Option.{option_map, option_and_then}
+use Rattle.protocol.specs.Text.{word_at}
+use Rattle.protocol.specs.Kinds.{Form, form}
 use Rattle.protocol.specs.Room.{room_prefix, lent_by, is_there}
-use Rattle.protocol.specs.Fields.{FieldsRead, fields_of, is_all_of}
-use Rattle.protocol.specs.Lines.{is_line}
-use Rattle.protocol.specs.declared.input.Input.{Input}
-use Rattle.protocol.specs.declared.lent.Room.{Room}
+use Rattle.protocol.specs.Fields.{Place, place, FieldsRead, fields_of}
+use Rattle.protocol.specs.declared.lent.Prefix.{Prefix}
 use Rattle.protocol.specs.declared.lent.Lent.{Lent}
-use Rattle.replay_requests.specs.Rows.{fields_asked, fields_answered, lends, row_of}
-use Rattle.replay_requests.specs.declared.Row.{Row}
-use Rattle.replay_requests.specs.declared.Request.{Request}
+use Rattle.replay_requests.specs.Rows.{Row, row_of}
+use Rattle.replay_requests.specs.declared.rows.Operation.{Operation}
+use Rattle.replay_requests.specs.declared.requests.Request.{Request}
 
--- a request, and the memory that its fields went to
+-- an operation on the fields read, how its answer is printed, and what it is lent
+pub record Asked : Type 0 where
+  pub operation : Operation
+  pub fields : Place
+  pub format : Form
+  pub lent : Lent
+
+abbrev pub asked : Request → Asked
+asked r = record { operation = r.operation; fields = place r.fields; format = form r.format; lent = r.lent }
+
+-- a request, if there is one, and the memory that its fields went to
 pub record Requested : Type 0 where
-  pub request : Request
+  pub request : Option Asked
   pub decoded : List ℕ
   pub ends : List ℕ
   pub numbers : List ℕ
 
-abbrev pub requested : Request → (decoded ends numbers : List ℕ) → Requested
-requested r d es ns = record { request = r; decoded = d; ends = es; numbers = ns }
+abbrev pub requested : Option Request → (decoded ends numbers : List ℕ) → Requested
+requested r d es ns = record { request = option_map asked r; decoded = d; ends = es; numbers = ns }
 
--- of the line s, whose name stands at `from`
-abbrev pub request_with : List ℕ → Room → ℕ → ℕ → Row → Lent → FieldsRead → Requested
-request_with s room from key row lent t =
-    requested
-    (record {
-      is_line = true;
-      is_good = (eqb room.next from && is_all_of t.fields s) && is_there lent;
-      key = key;
-      fields = t.fields;
-      format = fields_answered row;
-      lent = lent;
-    })
-    t.decoded t.ends t.numbers
+abbrev pub no_request : (decoded ends numbers : List ℕ) → Requested
+no_request d es ns = record { request = None; decoded = d; ends = es; numbers = ns }
 
--- behind a prefix `room`, if there is one
-abbrev pub name_from : List ℕ → ℕ
-name_from s = min (room_prefix s).next (length s)
+-- no more is lent than there is
+abbrev pub lent_asked : Row → Lent → Place → Option Asked
+lent_asked r l f = pick (is_there l) (Some (record { operation = r.operation; fields = f; format = r.answers; lent = l })) None
 
-abbrev pub name_in : List ℕ → List ℕ
-name_in s = word_at 32 s (name_from s)
-
-abbrev pub row_in : List ℕ → Row
-row_in s = row_of (word_key (name_in s))
+abbrev pub asked_with : Row → Lent → FieldsRead → Requested
+asked_with r l t = record { request = option_and_then (lent_asked r l) t.fields; decoded = t.decoded; ends = t.ends; numbers = t.numbers }
 
 -- the fields behind the name
-abbrev pub fields_read_in : List ℕ → (decoded ends numbers : List ℕ) → FieldsRead
-fields_read_in s d es ns = fields_of s (name_from s + length (name_in s) + 1) (fields_asked (row_in s)) d es ns
+abbrev pub named_by : List ℕ → Prefix → (decoded ends numbers : List ℕ) → Option Row → Requested
+named_by s p d es ns None = no_request d es ns
+named_by s p d es ns (Some r) =
+    asked_with r (lent_by r.lends p.room) (fields_of s (p.next + length (word_at 32 s p.next) + 1) r.asks d es ns)
+
+-- the name behind a prefix `room`, if there is one
+abbrev pub prefixed_by : List ℕ → (decoded ends numbers : List ℕ) → Option Prefix → Requested
+prefixed_by s d es ns None = no_request d es ns
+prefixed_by s d es ns (Some p) = pick (leb p.next (length s)) (named_by s p d es ns (row_of (word_at 32 s p.next))) (no_request d es ns)
 
 unfoldable pub request_in : List ℕ → (decoded ends numbers : List ℕ) → Requested
-request_in s d es ns =
-    request_with s (room_prefix s) (name_from s) (word_key (name_in s)) (row_in s) (lent_by (room_prefix s) (lends (row_in s))) (fields_read_in s d es ns)
+request_in s d es ns = prefixed_by s d es ns (room_prefix s)
 
--- ---- what was kept of a line: of one that was too long, not all
+-- ---- what was kept of a line of n characters: of one that was too long, not all
 
-abbrev pub kept_line : Input → List ℕ → List ℕ
-kept_line i kept = take (min i.len (length kept)) kept
+abbrev pub kept_whole : ℕ → List ℕ → Asked → Option Asked
+kept_whole n kept a = pick (eqb (min n (length kept)) n) (Some a) None
 
-abbrev pub judged_request : Input → List ℕ → Request → Request
-judged_request i kept r =
-    record {
-      is_line = is_line i;
-      is_good = r.is_good && eqb (min i.len (length kept)) i.len;
-      key = r.key;
-      fields = r.fields;
-      format = r.format;
-      lent = r.lent;
-    }
+abbrev pub judged : ℕ → List ℕ → Requested → Requested
+judged n kept q = record { request = option_and_then (kept_whole n kept) q.request; decoded = q.decoded; ends = q.ends; numbers = q.numbers }
 
-abbrev pub judged_from : Input → List ℕ → Requested → Requested
-judged_from i kept q = requested (judged_request i kept q.request) q.decoded q.ends q.numbers
-
-unfoldable pub request_of : Input → List ℕ → (decoded ends numbers : List ℕ) → Requested
-request_of i kept d es ns = judged_from i kept (request_in (kept_line i kept) d es ns)
+unfoldable pub request_of : ℕ → List ℕ → (decoded ends numbers : List ℕ) → Requested
+request_of n kept d es ns = judged n kept (request_in (take (min n (length kept)) kept) d es ns)

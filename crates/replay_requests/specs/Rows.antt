@@ -1,56 +1,84 @@
 -- The requests: what each asks for, what it is answered, and what it is lent (docs/FORMATS.md has the same table).
-use Rattle.std.specs.Prelude.{ℕ, ◌+◌, List, [], ◌∷◌}
+use Rattle.std.specs.Prelude.{ℕ, List, [], ◌∷◌, true, false, cond as pick, Option, Some, None}
+use Rattle.std.specs.List.{find}
+use Rattle.std.specs.Str.{bytes_eq}
 use Prim.Native.String.{String}
-use Rattle.protocol.specs.Kinds.{bytes_kind, number_kind, number32_kind, byte_kind, optional_byte_kind, count_kind, named_kind, told_kind, no_kind, after_colon, after_comma, just, any, then_any}
-use Rattle.protocol.specs.Room.{lends_bytes, lends_few_bytes, lends_ends, lends_numbers, fills_own}
-use Rattle.protocol.specs.declared.kinds.Format.{Format}
-use Rattle.replay_requests.specs.declared.Row.{Row}
-use Rattle.replay_requests.specs.Table.{found}
+use Rattle.protocol.specs.Text.{ascii}
+use Rattle.protocol.specs.Kinds.{Form, form, just, any, then_any, plain, after_colon, after_comma}
+use Rattle.protocol.specs.declared.kinds.Kind.TheVariants.{Bytes, Number, Number32, Byte, OptionalByte, Count, Named, Told}
+use Rattle.protocol.specs.declared.lent.Shares.{Shares}
+use Rattle.protocol.specs.declared.lent.Share.TheVariants.{Nothing, Few, All}
+use Rattle.replay_requests.specs.declared.rows.Operation.{Operation}
+use Rattle.replay_requests.specs.declared.rows.Operation.TheVariants as Op
+use Rattle.replay_requests.specs.declared.rows.Row.{Row as CodeRow}
 
-abbrev pub row : (asks answers : Format) → ℕ → Row
-row f g lent = (f.kinds, f.repeated, g.kinds, g.repeated, lent)
+pub record Row : Type 0 where
+  pub operation : Operation
+  pub asks : Form
+  pub answers : Form
+  pub lends : Shares
 
-abbrev pub fields_asked : Row → Format
-fields_asked r = record { kinds = r.0; repeated = r.1 }
+abbrev pub row : CodeRow → Row
+row r = record { operation = r.operation; asks = form r.asks; answers = form r.answers; lends = r.lends }
 
-abbrev pub fields_answered : Row → Format
-fields_answered r = record { kinds = r.2; repeated = r.3 }
+abbrev pub named_row : CodeRow → List ℕ × Row
+named_row r = (r.name.now, row r)
 
-abbrev pub lends : Row → ℕ
-lends r = r.4
+-- what each sort of request is lent: nothing but memory of its own; bytes, few or all; ends too; numbers too; all and its own
+abbrev pub own : Shares
+own = record { is_own = true; bytes = Nothing; ends = Nothing; numbers = Nothing }
 
--- DATA into units, and UNIT .. into bytes, of either container
-abbrev pub split_row : Row
-split_row = row (just (bytes_kind ∷ [])) (then_any (count_kind ∷ []) (bytes_kind ∷ [])) (lends_bytes + lends_ends)
+abbrev pub few_bytes : Shares
+few_bytes = record { is_own = false; bytes = Few; ends = Nothing; numbers = Nothing }
 
-abbrev pub write_row : Row
-write_row = row (any (bytes_kind ∷ [])) (just (bytes_kind ∷ [])) lends_bytes
+abbrev pub all_bytes : Shares
+all_bytes = record { is_own = false; bytes = All; ends = Nothing; numbers = Nothing }
 
-unfoldable pub rows : List (String × Row)
+abbrev pub bytes_and_ends : Shares
+bytes_and_ends = record { is_own = false; bytes = All; ends = All; numbers = Nothing }
+
+abbrev pub all_three : Shares
+all_three = record { is_own = false; bytes = All; ends = All; numbers = All }
+
+abbrev pub all_and_own : Shares
+all_and_own = record { is_own = true; bytes = All; ends = All; numbers = All }
+
+abbrev pub named : String → Operation → (asks answers : Form) → Shares → List ℕ × Row
+named name o f g l = (ascii name, record { operation = o; asks = f; answers = g; lends = l })
+
+abbrev pub rows : List (List ℕ × Row)
 rows =
-    ("bits", row (just (bytes_kind ∷ number_kind ∷ number_kind ∷ [])) (just (number_kind ∷ number_kind ∷ [])) fills_own)
-    ∷ ("uvlc", row (just (bytes_kind ∷ number_kind ∷ [])) (just (number_kind ∷ number_kind ∷ [])) fills_own)
-    ∷ ("leb", row (just (bytes_kind ∷ [])) (just (number_kind ∷ number_kind ∷ [])) fills_own)
-    ∷ ("lebput", row (just (number_kind ∷ [])) (just (bytes_kind ∷ [])) lends_few_bytes)
-    ∷ ("obus", row (just (bytes_kind ∷ [])) (then_any (number_kind ∷ []) (number_kind ∷ after_colon optional_byte_kind ∷ after_colon bytes_kind ∷ [])) fills_own)
-    ∷ ("obuput", row (just (byte_kind ∷ optional_byte_kind ∷ bytes_kind ∷ [])) (just (bytes_kind ∷ [])) lends_bytes)
-    ∷ ("seq", row (just (bytes_kind ∷ [])) (then_any (number_kind ∷ []) (after_comma number_kind ∷ [])) fills_own)
-    ∷ ("support", row (just (bytes_kind ∷ [])) (just []) fills_own)
-    ∷ ("emit", row (just (bytes_kind ∷ [])) (just (bytes_kind ∷ [])) lends_few_bytes)
-    ∷ ("timed", row (just (bytes_kind ∷ number32_kind ∷ number32_kind ∷ [])) (just (bytes_kind ∷ [])) lends_few_bytes)
-    ∷ ("frame", row (just (bytes_kind ∷ bytes_kind ∷ [])) (any (number_kind ∷ [])) fills_own)
-    ∷ ("stream", split_row)
-    ∷ ("annexb", split_row)
-    ∷ ("wstream", write_row)
-    ∷ ("wannexb", write_row)
-    ∷ ("canon", row (just (bytes_kind ∷ [])) (just (bytes_kind ∷ [])) lends_bytes)
-    ∷ ("packets", row (any (number_kind ∷ bytes_kind ∷ [])) (then_any (count_kind ∷ []) (number_kind ∷ bytes_kind ∷ [])) (lends_bytes + lends_ends + lends_numbers))
-    ∷ ("assemble", row (then_any (number_kind ∷ number32_kind ∷ number32_kind ∷ []) (bytes_kind ∷ bytes_kind ∷ number_kind ∷ [])) (then_any (number_kind ∷ number_kind ∷ named_kind ∷ []) (told_kind ∷ [])) (lends_bytes + lends_ends + lends_numbers + fills_own))
-    ∷ ("play", row (any (number_kind ∷ after_colon bytes_kind ∷ [])) (any (told_kind ∷ [])) fills_own)
-    ∷ ("scan", row (then_any (bytes_kind ∷ []) (bytes_kind ∷ [])) (any (told_kind ∷ [])) fills_own)
-    ∷ ("slot", row (just (byte_kind ∷ [])) (just (number_kind ∷ [])) fills_own)
+    named "bits" Op.Bits (just (plain Bytes ∷ plain Number ∷ plain Number ∷ [])) (just (plain Number ∷ plain Number ∷ [])) own
+    ∷ named "uvlc" Op.Uvlc (just (plain Bytes ∷ plain Number ∷ [])) (just (plain Number ∷ plain Number ∷ [])) own
+    ∷ named "leb" Op.Leb (just (plain Bytes ∷ [])) (just (plain Number ∷ plain Number ∷ [])) own
+    ∷ named "lebput" Op.Lebput (just (plain Number ∷ [])) (just (plain Bytes ∷ [])) few_bytes
+    ∷ named "obus" Op.Obus (just (plain Bytes ∷ [])) (then_any (plain Number ∷ []) (plain Number ∷ after_colon OptionalByte ∷ after_colon Bytes ∷ [])) own
+    ∷ named "obuput" Op.Obuput (just (plain Byte ∷ plain OptionalByte ∷ plain Bytes ∷ [])) (just (plain Bytes ∷ [])) all_bytes
+    ∷ named "seq" Op.Seq (just (plain Bytes ∷ [])) (then_any (plain Number ∷ []) (after_comma Number ∷ [])) own
+    ∷ named "support" Op.Support (just (plain Bytes ∷ [])) (just []) own
+    ∷ named "emit" Op.Emit (just (plain Bytes ∷ [])) (just (plain Bytes ∷ [])) few_bytes
+    ∷ named "timed" Op.Timed (just (plain Bytes ∷ plain Number32 ∷ plain Number32 ∷ [])) (just (plain Bytes ∷ [])) few_bytes
+    ∷ named "frame" Op.Frame (just (plain Bytes ∷ plain Bytes ∷ [])) (any (plain Number ∷ [])) own
+    ∷ named "stream" Op.Stream (just (plain Bytes ∷ [])) (then_any (plain Count ∷ []) (plain Bytes ∷ [])) bytes_and_ends
+    ∷ named "annexb" Op.Annexb (just (plain Bytes ∷ [])) (then_any (plain Count ∷ []) (plain Bytes ∷ [])) bytes_and_ends
+    ∷ named "wstream" Op.Wstream (any (plain Bytes ∷ [])) (just (plain Bytes ∷ [])) all_bytes
+    ∷ named "wannexb" Op.Wannexb (any (plain Bytes ∷ [])) (just (plain Bytes ∷ [])) all_bytes
+    ∷ named "canon" Op.Canon (just (plain Bytes ∷ [])) (just (plain Bytes ∷ [])) all_bytes
+    ∷ named "packets" Op.Packets (any (plain Number ∷ plain Bytes ∷ [])) (then_any (plain Count ∷ []) (plain Number ∷ plain Bytes ∷ [])) all_three
+    ∷ named "assemble" Op.Assemble (then_any (plain Number ∷ plain Number32 ∷ plain Number32 ∷ []) (plain Bytes ∷ plain Bytes ∷ plain Number ∷ [])) (then_any (plain Number ∷ plain Number ∷ plain Named ∷ []) (plain Told ∷ [])) all_and_own
+    ∷ named "play" Op.Play (any (plain Number ∷ after_colon Bytes ∷ [])) (any (plain Told ∷ [])) own
+    ∷ named "scan" Op.Scan (then_any (plain Bytes ∷ []) (plain Bytes ∷ [])) (any (plain Told ∷ [])) own
+    ∷ named "slot" Op.Slot (just (plain Byte ∷ [])) (just (plain Number ∷ [])) own
     ∷ []
 
--- a name that is none asks for a field of no kind
-unfoldable pub row_of : ℕ → Row
-row_of key = found key rows (row (just (no_kind ∷ [])) (just []) 0)
+-- what stands under a name
+abbrev pub found : {A : Type 0} → List ℕ → List (List ℕ × A) → Option A
+found name [] = None
+found name (x ∷ table) = pick (bytes_eq x.0 name) (Some x.1) (found name table)
+
+-- the first of the code's rows under a name
+unfoldable pub first_row : List ℕ → List CodeRow → Option CodeRow
+first_row name rs = find (λ (r : CodeRow). bytes_eq r.name.now name) rs
+
+unfoldable pub row_of : List ℕ → Option Row
+row_of name = found name rows

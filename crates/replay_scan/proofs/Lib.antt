@@ -1,2 +1,1 @@
-mod SignLaws
 mod ScanLaws

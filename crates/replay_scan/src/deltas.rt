@@ -1,43 +1,38 @@
 // Signed numbers, each with its kind told.
-ghost use Rattle.std.specs.Prelude.{◌≡◌, nat_abs};
-ghost use Rattle.protocol.specs.Answers.{numbered, with_numbers};
-ghost use Rattle.replay_scan.specs.Scans.{signed_fields, plane_fields, delta_fields};
+ghost use Rattle.std.specs.Prelude.{◌≡◌};
+ghost use Rattle.protocol.specs.Answers.{line, numbered, with_numbers};
+ghost use Rattle.protocol.specs.Kinds.{item_code, after_colon};
+ghost use Rattle.replay_scan.specs.Scans.{sign_kind, delta_fields};
 
 use protocol::answer::Answer;
-use protocol::kinds::{COLON, NEGATIVE, NUMBER};
+use protocol::kinds::{Before, Item, Kind};
 use uheader::scan::Deltas;
 
-// A number without its sign. Of the least one, the negative has no room in an i64.
-fn magnitude(v: i64) -> u64
-    ensures { result ≡ nat_abs v }
+// What tells a number's sign: the number stands behind it without it.
+fn sign_code(v: i64) -> u64
+    ensures { result ≡ item_code (after_colon (sign_kind v)) }
 {
-    if v < 0 {
-        return (-1 - v) as u64 + 1;
-    }
-    v as u64
-}
-
-fn put_signed(v: i64, so_far: Answer, numbers: &mut [u64]) -> Answer
-    ensures { numbered result numbers.new ≡ with_numbers (numbered so_far numbers.old) (signed_fields v) }
-{
-    let m = magnitude(v);
-    if v < 0 {
-        return so_far.pair(COLON + NEGATIVE, m, numbers);
-    }
-    so_far.pair(COLON + NUMBER, m, numbers)
-}
-
-fn put_plane(dc: i64, ac: i64, so_far: Answer, numbers: &mut [u64]) -> Answer
-    ensures { numbered result numbers.new ≡ with_numbers (numbered so_far numbers.old) (plane_fields dc ac) }
-{
-    let answer = put_signed(dc, so_far, numbers);
-    put_signed(ac, answer, numbers)
+    let item = Item {
+        before: Before::Colon,
+        kind: if v < 0 { Kind::Negative } else { Kind::Number },
+    };
+    item.code()
 }
 
 pub(crate) fn put_deltas(d: Deltas, so_far: Answer, numbers: &mut [u64]) -> Answer
-    ensures { numbered result numbers.new ≡ with_numbers (numbered so_far numbers.old) (delta_fields d) }
+    ensures { numbered (line result) numbers.new ≡ with_numbers (numbered (line so_far) numbers.old) (delta_fields d) }
 {
-    let answer = put_signed(d.y_dc, so_far, numbers);
-    let answer = put_plane(d.u_dc, d.u_ac, answer, numbers);
-    put_plane(d.v_dc, d.v_ac, answer, numbers)
+    let fields = [
+        sign_code(d.y_dc),
+        d.y_dc.unsigned_abs(),
+        sign_code(d.u_dc),
+        d.u_dc.unsigned_abs(),
+        sign_code(d.u_ac),
+        d.u_ac.unsigned_abs(),
+        sign_code(d.v_dc),
+        d.v_dc.unsigned_abs(),
+        sign_code(d.v_ac),
+        d.v_ac.unsigned_abs(),
+    ];
+    so_far.list(&fields, numbers)
 }

@@ -1,81 +1,86 @@
 // A scanned frame, and the slots, in the protocol's order, their kinds told: a number behind a space, and the others each
 // behind a colon.
 ghost use Rattle.std.specs.Prelude.{◌≡◌};
-ghost use Rattle.protocol.specs.Answers.{numbered, with_numbers};
+ghost use Rattle.bitio.specs.Refusal.{says};
+ghost use Rattle.protocol.specs.Answers.{line, numbered, with_numbers};
 ghost use Rattle.replay_scan.specs.Scans.{place_fields, size_fields, scan_fields, frame_fields, slot_fields, slots_fields};
 
 use crate::deltas::put_deltas;
+use bitio::refusal::Refusal;
 use geometry::slots::RefSlot;
 use protocol::answer::Answer;
-use protocol::kinds::{REFUSED, SLOTS};
-use uheader::scan::{HeaderScan, ScanAnswer};
+use protocol::kinds::{Before, Item, Kind, NUMBER, packed};
+use uheader::scan::HeaderScan;
 
-const PLACE_KINDS: u64 = 0x1212_1212_1212_1202;
-
-const SIZE_KINDS: u64 = 0x12_1212_1212;
-
-const SLOT_KINDS: u64 = 0x12_1212_1212_1202;
+const COLON: Item = Item {
+    before: Before::Colon,
+    kind: Kind::Number,
+};
 
 // INSERT to HEIGHT
 fn put_place(x: HeaderScan, so_far: Answer, numbers: &mut [u64]) -> Answer
-    ensures { numbered result numbers.new ≡ with_numbers (numbered so_far numbers.old) (place_fields x) }
+    ensures { numbered (line result) numbers.new ≡ with_numbers (numbered (line so_far) numbers.old) (place_fields x) }
 {
-    let frame = x.frame;
-    let size = x.size;
     let fields = [
-        PLACE_KINDS,
+        packed(&[NUMBER, COLON, COLON, COLON, COLON, COLON, COLON, COLON]),
         x.removal_insert_pos as u64,
         x.end_pos as u64,
-        frame.frame_type,
-        frame.show_frame as u64,
-        frame.showable_frame as u64,
-        frame.refresh_frame_flags,
-        size.frame_width,
-        size.frame_height,
+        u64::from(x.frame.frame_type),
+        x.frame.show_frame as u64,
+        x.frame.showable_frame as u64,
+        x.frame.refresh_frame_flags,
+        x.size.frame_width,
+        x.size.frame_height,
     ];
     so_far.list(&fields, numbers)
 }
 
 // UPSCALED to BASEQ
 fn put_size(x: HeaderScan, so_far: Answer, numbers: &mut [u64]) -> Answer
-    ensures { numbered result numbers.new ≡ with_numbers (numbered so_far numbers.old) (size_fields x) }
+    ensures { numbered (line result) numbers.new ≡ with_numbers (numbered (line so_far) numbers.old) (size_fields x) }
 {
-    let frame = x.frame;
-    let size = x.size;
     let fields = [
-        SIZE_KINDS,
-        size.upscaled_width,
-        size.render_width,
-        size.render_height,
-        frame.order_hint,
+        packed(&[COLON, COLON, COLON, COLON, COLON]),
+        x.size.upscaled_width,
+        x.size.render_width,
+        x.size.render_height,
+        x.frame.order_hint,
         x.base_q_idx,
     ];
     so_far.list(&fields, numbers)
 }
 
+#[tactic(auto, using(protocol::proofs::AnswerLaws::numbers_more))]
 fn put_scan(x: HeaderScan, so_far: Answer, numbers: &mut [u64]) -> Answer
-    ensures { numbered result numbers.new ≡ with_numbers (numbered so_far numbers.old) (scan_fields x) }
+    ensures { numbered (line result) numbers.new ≡ with_numbers (numbered (line so_far) numbers.old) (scan_fields x) }
 {
-    let deltas = x.deltas;
     let answer = put_place(x, so_far, numbers);
     let answer = put_size(x, answer, numbers);
-    put_deltas(deltas, answer, numbers)
+    put_deltas(x.deltas, answer, numbers)
 }
 
-pub(crate) fn put_frame(x: ScanAnswer, so_far: Answer, numbers: &mut [u64]) -> Answer
-    ensures { numbered result numbers.new ≡ with_numbers (numbered so_far numbers.old) (frame_fields x) }
+pub(crate) fn put_frame(
+    x: Result<HeaderScan, Refusal>,
+    so_far: Answer,
+    numbers: &mut [u64],
+) -> Answer
+    ensures { numbered (line result) numbers.new ≡ with_numbers (numbered (line so_far) numbers.old) (frame_fields (says x)) }
 {
+    let refused = Item {
+        before: Before::Space,
+        kind: Kind::Refused,
+    };
     match x {
-        ScanAnswer::Scanned(scan) => put_scan(scan, so_far, numbers),
-        ScanAnswer::Refused(k) => so_far.pair(REFUSED, k as u64, numbers),
+        Ok(scan) => put_scan(scan, so_far, numbers),
+        Err(refusal) => so_far.pair(refused.code(), refusal as u64, numbers),
     }
 }
 
 fn put_slot(x: RefSlot, so_far: Answer, numbers: &mut [u64]) -> Answer
-    ensures { numbered result numbers.new ≡ with_numbers (numbered so_far numbers.old) (slot_fields x) }
+    ensures { numbered (line result) numbers.new ≡ with_numbers (numbered (line so_far) numbers.old) (slot_fields x) }
 {
     let fields = [
-        SLOT_KINDS,
+        packed(&[NUMBER, COLON, COLON, COLON, COLON, COLON, COLON]),
         x.order_hint,
         x.upscaled_width as u64,
         x.frame_width as u64,
@@ -87,15 +92,16 @@ fn put_slot(x: RefSlot, so_far: Answer, numbers: &mut [u64]) -> Answer
     so_far.list(&fields, numbers)
 }
 
-pub(crate) fn put_slots(slots: [RefSlot; 8], so_far: Answer, numbers: &mut [u64]) -> Answer
-    ensures { numbered result numbers.new ≡ with_numbers (numbered so_far numbers.old) (slots_fields slots) }
+pub(crate) fn put_slots(slots: &[RefSlot; 8], so_far: Answer, numbers: &mut [u64]) -> Answer
+    ensures { numbered (line result) numbers.new ≡ with_numbers (numbered (line so_far) numbers.old) (slots_fields slots.now) }
 {
-    let mut answer = so_far.pair(SLOTS, 0, numbers);
-    let mut i: usize = 0;
-    while i < 8 {
-        let slot = slots[i];
-        answer = put_slot(slot, answer, numbers);
-        i += 1;
+    let word = Item {
+        before: Before::Space,
+        kind: Kind::Slots,
+    };
+    let mut answer = so_far.pair(word.code(), 0, numbers);
+    for slot in slots {
+        answer = put_slot(*slot, answer, numbers);
     }
     answer
 }

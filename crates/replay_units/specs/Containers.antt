@@ -1,13 +1,13 @@
 -- What the requests on containers and packets are answered, with the memory lent to them.
-use Rattle.std.specs.Prelude.{ℕ, false, List, length}
+use Rattle.std.specs.Prelude.{ℕ, false, List, None, length}
 use Rattle.bitio.specs.Parse.{Answer, answer}
 use Rattle.container.specs.Container.{stream, annexb, read, write_at}
 use Rattle.container.specs.Limits.{bytes_room, room_in}
-use Rattle.container.specs.Units.{Sizes, sizes_of, bytes_after, ends_after, count_of, out_after}
+use Rattle.container.specs.declared.units.Sizes.{Sizes}
+use Rattle.container.specs.Units.{sizes_of, bytes_after, ends_after, count_of, out_after}
 use Rattle.packets.specs.Packets.{Packet, canonical_at}
 use Rattle.packets.specs.PacketLists.{lent_room, bytes_of, times_after, merged_at}
-use Rattle.protocol.specs.declared.answer.Answer.{Answer as Line}
-use Rattle.protocol.specs.Answers.{parts_of, Filled, filled, Parted, parted}
+use Rattle.protocol.specs.Answers.{Line, parts_of, Filled, filled, Parted, parted}
 use Rattle.protocol.specs.Told.{told_by, count_told, Told, told}
 
 -- units: their bytes in so many parts
@@ -44,7 +44,7 @@ canon_told s m = written_told (canonical_at (bytes_room (length m)) s) m
 -- packets: their times are numbers
 abbrev pub stamped_told : Answer Sizes → Line
 stamped_told x =
-    told_by (λ n. record { refusal = 0; bytes = n.bytes; ends = n.units; numbers = n.units; is_dirty = false }) x
+    told_by (λ n. record { refusal = None; bytes = n.bytes; ends = n.units; numbers = n.units; is_dirty = false }) x
 
 abbrev pub merged_told : Answer (List Packet) → List ℕ → List ℕ → List ℕ → Told
 merged_told x m es ts =

@@ -1,65 +1,66 @@
 // The operations of the crates container, annexb and packets.
 ghost use Rattle.std.specs.Prelude.{◌≡◌};
-ghost use Rattle.container.specs.Units.{split_says, byte_count_says};
-ghost use Rattle.protocol.specs.Answers.{filled, parted};
+ghost use Rattle.bitio.specs.Refusal.{says};
+ghost use Rattle.protocol.specs.Answers.{line, filled, parted};
 ghost use Rattle.protocol.specs.Told.{count_told, told};
 ghost use Rattle.replay_units.specs.Containers.{sizes_told, stream_told, annexb_told, wstream_told, wannexb_told, canon_told, packets_told};
 
 use annexb::annexb::{split_annexb, write_annexb};
+use bitio::refusal::Refusal;
 use container::stream::{split_obu_stream, write_obu_stream};
-use container::units::{ByteCount, Split};
-use packets::packets::{Merged, canonicalize_tu, merge_frameless_packets};
+use container::units::Sizes;
+use packets::packets::{canonicalize_tu, merge_frameless_packets};
 use protocol::answer::{Answer, parts, refused};
 
-fn of_split(answer: Split) -> Answer
-    ensures { result ≡ sizes_told (split_says answer) }
+fn of_sizes(answer: Result<Sizes, Refusal>) -> Answer
+    ensures { line result ≡ sizes_told (says answer) }
 {
     match answer {
-        Split::Units(n, u) => parts(n, u),
-        Split::Refused(k) => refused(k),
+        Ok(sizes) => parts(sizes.bytes, sizes.units),
+        Err(refusal) => refused(refusal),
     }
 }
 
-fn of_count(answer: ByteCount) -> Answer
-    ensures { result ≡ count_told (byte_count_says answer) }
+fn of_count(answer: Result<usize, Refusal>) -> Answer
+    ensures { line result ≡ count_told (says answer) }
 {
     match answer {
-        ByteCount::Bytes(n) => parts(n, 0),
-        ByteCount::Refused(k) => refused(k),
+        Ok(bytes) => parts(bytes, 0),
+        Err(refusal) => refused(refusal),
     }
 }
 
 // stream DATA
 pub fn stream(s: &[u8], memory: &mut [u8], ends: &mut [u32]) -> Answer
-    ensures { parted result memory.new ends.new ≡ stream_told s.now memory.old ends.old }
+    ensures { parted (line result) memory.new ends.new ≡ stream_told s.now memory.old ends.old }
 {
-    of_split(split_obu_stream(s, memory, ends))
+    of_sizes(split_obu_stream(s, memory, ends))
 }
 
 // annexb DATA
 pub fn annexb(s: &[u8], memory: &mut [u8], ends: &mut [u32]) -> Answer
-    ensures { parted result memory.new ends.new ≡ annexb_told s.now memory.old ends.old }
+    ensures { parted (line result) memory.new ends.new ≡ annexb_told s.now memory.old ends.old }
 {
-    of_split(split_annexb(s, memory, ends))
+    of_sizes(split_annexb(s, memory, ends))
 }
 
 // wstream UNIT ..
 pub fn wstream(s: &[u8], unit_ends: &[u32], memory: &mut [u8]) -> Answer
-    ensures { filled result memory.new ≡ wstream_told s.now unit_ends.now memory.old }
+    ensures { filled (line result) memory.new ≡ wstream_told s.now unit_ends.now memory.old }
 {
     of_count(write_obu_stream(s, unit_ends, memory))
 }
 
 // wannexb UNIT ..
 pub fn wannexb(s: &[u8], unit_ends: &[u32], memory: &mut [u8]) -> Answer
-    ensures { filled result memory.new ≡ wannexb_told s.now unit_ends.now memory.old }
+    ensures { filled (line result) memory.new ≡ wannexb_told s.now unit_ends.now memory.old }
 {
     of_count(write_annexb(s, unit_ends, memory))
 }
 
 // canon UNIT
 pub fn canon(unit: &[u8], memory: &mut [u8]) -> Answer
-    ensures { filled result memory.new ≡ canon_told unit.now memory.old }
+    ensures { filled (line result) memory.new ≡ canon_told unit.now memory.old }
 {
     of_count(canonicalize_tu(unit, memory))
 }
@@ -73,14 +74,13 @@ pub fn packets(
     ends: &mut [u32],
     numbers: &mut [u64],
 ) -> Answer
-    ensures { told result memory.new ends.new numbers.new ≡ packets_told s.now packet_ends.now times.now memory.old ends.old numbers.old }
+    ensures { told (line result) memory.new ends.new numbers.new ≡ packets_told s.now packet_ends.now times.now memory.old ends.old numbers.old }
 {
     match merge_frameless_packets(s, packet_ends, times, memory, ends, numbers) {
-        Merged::Packets(n, u) => {
-            let mut answer = parts(n, u);
-            answer.numbers = u;
-            answer
-        }
-        Merged::Refused(k) => refused(k),
+        Ok(sizes) => Answer {
+            numbers: sizes.units,
+            ..parts(sizes.bytes, sizes.units)
+        },
+        Err(refusal) => refused(refusal),
     }
 }

@@ -1,62 +1,67 @@
--- A loop that reads a repeated syntax: what holds at its test.
+-- A loop that reads a syntax again and again: what was read so far, and then the turns that are left, is the whole.
 use Prim.Native.Nat.{ℕ, zero, suc, ◌+◌, ◌-◌, ◌<◌, ◌≤◌}
 use native.Mathlib.Omega.{arith}
-use mathlib.Core.Path.{◌≡◌, sym, ap, ◌∙◌}
+use mathlib.Core.Path.{◌≡◌, refl, sym, ap, ◌∙◌}
 use mathlib.Core.List.{List}
-use Rattle.syntax.specs.declared.cursor.Cursor.{Cursor}
-use mathlib.Core.Bool.{Bool, true, false}
-use Rattle.syntax.specs.Syntax.{Syntax, done, branch, sub}
-use Rattle.syntax.specs.code.Cursor.{follow, here, Followed}
-use Rattle.syntax.specs.Repeat.{repeat, whilst}
+use mathlib.Core.Bool.{Bool, true, false, cond as pick}
+use Rattle.bitio.specs.Bits.{Reading, fails, reads, and_then}
+use Rattle.syntax.specs.Syntax.{Syntax, sub, run}
+use Rattle.syntax.specs.Repeat.{repeat, whilst, times}
 
--- of n turns from a₀ and c₀ on, those from i on are left, from a and c on
-pub record Left {A : Type 0} (f : ℕ → A → Syntax A) (s : List ℕ) (n : ℕ) (a₀ : A) (c₀ : Cursor) (i : ℕ) (a : A) (c : Cursor) : Type 0 where
-  pub within : i ≤ n
-  pub same : follow (repeat f i (n - i) a) s c ≡ follow (repeat f 0 n a₀) s c₀
+-- of n turns from a₀ and p₀ on, those from i on are left, from a and p on
+pub record Left {A : Type 0} (f : ℕ → A → Syntax A) (s : List ℕ) (n : ℕ) (a₀ : A) (p₀ i : ℕ) (a : A) (p : ℕ) : Type 0 where
+  pub same : run (repeat f i (n - i) a) s p ≡ run (repeat f 0 n a₀) s p₀
 
-module _ {A : Type 0} {f : ℕ → A → Syntax A} {s : List ℕ} {n : ℕ} {a₀ : A} {c₀ : Cursor} where
-  pub begin : Left f s n a₀ c₀ 0 a₀ c₀
-  begin = record { within = omega arith; same = ap (λ (m : ℕ). follow (repeat f 0 m a₀) s c₀) (omega arith) }
+module _ {A : Type 0} {f : ℕ → A → Syntax A} {s : List ℕ} {n : ℕ} {a₀ : A} {p₀ i : ℕ} {a : A} {p : ℕ} (l : Left f s n a₀ p₀ i a p) where
+  -- the turn i, and those behind it
+  pub next : i < n → and_then (run (f i a) s p) (λ b q. run (repeat f (i + 1) (n - (i + 1)) b) s q) ≡ run (repeat f 0 n a₀) s p₀
+  unfolding repeat run
+  next h =
+      let m : suc (n - (i + 1)) ≡ n - i = omega arith in
+      ap (λ (k : ℕ). run (repeat f i k a) s p) m ∙ l.same
 
-  pub turn : {i : ℕ} {a b : A} {c d : Cursor} → Left f s n a₀ c₀ i a c → i < n → here b d ≡ follow (f i a) s c → Left f s n a₀ c₀ (i + 1) b d
-  unfolding repeat follow
-  turn {i} {a} {b} {c} {d} l h e =
-      let m : n - i ≡ suc (n - (i + 1)) = omega arith in
-      record {
-        within = omega arith;
-        same =
-            ap (λ (w : Followed A). follow (repeat f (i + 1) (n - (i + 1)) w.value) s w.at) e
-            ∙ ap (λ (k : ℕ). follow (repeat f i k a) s c) (sym m)
-            ∙ l.same;
-      }
+  pub end : n ≤ i → reads a p ≡ run (repeat f 0 n a₀) s p₀
+  unfolding repeat run
+  end h =
+      let m : 0 ≡ n - i = omega arith in
+      ap (λ (k : ℕ). run (repeat f i k a) s p) m ∙ l.same
 
-  pub end : {i : ℕ} {a : A} {c : Cursor} → Left f s n a₀ c₀ i a c → n ≤ i → here a c ≡ follow (repeat f 0 n a₀) s c₀
-  unfolding repeat follow
-  end {i} {a} {c} l h =
-      let m : n - i ≡ 0 = omega arith in
-      ap (λ (k : ℕ). follow (repeat f i k a) s c) (sym m) ∙ l.same
+-- of n turns from p₀ on, those from i on are left, from p on
+pub record Over {A : Type 0} (x : Syntax A) (s : List ℕ) (n p₀ i p : ℕ) : Type 0 where
+  pub same : run (times (n - i) x) s p ≡ run (times n x) s p₀
 
--- of at most m turns from a₀ and c₀ on, n are left, from a and c on
-pub record Still {A : Type 0} (t : A → Bool) (f : A → Syntax A) (s : List ℕ) (m : ℕ) (a₀ : A) (c₀ : Cursor) (n : ℕ) (a : A) (c : Cursor) : Type 0 where
-  pub same : follow (whilst t f n a) s c ≡ follow (whilst t f m a₀) s c₀
+module _ {A : Type 0} {x : Syntax A} {s : List ℕ} {n p₀ i p : ℕ} (l : Over x s n p₀ i p) where
+  pub next_over : i < n → and_then (run x s p) (λ b q. run (times (n - (i + 1)) x) s q) ≡ run (times n x) s p₀
+  unfolding times run
+  next_over h =
+      let m : suc (n - (i + 1)) ≡ n - i = omega arith in
+      ap (λ (k : ℕ). run (times k x) s p) m ∙ l.same
 
-module _ {A : Type 0} {t : A → Bool} {f : A → Syntax A} {s : List ℕ} {m : ℕ} {a₀ : A} {c₀ : Cursor} where
-  pub still-begin : {n : ℕ} → n ≡ m → Still t f s m a₀ c₀ n a₀ c₀
-  still-begin h = record { same = ap (λ (n : ℕ). follow (whilst t f n a₀) s c₀) h }
+  pub end_over : n ≤ i → reads tt p ≡ run (times n x) s p₀
+  unfolding times run
+  end_over h =
+      let m : 0 ≡ n - i = omega arith in
+      ap (λ (k : ℕ). run (times k x) s p) m ∙ l.same
 
-  pub still-turn : {n : ℕ} (k : ℕ) {a b : A} {c d : Cursor} → Still t f s m a₀ c₀ n a c → n ≡ suc k → t a ≡ true → here b d ≡ follow (f a) s c → Still t f s m a₀ c₀ k b d
-  unfolding whilst follow
-  still-turn {n} k {a} {b} {c} {d} l h y e =
-      record {
-        same =
-            ap (λ (w : Followed A). follow (whilst t f k w.value) s w.at) e
-            ∙ ap (λ (z : Bool). follow (branch z (sub (f a) (λ b. whilst t f k b)) (done a) (λ b. done b)) s c) (sym y)
-            ∙ ap (λ (j : ℕ). follow (whilst t f j a) s c) (sym h)
-            ∙ l.same;
-      }
+-- of at most m turns from a₀ and p₀ on, n are left, from a and p on
+pub record Still {A : Type 0} (t : A → Bool) (f : A → Syntax A) (s : List ℕ) (m : ℕ) (a₀ : A) (p₀ n : ℕ) (a : A) (p : ℕ) : Type 0 where
+  pub same : run (whilst t f n a) s p ≡ run (whilst t f m a₀) s p₀
 
-  pub still-end : (n : ℕ) {a : A} {c : Cursor} → Still t f s m a₀ c₀ n a c → t a ≡ false → here a c ≡ follow (whilst t f m a₀) s c₀
-  unfolding whilst follow
-  still-end zero l y = l.same
-  still-end (suc n) {a} {c} l y =
-      ap (λ (z : Bool). follow (branch z (sub (f a) (λ b. whilst t f n b)) (done a) (λ b. done b)) s c) (sym y) ∙ l.same
+module _ {A : Type 0} {t : A → Bool} {f : A → Syntax A} {s : List ℕ} {m : ℕ} {a₀ : A} {p₀ n : ℕ} {a : A} {p : ℕ} (l : Still t f s m a₀ p₀ n a p) where
+  pub next_still : (k : ℕ) → n ≡ suc k → t a ≡ true → and_then (run (f a) s p) (λ b q. run (whilst t f k b) s q) ≡ run (whilst t f m a₀) s p₀
+  unfolding whilst run
+  next_still k h y =
+      as_is (and_then (run (f a) s p) (λ b q. run (whilst t f k b) s q))
+      ∙ ap (λ (z : Bool). and_then (pick z (run (sub (f a) (λ b. whilst t f k b)) s p) (reads a p)) (λ v q. reads v q)) (sym y)
+      ∙ ap (λ (j : ℕ). run (whilst t f j a) s p) (sym h)
+      ∙ l.same
+    where
+      as_is : (x : Reading A) → x ≡ and_then x (λ v q. reads v q)
+      as_is (fails k) = refl
+      as_is (reads v q) = refl
+
+pub end_still : {A : Type 0} {t : A → Bool} {f : A → Syntax A} {s : List ℕ} {m : ℕ} {a₀ : A} {p₀ : ℕ} (n : ℕ) {a : A} {p : ℕ} → Still t f s m a₀ p₀ n a p → t a ≡ false → reads a p ≡ run (whilst t f m a₀) s p₀
+unfolding whilst run
+end_still zero l y = l.same
+end_still {t = t} {f} {s} (suc n) {a} {p} l y =
+    ap (λ (z : Bool). and_then (pick z (run (sub (f a) (λ b. whilst t f n b)) s p) (reads a p)) (λ v q. reads v q)) (sym y) ∙ l.same

@@ -2,4 +2,3 @@ pub mod Syntax
 pub mod Repeat
 pub mod Near
 pub mod Signed
-pub mod code

@@ -13,6 +13,6 @@ whilst t f zero a = done a
 whilst t f (suc n) a = branch (t a) (sub (f a) (λ b. whilst t f n b)) (done a) (λ b. done b)
 
 -- n times, and nothing is kept
-unfoldable pub times : ℕ → Syntax ℕ → Syntax ℕ
+unfoldable pub times : {A : Type 0} → ℕ → Syntax A → Syntax (Unit {0})
 times zero x = read_over
 times (suc n) x = sub x (λ v. times n x)

@@ -17,8 +17,8 @@ abbrev pub sub : {A B : Type 0} → Syntax B → (B → Syntax A) → Syntax A
 sub x k = branch true x x k
 
 -- nothing is kept
-abbrev pub read_over : Syntax ℕ
-read_over = done {A = ℕ} 0
+abbrev pub read_over : Syntax (Unit {0})
+read_over = done tt
 
 -- what reading it at a bit position comes to; 14: the bits run out
 unfoldable pub run : {A : Type 0} → Syntax A → List ℕ → ℕ → Reading A

@@ -1,8 +1,6 @@
-// Bit syntax read field by field: a cursor that keeps its first refusal, choices without branches, fields read over, and ns(n).
+// Bit syntax read field by field: fields of a given width, fields read over, ns(n) and su(n).
 #![tactic(auto)]
 
-pub mod choice;
-pub mod cursor;
 pub mod near;
 pub mod over;
 pub mod signed;

@@ -1,21 +1,26 @@
-// Fields of which nothing is kept.
-ghost use Rattle.std.specs.Prelude.{◌≡◌, true, ◌+◌};
-ghost use Rattle.syntax.specs.code.Cursor.{follow, here};
-ghost use Rattle.syntax.specs.Syntax.{field, read_over};
+// Fields whose width a number tells, one less than it, and fields of which nothing is kept.
+ghost use Rattle.std.specs.Prelude.{◌≡◌, true, ◌+◌, cond};
+ghost use Rattle.bitio.specs.Bits.{read_bits, reads};
+ghost use Rattle.bitio.specs.Read.{reading};
+ghost use Rattle.syntax.specs.Syntax.{run, field, read_over};
 ghost use Rattle.syntax.specs.Repeat.{times};
 
-use crate::cursor::{Cursor, Got};
+use bitio::reader::{BitReader, Read};
+
+// less + 1 bits where on. The bits run out for any width above 64.
+pub fn width_if(r: BitReader, s: &[u8], on: bool, less: u64) -> Read<u64>
+    ensures { reading result ≡ cond on (read_bits s.now r.pos (less + 1)) (reads 0 r.pos) }
+{
+    r.f_if(s, on, less.min(64) as usize + 1)
+}
 
 // n fields of less + 1 bits.
-pub fn read_over(c: Cursor, s: &[u8], less: u64, n: usize) -> Got
-    ensures { here result.v result.at ≡ follow (times n (field true (less + 1) (λ v. read_over))) s.now c }
+pub fn read_over(r: BitReader, s: &[u8], less: u64, n: usize) -> Read<()>
+    ensures { reading result ≡ run (times n (field true (less + 1) (λ v. read_over))) s.now r.pos }
 {
-    let mut at = c;
-    let mut i: usize = 0;
-    while i < n {
-        let got = at.width_if(s, true, less);
-        at = got.at;
-        i += 1;
+    let mut reader = r;
+    for _ in 0..n {
+        (_, reader) = width_if(reader, s, true, less)?;
     }
-    Got { v: 0, at }
+    Ok(((), reader))
 }

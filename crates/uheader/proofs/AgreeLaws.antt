@@ -7,12 +7,13 @@ use lib.Dec.{eqb}
 use Rattle.bitio.specs.Parse.{accepted}
 use Rattle.bitio.specs.Bits.{Reading, fails, reads, and_then, read_bits}
 use Rattle.syntax.specs.Syntax.{run}
-use Rattle.header.specs.Fields.{answer_of}
+use Rattle.bitio.specs.Fields.{answer_of}
 use Rattle.header.specs.Sequence.{Sequence}
 use Rattle.header.specs.Support.{has_point_info}
 use Rattle.header.specs.declared.seq_header.Opening.{Opening}
 use Rattle.header.specs.declared.seq_header.SequenceHeader.{SequenceHeader}
 use Rattle.header.proofs.ReadLaws.{Holds, then-any}
+use Rattle.frame.specs.FrameType.{frame_type_of}
 use Rattle.frame.specs.Frame.{all_slots, modelled, removals, frame_start, frame_modes, frame_front, refresh_flags, frame_info, frame_bits, info_of, parse_frame}
 use Rattle.frame.specs.declared.frame_header.FrameStart.{FrameStart}
 use Rattle.frame.specs.declared.frame_header.FrameFront.{FrameFront}
@@ -58,7 +59,7 @@ start-strict s p o =
     refuse-strict o (eqb shown 1) _ (
     then-any (λ (f : FrameStart). f.show_frame ≡ eqb shown 1) (pick (eqb shown 1 && has_point_info o) (read_bits s p (o.model.frame_presentation_time_length_minus_1 + 1)) (reads 0 p)) _ (λ time p.
     then-any (λ (f : FrameStart). f.show_frame ≡ eqb shown 1) (pick (not (eqb shown 1)) (read_bits s p 1) (reads 0 p)) _ (λ showable p.
-    then-any (λ (f : FrameStart). f.show_frame ≡ eqb shown 1) (pick (not (all_slots type (eqb shown 1))) (read_bits s p 1) (reads 0 p)) _ (λ resilient p.
+    then-any (λ (f : FrameStart). f.show_frame ≡ eqb shown 1) (pick (not (all_slots (frame_type_of type) (eqb shown 1))) (read_bits s p 1) (reads 0 p)) _ (λ resilient p.
     refl))))))
 
 -- the same of all that stands before the removal times

@@ -13,7 +13,9 @@ use Rattle.bitio.specs.Bits.{reads, bits_in}
 use Rattle.syntax.specs.Syntax.{run}
 use Rattle.syntax.proofs.EndLaws.{Ends, ends}
 use Rattle.header.specs.declared.seq_header.SequenceHeader.{SequenceHeader}
-use Rattle.frame.specs.Frame.{key_frame, is_intra, all_slots, refresh_flags}
+use Rattle.frame.specs.FrameType.{is_intra}
+use Rattle.frame.specs.declared.frame_header.FrameType.TheVariants.{Key}
+use Rattle.frame.specs.Frame.{all_slots, refresh_flags}
 use Rattle.frame.specs.Refresh.{refresh}
 use Rattle.frame.specs.declared.frame_header.FrameFront.{FrameFront}
 use Rattle.geometry.specs.Size.{frame_geometry}
@@ -59,11 +61,11 @@ module _ (h : SequenceHeader) (n : ℕ) (s : List ℕ) where
         rw (ps.opened, r) (ap accepted (sym ps.same))
 
     -- a shown key refreshes all slots
-    pub key-flags : x.frame.frame_type ≡ key_frame → x.frame.show_frame ≡ true → x.frame.refresh_frame_flags ≡ 255
+    pub key-flags : x.frame.frame_type ≡ Key → x.frame.show_frame ≡ true → x.frame.refresh_frame_flags ≡ 255
     unfolding refresh_flags
     key-flags k shown =
         let f = ps.front.start in
-        let t : f.frame_type ≡ key_frame = sym (ap (λ (y : HeaderScan). y.frame.frame_type) ps.same) ∙ k in
+        let t : f.frame_type ≡ Key = sym (ap (λ (y : HeaderScan). y.frame.frame_type) ps.same) ∙ k in
         let v : f.show_frame ≡ true = sym (ap (λ (y : HeaderScan). y.frame.show_frame) ps.same) ∙ shown in
         let all : all_slots f.frame_type f.show_frame ≡ true = rw (t, v) in
         flags-read h n slots s ps.front _ ps.rest _ ps.rest_read (λ r flags.
@@ -71,7 +73,7 @@ module _ (h : SequenceHeader) (n : ℕ) (s : List ℕ) where
         ∙ gives (λ v. v ≡ 255) (refresh_flags h.opening.model n f) (λ last flags. ap (λ b. pick b 255 flags) all) s _ flags)
 
     -- so all eight are alike
-    pub key-alike : x.frame.frame_type ≡ key_frame → x.frame.show_frame ≡ true → length slots ≡ 8
+    pub key-alike : x.frame.frame_type ≡ Key → x.frame.show_frame ≡ true → length slots ≡ 8
         → slots_after slots (accepted x) ≡ replicate 8 (ref_slot_of x.frame x.size)
     key-alike k shown l = fill 8 x.frame.refresh_frame_flags _ slots (key-flags k shown) l
 

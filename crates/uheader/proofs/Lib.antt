@@ -1,5 +1,4 @@
 pub mod WithinLaws
-pub mod MapLaws
 pub mod ReadingLaws
 pub mod GivesLaws
 pub mod AgreeLaws

@@ -7,7 +7,7 @@ use mathlib.Core.Bool.{Bool, true, false, cond as pick}
 use Rattle.bitio.specs.Parse.{accepted}
 use Rattle.bitio.specs.Bits.{Reading, fails, reads, and_then}
 use Rattle.syntax.specs.Syntax.{run}
-use Rattle.header.specs.Fields.{answer_of}
+use Rattle.bitio.specs.Fields.{answer_of}
 use Rattle.header.specs.declared.seq_header.SequenceHeader.{SequenceHeader}
 use Rattle.frame.specs.declared.frame_header.FrameFront.{FrameFront}
 use Rattle.geometry.specs.declared.slots.RefSlot.{RefSlot}

@@ -82,7 +82,7 @@ module _ (rule rule' : ℕ → ℕ → ℕ) (h : SequenceHeader) (n : ℕ) (slot
   -- then the scans are the same
   pub rules-same : ((x : FrameFront) (p : ℕ) → open_scan h s ≡ reads x p
       → (z : Shape) (q : ℕ) → run (frame_shape h n slots x) s p ≡ reads z q
-      → (t r : ℕ) → run (tile_info z.size c.tools.use_128x128_superblock) s q ≡ reads t r → JudgeAlike x r)
+      → (t : Unit {0}) (r : ℕ) → run (tile_info z.size c.tools.use_128x128_superblock) s q ≡ reads t r → JudgeAlike x r)
       → scan_by rule h n slots s ≡ scan_by rule' h n slots s
   unfolding run scan_by scan_behind scan_rest
   rules-same alike =
@@ -104,7 +104,7 @@ module _ (h : SequenceHeader) (n : ℕ) (slots : List RefSlot) (s : List ℕ) wh
 
   pub spec-scan : ((x : FrameFront) (p : ℕ) → open_scan h s ≡ reads x p
       → (z : Shape) (q : ℕ) → run (frame_shape h n slots x) s p ≡ reads z q
-      → (t r : ℕ) → run (tile_info z.size h.coding.tools.use_128x128_superblock) s q ≡ reads t r → Plain x r)
+      → (t : Unit {0}) (r : ℕ) → run (tile_info z.size h.coding.tools.use_128x128_superblock) s q ≡ reads t r → Plain x r)
       → scan_by sign_magnitude h n slots s ≡ scan_by twos_complement h n slots s
   spec-scan plain =
       rules-same sign_magnitude twos_complement h n slots s (λ x p g z q k t r l y v a alts u b.

@@ -7,7 +7,7 @@ use mathlib.Core.Bool.{Bool, not}
 use lib.Pow.{pow_mono}
 use Rattle.bitio.specs.Parse.{accepted}
 use Rattle.bitio.specs.Bits.{read_bits}
-use Rattle.header.specs.Fields.{read_flag}
+use Rattle.bitio.specs.Fields.{read_flag}
 use Rattle.header.specs.SequenceRules.{Rules, ours}
 use Rattle.header.specs.SequenceOpening.{opening}
 use Rattle.header.specs.SequencePoints.{operating_points, point_count}

@@ -1,4 +1,3 @@
 pub mod Shape
 pub mod Tail
 pub mod Scan
-pub mod code

@@ -5,10 +5,11 @@ use Rattle.bitio.specs.Bits.{Reading, fails, reads, and_then}
 use Rattle.bitio.specs.Limits.{limited}
 use Rattle.syntax.specs.Syntax.{Syntax, done, field, refuse, sub, run}
 use Rattle.syntax.specs.Signed.{su}
-use Rattle.header.specs.Fields.{answer_of}
+use Rattle.bitio.specs.Fields.{answer_of}
 use Rattle.header.specs.Sequence.{parse_sequence}
 use Rattle.header.specs.declared.seq_header.SequenceHeader.{SequenceHeader}
-use Rattle.frame.specs.Frame.{key_frame, modelled, removals, frame_front, info_of}
+use Rattle.frame.specs.FrameType.{is_key}
+use Rattle.frame.specs.Frame.{modelled, removals, frame_front, info_of}
 use Rattle.frame.specs.Refresh.{refresh}
 use Rattle.frame.specs.declared.frame_header.FrameFront.{FrameFront}
 use Rattle.frame.specs.declared.frame_header.FrameInfo.{FrameInfo}
@@ -24,9 +25,6 @@ use Rattle.uheader.specs.declared.shape.Shape.{Shape}
 use Rattle.uheader.specs.declared.scan.Rest.{Rest}
 use Rattle.uheader.specs.declared.scan.Deltas.{Deltas}
 use Rattle.uheader.specs.declared.scan.HeaderScan.{HeaderScan}
-use Rattle.uheader.specs.declared.scan.ScanAnswer.{ScanAnswer}
-use Rattle.uheader.specs.declared.scan.ScanAnswer.TheVariants.{Scanned, Refused}
-use Rattle.uheader.specs.declared.scan.ScanStep.{ScanStep}
 
 -- ---- the header
 
@@ -113,19 +111,10 @@ ref_slot_of f z =
       frame_height = z.frame_height;
       render_width = z.render_width;
       render_height = z.render_height;
-      is_key_frame = eqb f.frame_type key_frame;
+      is_key_frame = is_key f.frame_type;
     }
 
 -- 02 §2: a refused scan leaves them as they were
 abbrev pub slots_after : List RefSlot → Answer HeaderScan → List RefSlot
 slots_after slots (refused k) = slots
 slots_after slots (accepted x) = refresh x.frame.refresh_frame_flags (ref_slot_of x.frame x.size) slots
-
--- ---- what the code answers
-
-abbrev pub scan_answer : Answer HeaderScan → ScanAnswer
-scan_answer (refused k) = Refused k
-scan_answer (accepted x) = Scanned x
-
-abbrev pub scanned : List RefSlot → Answer HeaderScan → ScanStep
-scanned slots a = record { answer = scan_answer a; slots = slots_after slots a }

@@ -4,7 +4,8 @@ use Rattle.syntax.specs.Syntax.{Syntax, done, field, sub, read_over}
 use Rattle.syntax.specs.Repeat.{times}
 use Rattle.header.specs.declared.seq_header.Coding.{Coding}
 use Rattle.header.specs.declared.seq_header.SequenceHeader.{SequenceHeader}
-use Rattle.frame.specs.Frame.{is_intra, refresh_flags}
+use Rattle.frame.specs.FrameType.{is_intra}
+use Rattle.frame.specs.Frame.{refresh_flags}
 use Rattle.frame.specs.declared.frame_header.FrameFront.{FrameFront}
 use Rattle.geometry.specs.Refs.{frame_refs}
 use Rattle.geometry.specs.Size.{frame_geometry}
@@ -17,7 +18,7 @@ abbrev pub intra : FrameFront → Bool
 intra x = is_intra x.start.frame_type
 
 -- ref_order_hint of the eight slots, read over
-unfoldable pub ref_order_hints : Bool → ℕ → Syntax ℕ
+unfoldable pub ref_order_hints : Bool → ℕ → Syntax (Unit {0})
 ref_order_hints on n =
     sub (times (pick on 8 0) (field true n (λ hint. read_over))) (λ last.
     done last)

@@ -56,7 +56,7 @@ order_hints c x z slots =
     }
 
 -- reference_select to global_motion_params
-unfoldable pub motion_params : Coding → FrameFront → Shape → List RefSlot → Syntax ℕ
+unfoldable pub motion_params : Coding → FrameFront → Shape → List RefSlot → Syntax (Unit {0})
 motion_params c x z slots =
     field (not (intra x)) 1 (λ select.
     sub (skip_mode_params (eqb select 1 && c.tools.enable_order_hint) (order_hints c x z slots)) (λ present.

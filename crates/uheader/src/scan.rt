@@ -1,26 +1,26 @@
-// A scan of the whole frame header: its fields, and the slots behind it.
-ghost use Rattle.std.specs.Prelude.{◌≡◌};
-ghost use Rattle.bitio.specs.Parse.{refused, accepted};
-ghost use Rattle.syntax.specs.code.Cursor.{follow, here};
-ghost use Rattle.header.specs.Fields.{answer_of};
+// The frame header to its end (AV1 5.9.2): what the Rust's scan_uncompressed_header reads, and what it leaves in the slots.
+ghost use Rattle.std.specs.Prelude.{◌≡◌, IfOk};
+ghost use Rattle.bitio.specs.Read.{reading};
+ghost use Rattle.bitio.specs.Refusal.{says};
+ghost use Rattle.syntax.specs.Syntax.{run};
 ghost use Rattle.geometry.specs.code.Sizes.{SizesWithin, SizeFits};
 ghost use Rattle.params.specs.Lossless.{sign_magnitude};
 ghost use Rattle.params.specs.Quantization.{Ranged};
 ghost use Rattle.uheader.specs.Scan as spec;
-ghost use Rattle.uheader.specs.code.Opened.{opened_says};
 
 use crate::shape::Shape;
-use crate::{dpb, shape, tail};
+use crate::{shape, tail};
 use bitio::limits::LIMIT;
-use frame::frame_header::sections::FrontAt;
-use frame::frame_header::{FrameFront, FrameInfo, KEY_FRAME, sections};
+use bitio::reader::{BitReader, Read};
+use bitio::refusal::Refusal;
+use frame::frame_header::{FrameFront, FrameInfo, sections};
+use frame::refresh::refresh;
 use geometry::size::Size;
 use geometry::slots::RefSlot;
 use geometry::tiles::tile_info;
-use header::seq_header;
-use header::seq_header::{SequenceAnswer, SequenceHeader};
+use header::seq_header::SequenceHeader;
+use header::seq_header::read::parse_sequence_header;
 use params::quant::Quantizer;
-use syntax::cursor::Cursor;
 use syntax::signed::su_7;
 
 // The quantizer deltas, as signed numbers.
@@ -45,20 +45,6 @@ pub struct HeaderScan {
     pub deltas: Deltas,
 }
 
-#[derive(Clone, Copy)]
-pub enum ScanAnswer {
-    Scanned(HeaderScan),
-    // document 01's number
-    Refused(u32),
-}
-
-// The answer, and the slots behind the frame: after a refusal, as they were.
-#[derive(Clone, Copy)]
-pub struct ScanStep {
-    pub answer: ScanAnswer,
-    pub slots: [RefSlot; 8],
-}
-
 // All that follows primary_ref_frame.
 #[derive(Clone, Copy)]
 pub struct Rest {
@@ -66,44 +52,54 @@ pub struct Rest {
     pub quantizer: Quantizer,
 }
 
-// The fields up to primary_ref_frame.
-#[derive(Clone, Copy)]
-pub(crate) enum Opened {
-    // and the bit position behind them
-    Front(FrameFront, usize),
-    // document 01's number
-    Refused(u32),
-}
-
 // show_existing_frame to primary_ref_frame.
-fn scan_front(c: Cursor, s: &[u8], header: SequenceHeader) -> FrontAt
-    ensures { here result.front result.at ≡ follow (spec.scan_front header) s.now c }
+#[tactic(auto, unfolding(syntax::specs::Syntax::run, crate::specs::Scan::scan_front))]
+fn scan_front(r: BitReader, s: &[u8], header: &SequenceHeader) -> Read<FrameFront>
+    ensures { reading result ≡ run (spec.scan_front header.now) s.now r.pos }
 {
-    let existing = c.f(s, 1);
-    let at = existing.at.refuse_if(existing.v == 1, 42);
-    sections::frame_front(at, s, false, header)
+    let (existing, r) = r.f(s, 1)?;
+    if existing == 1 {
+        return Err(Refusal::ShowsExisting);
+    }
+    sections::frame_front(r, s, false, *header)
 }
 
-// What stands before the slots are looked at: those of a frame that is refused here are handed to no section.
-fn open_scan(header: SequenceHeader, payload: &[u8]) -> Opened
-    ensures { opened_says result ≡ spec.open_scan header payload.now }
+// The same under a sequence header that is looked at first.
+#[tactic(auto, unfolding(crate::specs::Scan::open_scan))]
+fn open_scan(header: &SequenceHeader, payload: &[u8]) -> Read<FrameFront>
+    ensures { reading result ≡ spec.open_scan header.now payload.now }
 {
     if header.opening.reduced_still_picture_header {
-        return Opened::Refused(17);
+        return Err(Refusal::ReducedStillPicture);
     }
     if header.coding.film_grain_params_present {
-        return Opened::Refused(20);
+        return Err(Refusal::FilmGrainOn);
     }
     if header.coding.ids.frame_id_numbers_present {
-        return Opened::Refused(18);
+        return Err(Refusal::FrameIdsOn);
     }
-    let f = scan_front(Cursor { pos: 0, refusal: 0 }, payload, header);
-    let at = f.at;
-    if at.refusal != 0 {
-        return Opened::Refused(at.refusal);
-    }
-    let front = f.front;
-    Opened::Front(front, at.pos)
+    scan_front(BitReader { pos: 0 }, payload, header)
+}
+
+// What follows primary_ref_frame.
+#[tactic(auto, unfolding(syntax::specs::Syntax::run, crate::specs::Scan::scan_rest))]
+fn scan_rest(
+    r: BitReader,
+    s: &[u8],
+    header: &SequenceHeader,
+    removals: usize,
+    slots: &[RefSlot; 8],
+    x: FrameFront,
+) -> Read<Rest>
+    requires { SizesWithin header.now.coding.size }
+    ensures read { reading result ≡ run (spec.scan_rest sign_magnitude header.now removals slots.now x) s.now r.pos }
+    ensures fits { IfOk result (λ x. SizeFits x.0.shape.size × Ranged x.0.quantizer) }
+{
+    let coding = &header.coding;
+    let (shape, r) = shape::frame_shape(r, s, header, removals, slots, x)?;
+    let (_, r) = tile_info(r, s, shape.size, coding.tools.use_128x128_superblock)?;
+    let (quantizer, r) = tail::frame_tail(r, s, coding, x, shape, slots)?;
+    Ok((Rest { shape, quantizer }, r))
 }
 
 fn signed_deltas(q: Quantizer) -> Deltas
@@ -119,15 +115,6 @@ fn signed_deltas(q: Quantizer) -> Deltas
     }
 }
 
-fn stopped(slots: [RefSlot; 8], k: u32) -> ScanStep
-    ensures { result ≡ spec.scanned slots (refused k) }
-{
-    ScanStep {
-        answer: ScanAnswer::Refused(k),
-        slots,
-    }
-}
-
 // What a frame leaves in a slot that it refreshes.
 fn slot_of(frame: FrameInfo, size: Size) -> RefSlot
     requires { SizeFits size }
@@ -140,101 +127,67 @@ fn slot_of(frame: FrameInfo, size: Size) -> RefSlot
         frame_height: size.frame_height as u32,
         render_width: size.render_width as u32,
         render_height: size.render_height as u32,
-        is_key_frame: frame.frame_type == KEY_FRAME,
+        is_key_frame: frame.frame_type.is_key(),
     }
 }
 
-fn finished(slots: [RefSlot; 8], x: FrameFront, rest: Rest, insert: usize, end: usize) -> ScanStep
-    requires { SizeFits rest.shape.size × Ranged rest.quantizer }
-    ensures { result ≡ spec.scanned slots (accepted (spec.scan_of x rest insert end)) }
-{
-    let shape = rest.shape;
-    let size = shape.size;
-    let q = rest.quantizer;
-    let flags = shape.refresh_frame_flags;
-    let frame = sections::info_of(x, flags);
-    let deltas = signed_deltas(q);
-    let all = dpb::refreshed(slots, flags, slot_of(frame, size));
-    ScanStep {
-        answer: ScanAnswer::Scanned(HeaderScan {
-            removal_insert_pos: insert,
-            end_pos: end,
-            frame,
-            size,
-            base_q_idx: q.base_q_idx,
-            deltas,
-        }),
-        slots: all,
-    }
-}
-
-// What follows primary_ref_frame, which ends at insert. The tiles of a shape that is refused are not walked.
-fn scan_behind(
-    x: FrameFront,
-    insert: usize,
-    header: SequenceHeader,
+// The fields of a header, by the slots before the frame.
+#[tactic(auto, unfolding(crate::specs::Scan::scan_header, crate::specs::Scan::scan_by, crate::specs::Scan::scan_behind))]
+fn scan_fields(
+    header: &SequenceHeader,
     removals: usize,
-    slots: [RefSlot; 8],
+    slots: &[RefSlot; 8],
     payload: &[u8],
-) -> ScanStep
-    requires { SizesWithin header.coding.size }
-    ensures { result ≡ spec.scanned slots (answer_of (spec.scan_behind sign_magnitude header removals slots payload.now x insert)) }
+) -> Result<HeaderScan, Refusal>
+    requires { SizesWithin header.now.coding.size }
+    ensures says { says result ≡ spec.scan_header header.now removals slots.now payload.now }
+    ensures fits { IfOk result (λ x. SizeFits x.size) }
 {
-    let c = Cursor {
-        pos: insert,
-        refusal: 0,
-    };
-    let coding = header.coding;
-    let z = shape::frame_shape(c, payload, header, removals, slots, x);
-    let sized = z.at;
-    if sized.refusal != 0 {
-        return stopped(slots, sized.refusal);
-    }
-    let shape = z.shape;
-    let large = coding.tools.use_128x128_superblock;
-    let tiles = tile_info(sized, payload, shape.size, large);
-    let y = tail::frame_tail(tiles.at, payload, coding, x, shape, slots);
-    let at = y.at;
-    if at.refusal != 0 {
-        return stopped(slots, at.refusal);
-    }
-    let quantizer = y.q;
-    finished(slots, x, Rest { shape, quantizer }, insert, at.pos)
+    let (front, r) = open_scan(header, payload)?;
+    let removal_insert_pos = r.pos;
+    let (rest, r) = scan_rest(r, payload, header, removals, slots, front)?;
+    Ok(HeaderScan {
+        removal_insert_pos,
+        end_pos: r.pos,
+        frame: sections::info_of(front, rest.shape.refresh_frame_flags),
+        size: rest.shape.size,
+        base_q_idx: rest.quantizer.base_q_idx,
+        deltas: signed_deltas(rest.quantizer),
+    })
 }
 
-// A frame header under a sequence header that was read, and its number of removal times (frame's `removals`). For crates
-// that scan many frames under one, within the limit.
+// A frame header under a sequence header that was read, and its number of removal times (frame's `removals`). The slots
+// become those behind the frame; after a refusal they stay. For crates that scan many frames under one header, within the
+// limit.
 pub fn scan_header(
-    header: SequenceHeader,
+    header: &SequenceHeader,
     removals: usize,
-    slots: [RefSlot; 8],
+    slots: &mut [RefSlot; 8],
     payload: &[u8],
-) -> ScanStep
-    requires { SizesWithin header.coding.size }
-    ensures { result ≡ spec.scanned slots (spec.scan_header header removals slots payload.now) }
+) -> Result<HeaderScan, Refusal>
+    requires { SizesWithin header.now.coding.size }
+    ensures answer { says result ≡ spec.scan_header header.now removals slots.old payload.now }
+    ensures slots { slots.new ≡ spec.slots_after slots.old (spec.scan_header header.now removals slots.old payload.now) }
 {
-    let opened = open_scan(header, payload);
-    match opened {
-        Opened::Front(x, insert) => scan_behind(x, insert, header, removals, slots, payload),
-        Opened::Refused(k) => stopped(slots, k),
-    }
+    let scan = scan_fields(header, removals, slots, payload)?;
+    let new = slot_of(scan.frame, scan.size);
+    refresh(slots, scan.frame.refresh_frame_flags, new);
+    Ok(scan)
 }
 
 // scan_uncompressed_header from both payloads: 34 of either leads.
-pub fn scan_uncompressed_header(payload: &[u8], sequence: &[u8], slots: [RefSlot; 8]) -> ScanStep
-    ensures { result ≡ spec.scanned slots (spec.scan_payloads sequence.now slots payload.now) }
+pub fn scan_uncompressed_header(
+    payload: &[u8],
+    sequence: &[u8],
+    slots: &mut [RefSlot; 8],
+) -> Result<HeaderScan, Refusal>
+    ensures answer { says result ≡ spec.scan_payloads sequence.now slots.old payload.now }
+    ensures slots { slots.new ≡ spec.slots_after slots.old (spec.scan_payloads sequence.now slots.old payload.now) }
 {
     if payload.len() > LIMIT {
-        return stopped(slots, 34);
+        return Err(Refusal::InputTooLong);
     }
-    let read = seq_header::read::parse_sequence_header(sequence);
-    let answer = read.answer;
-    let points = read.operating_points;
-    match answer {
-        SequenceAnswer::Header(header) => {
-            let removals = sections::removals(points, header.opening.operating_points_cnt_minus_1);
-            scan_header(header, removals, slots, payload)
-        }
-        SequenceAnswer::Refused(k) => stopped(slots, k),
-    }
+    let sequence = parse_sequence_header(sequence)?;
+    let removals = sections::removals(sequence.points());
+    scan_header(&sequence.header, removals, slots, payload)
 }

@@ -1,16 +1,16 @@
 // The frame header from the removal times to what stands before tile_info (AV1 5.9.2).
-ghost use Rattle.std.specs.Prelude.{◌≡◌, ◌+◌};
-ghost use Rattle.syntax.specs.code.Cursor.{follow, here};
+ghost use Rattle.std.specs.Prelude.{◌≡◌, ◌+◌, IfOk};
+ghost use Rattle.bitio.specs.Read.{reading};
+ghost use Rattle.syntax.specs.Syntax.{run};
 ghost use Rattle.geometry.specs.code.Sizes.{SizesWithin, SizeFits};
 ghost use Rattle.uheader.specs.Shape as spec;
 
+use bitio::reader::{BitReader, Read};
 use frame::frame_header::{FrameFront, sections};
 use geometry::size::{Size, SizeRules};
 use geometry::slots::RefSlot;
 use geometry::{refs, size};
 use header::seq_header::{Coding, SequenceHeader};
-use syntax::choice::times_if;
-use syntax::cursor::{Cursor, Got};
 use syntax::over::read_over;
 
 // What the later sections and the slots need of the earlier ones.
@@ -23,86 +23,69 @@ pub struct Shape {
     pub allow_high_precision_mv: bool,
 }
 
-#[derive(Clone, Copy)]
-pub struct ShapeAt {
-    pub shape: Shape,
-    pub at: Cursor,
-}
-
-fn ref_order_hints(c: Cursor, s: &[u8], on: bool, less: u64) -> Got
-    ensures { here result.v result.at ≡ follow (spec.ref_order_hints on (less + 1)) s.now c }
+#[tactic(auto, unfolding(syntax::specs::Syntax::run, crate::specs::Shape::ref_order_hints))]
+fn ref_order_hints(r: BitReader, s: &[u8], on: bool, less: u64) -> Read<()>
+    ensures { reading result ≡ run (spec.ref_order_hints on (less + 1)) s.now r.pos }
 {
-    read_over(c, s, less, times_if(on, 8))
+    read_over(r, s, less, if on { 8 } else { 0 })
 }
 
 // allow_high_precision_mv to use_ref_frame_mvs.
-fn motion_modes(c: Cursor, s: &[u8], coding: Coding, x: FrameFront) -> Got
-    ensures { here result.v result.at ≡ follow (spec.motion_modes coding x) s.now c }
+#[tactic(auto, unfolding(syntax::specs::Syntax::run, crate::specs::Shape::motion_modes))]
+fn motion_modes(r: BitReader, s: &[u8], coding: &Coding, x: FrameFront) -> Read<u64>
+    ensures { reading result ≡ run (spec.motion_modes coding.now x) s.now r.pos }
 {
-    let start = x.start;
-    let inter = !sections::is_intra(start.frame_type);
-    let resilient = start.error_resilient_mode;
-    let fine = c.f_if(s, inter & !x.modes.force_integer_mv, 1);
-    let switchable = fine.at.f_if(s, inter, 1);
-    let filter = switchable.at.f_if(s, inter & (switchable.v == 0), 2);
-    let motion = filter.at.f_if(s, inter, 1);
-    let mvs = motion.at.f_if(
-        s,
-        inter & (!resilient & coding.tools.enable_ref_frame_mvs),
-        1,
-    );
-    let at = mvs.at;
-    Got { v: fine.v, at }
+    let inter = !x.start.frame_type.is_intra();
+    let resilient = x.start.error_resilient_mode;
+    let (fine, r) = r.f_if(s, inter && !x.modes.force_integer_mv, 1)?;
+    let (switchable, r) = r.f_if(s, inter, 1)?;
+    let (_filter, r) = r.f_if(s, inter && switchable == 0, 2)?;
+    let (_motion, r) = r.f_if(s, inter, 1)?;
+    let told = !resilient && coding.tools.enable_ref_frame_mvs;
+    let (_mvs, r) = r.f_if(s, inter && told, 1)?;
+    Ok((fine, r))
 }
 
 // The slots are those before the frame.
+#[tactic(auto, unfolding(syntax::specs::Syntax::run, crate::specs::Shape::frame_shape))]
 pub(crate) fn frame_shape(
-    c: Cursor,
+    r: BitReader,
     s: &[u8],
-    header: SequenceHeader,
+    header: &SequenceHeader,
     removals: usize,
-    slots: [RefSlot; 8],
+    slots: &[RefSlot; 8],
     x: FrameFront,
-) -> ShapeAt
-    requires { SizesWithin header.coding.size }
-    ensures { (here result.shape result.at ≡ follow (spec.frame_shape header removals slots x) s.now c) × SizeFits result.shape.size }
+) -> Read<Shape>
+    requires { SizesWithin header.now.coding.size }
+    ensures read { reading result ≡ run (spec.frame_shape header.now removals slots.now x) s.now r.pos }
+    ensures fits { IfOk result (λ x. SizeFits x.0.size) }
 {
-    let start = x.start;
-    let modes = x.modes;
-    let coding = header.coding;
-    let largest = coding.size;
-    let intra = sections::is_intra(start.frame_type);
-    let flags = sections::refresh_flags(c, s, header.opening.model, removals, start);
-    let listed = (!intra | !(flags.v == 255))
-        & (start.error_resilient_mode & coding.tools.enable_order_hint);
-    let hints = ref_order_hints(flags.at, s, listed, coding.screen.order_hint_bits_minus_1);
-    let refs = refs::frame_refs(hints.at, s, !intra, coding.tools.enable_order_hint);
-    let ref_frame_idx = refs.ref_frame_idx;
+    let coding = &header.coding;
+    let intra = x.start.frame_type.is_intra();
+    let resilient = x.start.error_resilient_mode;
+    let hinted = coding.tools.enable_order_hint;
+    let (flags, r) = sections::refresh_flags(r, s, header.opening.model, removals, x.start)?;
+    let listed = (!intra || flags != 255) && (resilient && hinted);
+    let (_, r) = ref_order_hints(r, s, listed, coding.screen.order_hint_bits_minus_1)?;
+    let (ref_frame_idx, r) = refs::frame_refs(r, s, !intra, hinted)?;
     let rules = SizeRules {
-        largest,
+        largest: coding.size,
         enable_superres: coding.filters.enable_superres,
     };
-    let over = modes.frame_size_override_flag;
-    let by_refs = !intra & (over & !start.error_resilient_mode);
-    let z = size::frame_geometry(refs.at, s, rules, over, by_refs, ref_frame_idx, slots);
-    let size = z.size;
-    let tools = modes.allow_screen_content_tools;
-    let intrabc = z.at.f_if(
-        s,
-        intra & (tools & (size.upscaled_width == size.frame_width)),
-        1,
-    );
-    let fine = motion_modes(intrabc.at, s, coding, x);
-    let disable = fine.at.f_if(s, !modes.disable_cdf_update, 1);
-    let at = disable.at;
-    ShapeAt {
-        shape: Shape {
-            refresh_frame_flags: flags.v,
-            ref_frame_idx,
-            size,
-            allow_intrabc: intrabc.v == 1,
-            allow_high_precision_mv: fine.v == 1,
-        },
-        at,
-    }
+    let over = x.modes.frame_size_override_flag;
+    let by_refs = !intra && (over && !resilient);
+    let (size, r) = size::frame_geometry(r, s, rules, over, by_refs, ref_frame_idx, slots)?;
+    let unscaled = size.upscaled_width == size.frame_width;
+    let told = intra && (x.modes.allow_screen_content_tools && unscaled);
+    let (intrabc, r) = r.f_if(s, told, 1)?;
+    let (fine, r) = motion_modes(r, s, coding, x)?;
+    let (_disable, r) = r.f_if(s, !x.modes.disable_cdf_update, 1)?;
+    let shape = Shape {
+        refresh_frame_flags: flags,
+        ref_frame_idx,
+        size,
+        allow_intrabc: intrabc == 1,
+        allow_high_precision_mv: fine == 1,
+    };
+    Ok((shape, r))
 }

@@ -9,8 +9,9 @@ ghost use Rattle.container.specs.AnnexB.{length_obu, frame_unit};
 ghost use Rattle.annexb.specs.code.Fill.{ObusRoom, UnitsRoom, Filled};
 ghost use Rattle.bitio.specs.Lent.{span, Wrote};
 
-use crate::annexb::part::{InnerAt, PartAt, length_obu_at, part_at};
+use crate::annexb::part::{frame_at, length_obu_at, unit_at};
 use obu::reader::Obu;
+use obu::writer::put_measured;
 
 // Writes one OBU at w.
 fn put_inner(data: &[u8], o: Obu, out: &mut [u8], w: usize) -> usize
@@ -18,10 +19,7 @@ fn put_inner(data: &[u8], o: Obu, out: &mut [u8], w: usize) -> usize
     requires obu_type_value { (passes o.obu_type ≡ true) × (w + obu_length (extension_says o.extension) (o.end - o.start) ≤ length out.old) }
     ensures { Wrote out.old w (obu_bytes (obu o.obu_type (extension_says o.extension) (span «data».now o.start o.end))) result out.new }
 {
-    let extension = o.extension;
-    let start = o.start;
-    let end = o.end;
-    obu::writer::put_measured(out, w, o.obu_type, extension, &data[start..end])
+    put_measured(out, w, o.obu_type, o.extension, &data[o.start..o.end])
 }
 
 // The OBUs of a frame unit.
@@ -32,10 +30,9 @@ fn fill_frame(data: &[u8], start: usize, end: usize, out: &mut [u8], place: usiz
 {
     let mut at = start;
     let mut w = place;
-    while at < end {
-        let InnerAt::Found(o) = length_obu_at(data, at, end) else {
-            return w;
-        };
+    while at < end
+        && let Ok(o) = length_obu_at(data, at, end)
+    {
         w = put_inner(data, o, out, w);
         at = o.end;
     }
@@ -50,12 +47,11 @@ fn fill_unit(data: &[u8], start: usize, end: usize, out: &mut [u8], place: usize
 {
     let mut at = start;
     let mut w = place;
-    while at < end {
-        let PartAt::Part(first, frame_end) = part_at(data, at, end, 8, 9) else {
-            return w;
-        };
-        w = fill_frame(data, first, frame_end, out, w);
-        at = frame_end;
+    while at < end
+        && let Ok(frame) = frame_at(data, at, end)
+    {
+        w = fill_frame(data, frame.start, frame.end, out, w);
+        at = frame.end;
     }
     w
 }
@@ -69,13 +65,12 @@ pub(crate) fn fill(data: &[u8], out: &mut [u8], ends: &mut [u32])
     let mut at: usize = 0;
     let mut w: usize = 0;
     let mut u: usize = 0;
-    while at < len {
-        let PartAt::Part(start, unit_end) = part_at(data, at, len, 6, 7) else {
-            return;
-        };
-        w = fill_unit(data, start, unit_end, out, w);
+    while at < len
+        && let Ok(unit) = unit_at(data, at, len)
+    {
+        w = fill_unit(data, unit.start, unit.end, out, w);
         ends[u] = w as u32;
         u += 1;
-        at = unit_end;
+        at = unit.end;
     }
 }

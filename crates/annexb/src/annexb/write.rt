@@ -14,8 +14,7 @@ ghost use Rattle.annexb.specs.code.Join.{inner_length, framed_length, AnnexbRoom
 
 use crate::annexb::count::{count_inner, framed_len, inner_len};
 use bitio::leb128::put_leb128;
-use container::units::ByteCount;
-use obu::reader::{Obu, ObuAt, obu_at};
+use obu::reader::{Obu, obu_at};
 use obu::writer::{put_bytes, put_header};
 
 // One OBU of u with its length at w.
@@ -24,12 +23,9 @@ fn put_length_obu(u: &[u8], o: Obu, out: &mut [u8], w: usize) -> usize
     requires obu_type_value { (passes o.obu_type ≡ true) × (w + framed_length (inner_length (extension_says o.extension) (o.end - o.start)) ≤ length out.old) }
     ensures { Wrote out.old w (inner_bytes (obu o.obu_type (extension_says o.extension) (span u.now o.start o.end))) result out.new }
 {
-    let extension = o.extension;
-    let start = o.start;
-    let end = o.end;
-    let p = put_leb128(out, w, inner_len(extension, end - start) as u64);
-    let q = put_header(out, p, o.obu_type, extension, 0);
-    put_bytes(out, q, &u[start..end])
+    let p = put_leb128(out, w, inner_len(o.extension, o.end - o.start) as u64);
+    let q = put_header(out, p, o.obu_type, o.extension, 0);
+    put_bytes(out, q, &u[o.start..o.end])
 }
 
 // The OBUs of a unit.
@@ -40,10 +36,7 @@ fn put_inner_obus(u: &[u8], out: &mut [u8], place: usize) -> usize
 {
     let mut at: usize = 0;
     let mut w = place;
-    while at < u.len() {
-        let ObuAt::Found(o) = obu_at(u, at) else {
-            return w;
-        };
+    while let Ok(Some(o)) = obu_at(u, at) {
         w = put_length_obu(u, o, out, w);
         at = o.end;
     }
@@ -56,7 +49,7 @@ fn put_unit(u: &[u8], out: &mut [u8], w: usize) -> usize
     requires obus_room { ObusRoom (obus u.now) annexb_unit out.old w }
     ensures { Wrote out.old w (annexb_unit (accepted_list (obus u.now))) result out.new }
 {
-    let ByteCount::Bytes(n) = count_inner(u) else {
+    let Ok(n) = count_inner(u) else {
         return w;
     };
     let p = put_leb128(out, w, framed_len(n) as u64);
@@ -71,12 +64,10 @@ pub(crate) fn put_units(units: &[u8], unit_ends: &[u32], out: &mut [u8])
     ensures { out.new ≡ out_after (annexb_bytes (accepted_list (units_at units.now unit_ends.now))) out.old }
 {
     let mut at: usize = 0;
-    let mut i: usize = 0;
     let mut w: usize = 0;
-    while i < unit_ends.len() {
-        let end = unit_ends[i] as usize;
+    for end in unit_ends {
+        let end = *end as usize;
         w = put_unit(&units[at..end], out, w);
         at = end;
-        i += 1;
     }
 }

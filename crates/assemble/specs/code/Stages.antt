@@ -1,26 +1,27 @@
 -- Assembly as the code decides it, stage by stage, before anything is written: each stage goes on to the end.
-use Rattle.std.specs.Prelude.{ℕ, ◌+◌, ◌*◌, ◌≡◌, List, Bool, cond as pick, ◌&&◌, length, replicate, leb, ltb}
-use Rattle.std.proofs.Math.Option.{none, some}
+use Rattle.std.specs.Prelude.{ℕ, ◌+◌, ◌*◌, ◌≡◌, List, Bool, cond as pick, ◌&&◌, length, leb, ltb, Result, Ok, Err}
+use Rattle.std.proofs.Math.Option.{Option, none, some}
 use Rattle.header.specs.Support.{supported_sequence}
 use Rattle.bitio.specs.Parse.{accepted}
+use Rattle.bitio.specs.Refusal.{number}
 use Rattle.bitio.specs.Limits.{limit, capped}
 use Rattle.obu.specs.Obu.{Obu, obu_bytes}
 use Rattle.obu.specs.Place.{part, extension_says}
 use Rattle.obu.specs.Write.{obu}
-use Rattle.header.specs.Sequence.{Sequence, sequence_of}
-use Rattle.header.specs.SequencePoints.{no_point}
-use Rattle.header.specs.declared.seq_header.OperatingPoint.{OperatingPoint}
+use Rattle.header.specs.Sequence.{Sequence, sequence_in}
 use Rattle.blocks.specs.Blocks.{list_of, cues_of}
 use Rattle.blocks.specs.Numbers.{head_key, head_golden, segment_count, frames_in}
 use Rattle.pictures.specs.Prepare.{effective, renewal, Prepared}
 use Rattle.pictures.specs.declared.settings.Settings.{Settings}
 use Rattle.pictures.specs.Assemble.{Outcome, stopped, made, and_also, in_segment, same_headers, header_obu, prepare_all, picture_of, OutputRoom}
+use Rattle.pictures.specs.Says.{segment_says}
+use Rattle.pictures.specs.declared.fault.Fault.{Fault}
 use Rattle.pictures.specs.Sizes.{sized_all, ranged}
-use Rattle.pictures.specs.Flat.{all_segments, later_segments, first_sequence, judged, renewing, answer_or, all_prepared}
+use Rattle.pictures.specs.Flat.{all_segments, later_segments, first_sequence, judged, rewriting, answer_or, all_prepared}
 use Rattle.assemble.specs.declared.multi.Counts.{Counts}
-use Rattle.assemble.specs.declared.plan.Basis.{Basis}
-use Rattle.assemble.specs.declared.plan.Planned.{Planned}
-use Rattle.assemble.specs.declared.plan.Planned.TheVariants.{Ready, Refused, RefusedIn}
+use Rattle.assemble.specs.declared.headers.Renewal.{Renewal}
+use Rattle.assemble.specs.declared.headers.Headers.{Headers}
+use Rattle.assemble.specs.declared.headers.Headers.TheVariants.{Own, Renewed}
 use Rattle.assemble.specs.declared.plan.Plan.{Plan}
 
 -- ---- the stages
@@ -41,9 +42,9 @@ pub record WasRead (q : Sequence) : Type 0 where
 
 module _ (s rs : List ℕ) where
   -- per segment: 1 to 5, 28, 14, 29 to 33
-  unfoldable pub from_pictures : Sequence → Bool → List ℕ → List ℕ → Outcome Going
-  from_pictures q rewriting new header =
-      and_also (prepare_all q (renewing rewriting new) 0 (all_segments s rs)) (λ bs. made (going header bs))
+  unfoldable pub from_pictures : Sequence → Option (List ℕ) → List ℕ → Outcome Going
+  from_pictures q new header =
+      and_also (prepare_all q new 0 (all_segments s rs)) (λ bs. made (going header bs))
 
   -- the same, from the first key's header OBU o, which reads as q
   unfoldable pub from_timing : Settings → Obu → Sequence → Outcome Going
@@ -71,50 +72,53 @@ module _ (s rs : List ℕ) where
 
 -- ---- what the code's plan says
 
--- the new payload of sequence headers, at the head of the array
-abbrev pub new_in : List ℕ → Basis → List ℕ
-new_in array b = part array 0 b.new_len
+-- a new payload, at the head of its array
+abbrev pub new_payload : Renewal → List ℕ
+new_payload new = part new.bytes 0 new.len
 
-abbrev pub own_in : List ℕ → List ℕ → Basis → List ℕ
-own_in s rs b = part (head_key s rs) b.start b.end
+-- the payload that replaces sequence headers, where they are replaced
+abbrev pub renewal_in : Headers → Option (List ℕ)
+renewal_in (Own o) = none
+renewal_in (Renewed new) = some (new_payload new)
 
--- the sequence header OBU handed out
-unfoldable pub header_in : List ℕ → List ℕ → List ℕ → Basis → List ℕ
-header_in s rs new b = obu_bytes (obu 1 (extension_says b.extension) (pick b.rewriting new (own_in s rs b)))
+-- the sequence header OBU handed out: its extension, its payload, and itself
+abbrev pub extension_in : Headers → Option ℕ
+extension_in (Own o) = extension_says o.extension
+extension_in (Renewed new) = none
 
-abbrev pub basis_says : List ℕ → List ℕ → List OperatingPoint → List ℕ → Basis → ℕ → Going
-basis_says s rs points new b n =
+abbrev pub payload_in : List ℕ → List ℕ → Headers → List ℕ
+payload_in s rs (Own o) = part (head_key s rs) o.start o.end
+payload_in s rs (Renewed new) = new_payload new
+
+unfoldable pub header_in : List ℕ → List ℕ → Headers → List ℕ
+header_in s rs h = obu_bytes (obu 1 (extension_in h) (payload_in s rs h))
+
+-- what goes out by a plan
+abbrev pub plan_going : List ℕ → List ℕ → Plan → Going
+plan_going s rs p =
     record {
-      header = header_in s rs new b;
-      units = all_prepared (sequence_of b.header points) b.rewriting new (all_segments s rs);
-      bytes = n;
+      header = header_in s rs p.headers;
+      units = all_prepared (sequence_in p.sequence) (renewal_in p.headers) (all_segments s rs);
+      bytes = p.bytes;
     }
 
-abbrev pub answer_says : List ℕ → List ℕ → List OperatingPoint → List ℕ → Planned → Outcome Going
-answer_says s rs points array (Ready b n) = made (basis_says s rs points (new_in array b) b n)
-answer_says s rs points array (Refused k) = stopped k none
-answer_says s rs points array (RefusedIn k i) = stopped k (some i)
-
-unfoldable pub plan_says : List ℕ → List ℕ → Plan → Outcome Going
-plan_says s rs p = answer_says s rs p.points p.new p.answer
-
--- after a refusal the arrays are zero
-unfoldable pub no_plan : Planned → Plan
-no_plan a = record { answer = a; points = replicate 32 no_point; new = replicate 400 0 }
+abbrev pub plan_says : List ℕ → List ℕ → Result Plan Fault → Outcome Going
+plan_says s rs (Ok p) = made (plan_going s rs p)
+plan_says s rs (Err f) = stopped (number f.refusal) (segment_says f.segment)
 
 -- ---- how much there is to write
 
 -- picture bytes and the header as far as a usize counts
-abbrev pub needed : ℕ → List ℕ → List ℕ → List OperatingPoint → List ℕ → Basis → ℕ → Counts
-needed gop s rs points new b n =
+abbrev pub needed : ℕ → List ℕ → List ℕ → Plan → Counts
+needed gop s rs p =
     record {
       units = length (list_of gop (frames_in rs));
       cues = length (cues_of (list_of gop (frames_in rs)));
-      picture = n;
+      picture = p.bytes;
       ends = 2 * segment_count rs;
       shows = 5 * segment_count rs;
-      header = capped (length (header_in s rs new b));
-      golden_slot = answer_or 0 (judged (sequence_of b.header points) b.rewriting (head_key s rs) (head_golden s rs));
+      header = capped (length (header_in s rs p.headers));
+      golden_slot = answer_or 0 (judged (sequence_in p.sequence) (rewriting (renewal_in p.headers)) (head_key s rs) (head_golden s rs));
     }
 
 -- the bytes, all together, are within the limit, and each lent slice has room

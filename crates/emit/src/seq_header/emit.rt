@@ -1,60 +1,54 @@
 // A sequence header as a payload in lent memory: measured first, then written.
-ghost use Rattle.std.specs.Prelude.{◌≡◌, true, ◌≤◌, length};
-ghost use Rattle.bitio.specs.Lent.{pasted};
-ghost use Rattle.header.specs.Sequence.{sequence_of};
+ghost use Rattle.std.specs.Prelude.{◌≡◌, ◌/◌, true, length, take};
+ghost use Rattle.bitio.specs.Refusal.{says};
+ghost use Rattle.header.specs.Sequence.{sequence_in};
 ghost use Rattle.emittable.specs.Emittable.{emittable};
-ghost use Rattle.emit.specs.Emit.{sequence_bytes, emit_placed, emit_lent, emit_says};
+ghost use Rattle.emit.specs.Emit.{sequence_bytes, emit_placed, emit_lent};
 
-use crate::seq_header::emit_coding::put_coding;
-use crate::seq_header::emit_fields::put_trailing;
-use crate::seq_header::emit_opening::{put_opening, put_points};
+use crate::seq_header::payload::Payload;
+use bitio::refusal::Refusal;
 use bitio::writer::BitWriter;
 use emittable::seq_header::emit_fits::is_emittable;
-use header::seq_header::{Emitted, OperatingPoint, SequenceHeader};
+use header::seq_header::SequenceObu;
 use obu::writer::put_bytes;
 
-// Writes the payload at the start of out, which holds every one, and returns its length.
-fn put_sequence(h: SequenceHeader, points: [OperatingPoint; 32], out: &mut [u8]) -> usize
-    requires { (emittable (sequence_of h points) ≡ true) × (400 ≤ length out.old) }
-    ensures { (result ≡ length (sequence_bytes (sequence_of h points))) × (out.new ≡ pasted out.old 0 (sequence_bytes (sequence_of h points))) }
+// The payload at the start of its memory.
+fn write_payload(sequence: &SequenceObu) -> Payload
+    requires { emittable (sequence_in sequence.now) ≡ true }
+    ensures size { result.end.pos / 8 ≡ length (sequence_bytes (sequence_in sequence.now)) }
+    ensures front { take (result.end.pos / 8) result.bytes ≡ sequence_bytes (sequence_in sequence.now) }
 {
-    let o = h.opening;
-    let count = o.operating_points_cnt_minus_1 as usize + 1;
-    let start = BitWriter { pos: 0 };
-    let w = put_opening(start, out, o);
-    let w = put_points(w, out, o, points, count);
-    let w = put_coding(
-        w,
-        out,
-        o.seq_profile,
-        !o.reduced_still_picture_header,
-        h.coding,
-    );
-    let w = put_trailing(w, out);
-    w.pos / 8
+    let o = sequence.header.opening;
+    let full = !o.reduced_still_picture_header;
+    let mut payload = Payload {
+        bytes: [0; 400],
+        end: BitWriter { pos: 0 },
+    };
+    payload.put_opening(o);
+    payload.put_points(o, sequence.points());
+    payload.put_coding(o.seq_profile, full, sequence.header.coding);
+    payload.put_trailing_bits();
+    payload
 }
 
 // The payload of these fields, put into out at `at`, or nothing if no payload reads as them or it has no room there.
+#[tactic(auto, unfolding(crate::specs::Emit::emit_placed, crate::specs::Emit::emit_lent, bitio::specs::Lent::placed, bitio::specs::Lent::lent, bitio::specs::Lent::has_room))]
 pub fn emit_sequence_header(
-    h: SequenceHeader,
-    points: [OperatingPoint; 32],
+    sequence: &SequenceObu,
     out: &mut [u8],
     at: usize,
-) -> Emitted
-    ensures result_value { emit_says result ≡ emit_placed out.old at (sequence_of h points) }
-    ensures out_after { out.new ≡ emit_lent out.old at (sequence_of h points) }
+) -> Result<usize, Refusal>
+    ensures result_value { says result ≡ emit_placed out.old at (sequence_in sequence.now) }
+    ensures out_after { out.new ≡ emit_lent out.old at (sequence_in sequence.now) }
 {
-    if !is_emittable(h, points) {
-        return Emitted::Unreadable;
+    if !is_emittable(sequence) {
+        return Err(Refusal::NotAList);
     }
-    let mut payload = [0u8; 400];
-    let n = put_sequence(h, points, &mut payload);
+    let payload = write_payload(sequence);
+    let n = payload.end.pos / 8;
     let len = out.len();
-    if len < at {
-        return Emitted::Full;
+    if len < at || len - at < n {
+        return Err(Refusal::NoRoom);
     }
-    if len - at < n {
-        return Emitted::Full;
-    }
-    Emitted::Next(put_bytes(out, at, &payload[0..n]))
+    Ok(put_bytes(out, at, &payload.bytes[..n]))
 }

@@ -1,120 +1,94 @@
 // Reading a frame header (AV1 5.9.2) up to refresh_frame_flags.
 ghost use Rattle.std.specs.Prelude.{◌≡◌};
 ghost use Rattle.bitio.specs.Limits.{limited};
-ghost use Rattle.syntax.specs.code.Cursor.{follow, here};
-ghost use Rattle.header.specs.Sequence.{sequence_of};
-ghost use Rattle.frame.specs.Frame.{show_existing, frame_info, frame_bits, parse_frame, parse_frame_from, frame_says};
+ghost use Rattle.bitio.specs.Read.{reading};
+ghost use Rattle.bitio.specs.Refusal.{says};
+ghost use Rattle.syntax.specs.Syntax.{run};
+ghost use Rattle.header.specs.Sequence.{sequence_in};
+ghost use Rattle.frame.specs.Frame.{show_existing, frame_info, frame_bits, parse_frame, parse_frame_from};
 
-use crate::frame_header::{FrameAnswer, FrameHeaderInfo, FrameInfo, sections};
+use crate::frame_header::{FrameHeaderInfo, FrameInfo, sections};
 use bitio::limits::LIMIT;
-use header::seq_header;
-use header::seq_header::{OperatingPoint, SequenceAnswer, SequenceHeader};
-use syntax::cursor::Cursor;
-
-#[derive(Clone, Copy)]
-pub(crate) struct InfoAt {
-    pub info: FrameInfo,
-    pub at: Cursor,
-}
-
-#[derive(Clone, Copy)]
-pub(crate) struct HeaderAt {
-    pub info: FrameHeaderInfo,
-    pub at: Cursor,
-}
+use bitio::reader::{BitReader, Read};
+use bitio::refusal::Refusal;
+use header::seq_header::read::parse_sequence_header;
+use header::seq_header::{SequenceHeader, SequenceObu};
 
 // A frame that is shown again.
-fn show_existing(c: Cursor, s: &[u8], point_info: bool) -> HeaderAt
-    ensures { here result.info result.at ≡ follow (show_existing point_info) s.now c }
+#[tactic(auto, unfolding(syntax::specs::Syntax::run, crate::specs::Frame::show_existing))]
+fn show_existing(r: BitReader, s: &[u8], point_info: bool) -> Read<FrameHeaderInfo>
+    ensures { reading result ≡ run (show_existing point_info) s.now r.pos }
 {
-    let slot = c.f(s, 3);
-    let at = slot.at.refuse_if(point_info, 19);
-    HeaderAt {
-        info: FrameHeaderInfo::Existing(slot.v),
-        at,
+    let (slot, r) = r.f(s, 3)?;
+    if point_info {
+        return Err(Refusal::UnequalIntervals);
     }
+    Ok((FrameHeaderInfo::Existing(slot), r))
 }
 
 // A frame that is not shown again.
-fn frame_info(c: Cursor, s: &[u8], header: SequenceHeader, removals: usize) -> InfoAt
-    ensures { here result.info result.at ≡ follow (frame_info header removals) s.now c }
+#[tactic(auto, unfolding(syntax::specs::Syntax::run, crate::specs::Frame::frame_info))]
+fn frame_info(r: BitReader, s: &[u8], header: SequenceHeader, removals: usize) -> Read<FrameInfo>
+    ensures { reading result ≡ run (frame_info header removals) s.now r.pos }
 {
-    let x = sections::frame_front(c, s, true, header);
-    let front = x.front;
-    let start = front.start;
-    let flags = sections::refresh_flags(x.at, s, header.opening.model, removals, start);
-    let info = sections::info_of(front, flags.v);
-    let at = flags.at;
-    InfoAt { info, at }
+    let (front, r) = sections::frame_front(r, s, true, header)?;
+    let (flags, r) = sections::refresh_flags(r, s, header.opening.model, removals, front.start)?;
+    Ok((sections::info_of(front, flags), r))
 }
 
 // show_existing_frame, and what follows.
-fn frame_bits(c: Cursor, s: &[u8], header: SequenceHeader, removals: usize) -> HeaderAt
-    ensures { here result.info result.at ≡ follow (frame_bits header removals) s.now c }
+#[tactic(auto, unfolding(syntax::specs::Syntax::run, crate::specs::Frame::frame_bits))]
+fn frame_bits(
+    r: BitReader,
+    s: &[u8],
+    header: SequenceHeader,
+    removals: usize,
+) -> Read<FrameHeaderInfo>
+    ensures { reading result ≡ run (frame_bits header removals) s.now r.pos }
 {
-    let existing = c.f(s, 1);
-    if existing.v == 1 {
-        return show_existing(existing.at, s, sections::has_point_info(header.opening));
+    let (existing, r) = r.f(s, 1)?;
+    if existing == 1 {
+        return show_existing(r, s, sections::has_point_info(header.opening));
     }
-    let f = frame_info(existing.at, s, header, removals);
-    let info = f.info;
-    let at = f.at;
-    HeaderAt {
-        info: FrameHeaderInfo::Frame(info),
-        at,
-    }
+    let (info, r) = frame_info(r, s, header, removals)?;
+    Ok((FrameHeaderInfo::Frame(info), r))
 }
 
 // A frame header under a sequence header that was read. For crates that read the frames of a unit within the limit.
-pub fn read_frame_header(
-    header: SequenceHeader,
-    points: [OperatingPoint; 32],
-    payload: &[u8],
-) -> FrameAnswer
-    ensures { frame_says result ≡ parse_frame (sequence_of header points) payload.now }
+#[tactic(auto, unfolding(crate::specs::Frame::parse_frame, crate::specs::Frame::frame_header))]
+pub fn read_frame_header(sequence: &SequenceObu, payload: &[u8]) -> Result<FrameHeaderInfo, Refusal>
+    ensures { says result ≡ parse_frame (sequence_in sequence.now) payload.now }
 {
+    let header = sequence.header;
     if header.opening.reduced_still_picture_header {
-        return FrameAnswer::Refused(17);
+        return Err(Refusal::ReducedStillPicture);
     }
     if header.coding.ids.frame_id_numbers_present {
-        return FrameAnswer::Refused(18);
+        return Err(Refusal::FrameIdsOn);
     }
-    let removals = sections::removals(points, header.opening.operating_points_cnt_minus_1);
-    let r = frame_bits(Cursor { pos: 0, refusal: 0 }, payload, header, removals);
-    let at = r.at;
-    if at.refusal != 0 {
-        return FrameAnswer::Refused(at.refusal);
-    }
-    let info = r.info;
-    FrameAnswer::Header(info)
+    let removals = sections::removals(sequence.points());
+    let (info, _) = frame_bits(BitReader { pos: 0 }, payload, header, removals)?;
+    Ok(info)
 }
 
 // parse_frame_header_info under a header that was read, for callers that read many frames under one; 34 leads.
-pub fn frame_header_info(
-    header: SequenceHeader,
-    points: [OperatingPoint; 32],
-    payload: &[u8],
-) -> FrameAnswer
-    ensures { frame_says result ≡ limited payload.now (parse_frame (sequence_of header points) payload.now) }
+#[tactic(auto, unfolding(bitio::specs::Limits::limited))]
+pub fn frame_header_info(sequence: &SequenceObu, payload: &[u8]) -> Result<FrameHeaderInfo, Refusal>
+    ensures { says result ≡ limited payload.now (parse_frame (sequence_in sequence.now) payload.now) }
 {
     if payload.len() > LIMIT {
-        return FrameAnswer::Refused(34);
+        return Err(Refusal::InputTooLong);
     }
-    read_frame_header(header, points, payload)
+    read_frame_header(sequence, payload)
 }
 
 // parse_frame_header_info from both payloads, the frame's and the sequence header's: 34 of either leads.
-pub fn parse_frame_header_info(payload: &[u8], sequence: &[u8]) -> FrameAnswer
-    ensures { frame_says result ≡ limited payload.now (limited sequence.now (parse_frame_from sequence.now payload.now)) }
+pub fn parse_frame_header_info(payload: &[u8], sequence: &[u8]) -> Result<FrameHeaderInfo, Refusal>
+    ensures { says result ≡ limited payload.now (limited sequence.now (parse_frame_from sequence.now payload.now)) }
 {
     if payload.len() > LIMIT {
-        return FrameAnswer::Refused(34);
+        return Err(Refusal::InputTooLong);
     }
-    let read = seq_header::read::parse_sequence_header(sequence);
-    let answer = read.answer;
-    let points = read.operating_points;
-    match answer {
-        SequenceAnswer::Header(header) => frame_header_info(header, points, payload),
-        SequenceAnswer::Refused(k) => FrameAnswer::Refused(k),
-    }
+    let sequence = parse_sequence_header(sequence)?;
+    read_frame_header(&sequence, payload)
 }

@@ -1,215 +1,103 @@
 // Reading the frame size, frame ids and coding tools of a sequence header (AV1 5.5.1).
 ghost use Rattle.std.specs.Prelude.{◌≡◌};
+ghost use Rattle.bitio.specs.Read.{reading};
 ghost use Rattle.header.specs.SequenceCoding.{frame_size, frame_ids, coding_tools, screen_tools, filters};
-ghost use Rattle.header.specs.code.ReadSays.{size_says, ids_says, tools_says, tools_from, screen_says, filters_says};
 
-use crate::fields;
-use crate::fields::Flag;
 use crate::seq_header::{Filters, FrameIds, FrameSize, ScreenTools, Tools};
-use bitio::reader::{BitReader, Bits};
+use bitio::reader::{BitReader, Read};
 
-// Each answer has the fields and the reader behind them, or the bits run out.
-#[derive(Clone, Copy)]
-pub(crate) enum SizeAt {
-    Done(FrameSize, BitReader),
-    Short,
-}
-
-#[derive(Clone, Copy)]
-pub(crate) enum IdsAt {
-    Done(FrameIds, BitReader),
-    Short,
-}
-
-#[derive(Clone, Copy)]
-pub(crate) enum ToolsAt {
-    Done(Tools, BitReader),
-    Short,
-}
-
-#[derive(Clone, Copy)]
-pub(crate) enum ScreenAt {
-    Done(ScreenTools, BitReader),
-    Short,
-}
-
-#[derive(Clone, Copy)]
-pub(crate) enum FiltersAt {
-    Done(Filters, BitReader),
-    Short,
-}
-
-// The first five coding tools.
-#[derive(Clone, Copy)]
-pub(crate) struct ToolsStart {
-    pub use_128x128_superblock: bool,
-    pub enable_filter_intra: bool,
-    pub enable_intra_edge_filter: bool,
-    pub enable_interintra_compound: bool,
-    pub enable_masked_compound: bool,
-}
-
-pub(crate) fn read_size(b: BitReader, s: &[u8]) -> SizeAt
-    ensures { size_says result ≡ frame_size s.now b.pos }
+#[tactic(auto, unfolding(crate::specs::SequenceCoding::frame_size))]
+pub(crate) fn read_size(r: BitReader, s: &[u8]) -> Read<FrameSize>
+    ensures { reading result ≡ frame_size s.now r.pos }
 {
-    let Bits::Value(width_bits, b) = b.f(s, 4) else {
-        return SizeAt::Short;
+    let (frame_width_bits_minus_1, r) = r.f(s, 4)?;
+    let (frame_height_bits_minus_1, r) = r.f(s, 4)?;
+    let (max_frame_width_minus_1, r) = r.f(s, frame_width_bits_minus_1 as usize + 1)?;
+    let (max_frame_height_minus_1, r) = r.f(s, frame_height_bits_minus_1 as usize + 1)?;
+    let size = FrameSize {
+        frame_width_bits_minus_1,
+        frame_height_bits_minus_1,
+        max_frame_width_minus_1,
+        max_frame_height_minus_1,
     };
-    let Bits::Value(height_bits, b) = b.f(s, 4) else {
-        return SizeAt::Short;
-    };
-    let Bits::Value(width, b) = b.f(s, width_bits as usize + 1) else {
-        return SizeAt::Short;
-    };
-    let Bits::Value(height, b) = b.f(s, height_bits as usize + 1) else {
-        return SizeAt::Short;
-    };
-    SizeAt::Done(
-        FrameSize {
-            frame_width_bits_minus_1: width_bits,
-            frame_height_bits_minus_1: height_bits,
-            max_frame_width_minus_1: width,
-            max_frame_height_minus_1: height,
-        },
-        b,
-    )
+    Ok((size, r))
 }
 
-pub(crate) fn read_ids(b: BitReader, s: &[u8], full: bool) -> IdsAt
-    ensures { ids_says result ≡ frame_ids s.now b.pos full }
+#[tactic(auto, unfolding(crate::specs::SequenceCoding::frame_ids))]
+pub(crate) fn read_ids(r: BitReader, s: &[u8], full: bool) -> Read<FrameIds>
+    ensures { reading result ≡ frame_ids s.now r.pos full }
 {
-    let Flag::Value(present, b) = fields::flag_or(b, s, full, false) else {
-        return IdsAt::Short;
+    let (frame_id_numbers_present, r) = r.flag_or(s, full, false)?;
+    let (delta_frame_id_length_minus_2, r) = r.f_or(s, frame_id_numbers_present, 4, 0)?;
+    let (additional_frame_id_length_minus_1, r) = r.f_or(s, frame_id_numbers_present, 3, 0)?;
+    let ids = FrameIds {
+        frame_id_numbers_present,
+        delta_frame_id_length_minus_2,
+        additional_frame_id_length_minus_1,
     };
-    let Bits::Value(delta, b) = fields::bits_or(b, s, present, 4, 0) else {
-        return IdsAt::Short;
-    };
-    let Bits::Value(additional, b) = fields::bits_or(b, s, present, 3, 0) else {
-        return IdsAt::Short;
-    };
-    IdsAt::Done(
-        FrameIds {
-            frame_id_numbers_present: present,
-            delta_frame_id_length_minus_2: delta,
-            additional_frame_id_length_minus_1: additional,
-        },
-        b,
-    )
+    Ok((ids, r))
 }
 
-// What follows the first five coding tools.
-fn read_tools_from(b: BitReader, s: &[u8], full: bool, x: ToolsStart) -> ToolsAt
-    ensures { tools_says result ≡ tools_from s.now b.pos full x }
+#[tactic(auto, unfolding(crate::specs::SequenceCoding::coding_tools))]
+pub(crate) fn read_tools(r: BitReader, s: &[u8], full: bool) -> Read<Tools>
+    ensures { reading result ≡ coding_tools s.now r.pos full }
 {
-    let Flag::Value(warped, b) = fields::flag_or(b, s, full, false) else {
-        return ToolsAt::Short;
+    let (use_128x128_superblock, r) = r.flag(s)?;
+    let (enable_filter_intra, r) = r.flag(s)?;
+    let (enable_intra_edge_filter, r) = r.flag(s)?;
+    let (enable_interintra_compound, r) = r.flag_or(s, full, false)?;
+    let (enable_masked_compound, r) = r.flag_or(s, full, false)?;
+    let (enable_warped_motion, r) = r.flag_or(s, full, false)?;
+    let (enable_dual_filter, r) = r.flag_or(s, full, false)?;
+    let (enable_order_hint, r) = r.flag_or(s, full, false)?;
+    let (enable_jnt_comp, r) = r.flag_or(s, enable_order_hint, false)?;
+    let (enable_ref_frame_mvs, r) = r.flag_or(s, enable_order_hint, false)?;
+    let tools = Tools {
+        use_128x128_superblock,
+        enable_filter_intra,
+        enable_intra_edge_filter,
+        enable_interintra_compound,
+        enable_masked_compound,
+        enable_warped_motion,
+        enable_dual_filter,
+        enable_order_hint,
+        enable_jnt_comp,
+        enable_ref_frame_mvs,
     };
-    let Flag::Value(dual, b) = fields::flag_or(b, s, full, false) else {
-        return ToolsAt::Short;
-    };
-    let Flag::Value(hint, b) = fields::flag_or(b, s, full, false) else {
-        return ToolsAt::Short;
-    };
-    let Flag::Value(jnt, b) = fields::flag_or(b, s, hint, false) else {
-        return ToolsAt::Short;
-    };
-    let Flag::Value(mvs, b) = fields::flag_or(b, s, hint, false) else {
-        return ToolsAt::Short;
-    };
-    ToolsAt::Done(
-        Tools {
-            use_128x128_superblock: x.use_128x128_superblock,
-            enable_filter_intra: x.enable_filter_intra,
-            enable_intra_edge_filter: x.enable_intra_edge_filter,
-            enable_interintra_compound: x.enable_interintra_compound,
-            enable_masked_compound: x.enable_masked_compound,
-            enable_warped_motion: warped,
-            enable_dual_filter: dual,
-            enable_order_hint: hint,
-            enable_jnt_comp: jnt,
-            enable_ref_frame_mvs: mvs,
-        },
-        b,
-    )
+    Ok((tools, r))
 }
 
-pub(crate) fn read_tools(b: BitReader, s: &[u8], full: bool) -> ToolsAt
-    ensures { tools_says result ≡ coding_tools s.now b.pos full }
+#[tactic(auto, unfolding(crate::specs::SequenceCoding::screen_tools))]
+pub(crate) fn read_screen(r: BitReader, s: &[u8], full: bool, hint: bool) -> Read<ScreenTools>
+    ensures { reading result ≡ screen_tools s.now r.pos full hint }
 {
-    let Flag::Value(superblock, b) = fields::read_flag(b, s) else {
-        return ToolsAt::Short;
+    let (choose, r) = r.flag_or(s, full, false)?;
+    let (tools, r) = r.f_or(s, full && !choose, 1, 2)?;
+    let on = full && tools > 0;
+    let (choose_mv, r) = r.flag_or(s, on, false)?;
+    let (mv, r) = r.f_or(s, on && !choose_mv, 1, 2)?;
+    let (order_hint_bits_minus_1, r) = r.f_or(s, hint, 3, 0)?;
+    let screen = ScreenTools {
+        seq_choose_screen_content_tools: choose,
+        seq_force_screen_content_tools: tools,
+        seq_choose_integer_mv: choose_mv,
+        seq_force_integer_mv: mv,
+        order_hint_bits_minus_1,
     };
-    let Flag::Value(filter, b) = fields::read_flag(b, s) else {
-        return ToolsAt::Short;
-    };
-    let Flag::Value(edge, b) = fields::read_flag(b, s) else {
-        return ToolsAt::Short;
-    };
-    let Flag::Value(interintra, b) = fields::flag_or(b, s, full, false) else {
-        return ToolsAt::Short;
-    };
-    let Flag::Value(masked, b) = fields::flag_or(b, s, full, false) else {
-        return ToolsAt::Short;
-    };
-    let x = ToolsStart {
-        use_128x128_superblock: superblock,
-        enable_filter_intra: filter,
-        enable_intra_edge_filter: edge,
-        enable_interintra_compound: interintra,
-        enable_masked_compound: masked,
-    };
-    read_tools_from(b, s, full, x)
+    Ok((screen, r))
 }
 
-pub(crate) fn read_screen(b: BitReader, s: &[u8], full: bool, hint: bool) -> ScreenAt
-    ensures { screen_says result ≡ screen_tools s.now b.pos full hint }
+#[tactic(auto, unfolding(crate::specs::SequenceCoding::filters))]
+pub(crate) fn read_filters(r: BitReader, s: &[u8]) -> Read<Filters>
+    ensures { reading result ≡ filters s.now r.pos }
 {
-    let Flag::Value(choose, b) = fields::flag_or(b, s, full, false) else {
-        return ScreenAt::Short;
+    let (enable_superres, r) = r.flag(s)?;
+    let (enable_cdef, r) = r.flag(s)?;
+    let (enable_restoration, r) = r.flag(s)?;
+    let filters = Filters {
+        enable_superres,
+        enable_cdef,
+        enable_restoration,
     };
-    let Bits::Value(tools, b) = fields::bits_or(b, s, full & !choose, 1, 2) else {
-        return ScreenAt::Short;
-    };
-    let on = full & (tools > 0);
-    let Flag::Value(choose_mv, b) = fields::flag_or(b, s, on, false) else {
-        return ScreenAt::Short;
-    };
-    let Bits::Value(mv, b) = fields::bits_or(b, s, on & !choose_mv, 1, 2) else {
-        return ScreenAt::Short;
-    };
-    let Bits::Value(bits, b) = fields::bits_or(b, s, hint, 3, 0) else {
-        return ScreenAt::Short;
-    };
-    ScreenAt::Done(
-        ScreenTools {
-            seq_choose_screen_content_tools: choose,
-            seq_force_screen_content_tools: tools,
-            seq_choose_integer_mv: choose_mv,
-            seq_force_integer_mv: mv,
-            order_hint_bits_minus_1: bits,
-        },
-        b,
-    )
-}
-
-pub(crate) fn read_filters(b: BitReader, s: &[u8]) -> FiltersAt
-    ensures { filters_says result ≡ filters s.now b.pos }
-{
-    let Flag::Value(superres, b) = fields::read_flag(b, s) else {
-        return FiltersAt::Short;
-    };
-    let Flag::Value(cdef, b) = fields::read_flag(b, s) else {
-        return FiltersAt::Short;
-    };
-    let Flag::Value(restoration, b) = fields::read_flag(b, s) else {
-        return FiltersAt::Short;
-    };
-    FiltersAt::Done(
-        Filters {
-            enable_superres: superres,
-            enable_cdef: cdef,
-            enable_restoration: restoration,
-        },
-        b,
-    )
+    Ok((filters, r))
 }

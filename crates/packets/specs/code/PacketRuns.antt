@@ -13,8 +13,11 @@ use Rattle.container.specs.code.Ranges.{kept_bytes}
 use Rattle.packets.specs.Packets.{Packet, merge_packets}
 use Rattle.container.specs.Units.{units_at, ends_of, sizes_of, bytes_after, ends_after}
 use Rattle.container.specs.Lists.{accepts}
-use Rattle.packets.specs.PacketLists.{stamped, bytes_of, times_of, lent_room, merged_at, times_after, merged_says}
-use Rattle.packets.specs.declared.packets.Merged.{Merged}
+use Rattle.packets.specs.PacketLists.{stamped, bytes_of, times_of, lent_room, merged_at, times_after}
+use Rattle.std.specs.Prelude.{Result}
+use Rattle.bitio.specs.Refusal.{says}
+use Rattle.bitio.specs.declared.refusal.Refusal.{Refusal}
+use Rattle.container.specs.declared.units.Sizes.{Sizes}
 
 -- the units of s whose ends are given, the first of which starts at `at`; an end that is not there gives an empty unit
 unfoldable pub listed_from : ℕ → List ℕ → List ℕ → List (List ℕ)
@@ -179,18 +182,20 @@ pub record Given (s es ts : List ℕ) : Type 0 where
   pub match : length es ≡ length ts
   pub listed : accepts (units_at s es) ≡ true
 
-pub record Some (s es ts : List ℕ) (c : ℕ) : Type 0 where
+-- and the first of them that closes is c
+pub record OneCloses (s es ts : List ℕ) (c : ℕ) : Type 0 where
   pub given : Given s es ts
   pub next : Next (listed s es) 0 c
   pub some : c < length es
 
-pub record None (s es ts : List ℕ) : Type 0 where
+-- or none closes
+pub record NoneCloses (s es ts : List ℕ) : Type 0 where
   pub given : Given s es ts
   pub next : Next (listed s es) 0 (length es)
 
 -- the answer, and what lent memory holds
-pub record Outcome (s es ts o e t : List ℕ) (r : Merged) (o' e' t' : List ℕ) : Type 0 where
-  pub answers : merged_says r ≡ sizes_of (answer bytes_of (merged_at (lent_room o e t) s es ts))
+pub record Outcome (s es ts o e t : List ℕ) (r : Result Sizes Refusal) (o' e' t' : List ℕ) : Type 0 where
+  pub answers : says r ≡ sizes_of (answer bytes_of (merged_at (lent_room o e t) s es ts))
   pub bytes : o' ≡ bytes_after (answer bytes_of (merged_at (lent_room o e t) s es ts)) o
   pub ends : e' ≡ ends_after (answer bytes_of (merged_at (lent_room o e t) s es ts)) e
   pub times : t' ≡ times_after (merged_at (lent_room o e t) s es ts) t

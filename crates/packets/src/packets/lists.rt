@@ -1,62 +1,62 @@
-// Packets by their index: the bytes one behind the other, and the u32 end of each.
+// Packets by their index.
 ghost use Rattle.std.specs.Prelude.{◌≡◌, ◌≤◌, length};
 ghost use Rattle.packets.specs.code.PacketRuns.{listed, unit_of, closes as closesUnit, Next, Full};
 
+use bitio::ends::{end_of, start_of};
 use obu::reader::payload;
-use obu::unit::{Counted, Kind, count_obus};
+use obu::unit::{Kind, count_obus};
 
-// Packet i, not copied; nothing where there is none.
-pub(crate) fn packet<'a>(packets: &'a [u8], ends: &[u32], i: usize) -> &'a [u8]
-    ensures { result.now ≡ unit_of packets.now ends.now i }
-{
-    if i >= ends.len() {
-        return payload(packets, 0, 0);
-    }
-    let end = ends[i] as usize;
-    if i == 0 {
-        return payload(packets, 0, end);
-    }
-    let start = ends[i - 1] as usize;
-    payload(packets, start, end)
+// Packets in lent memory: their bytes one behind the other, the u32 end of each, and the time of each.
+#[derive(Clone, Copy)]
+pub(crate) struct Packets<'a> {
+    pub(crate) bytes: &'a [u8],
+    pub(crate) ends: &'a [u32],
+    pub(crate) times: &'a [u64],
 }
 
 // Whether a packet does not parse or has a frame.
 fn closes(s: &[u8]) -> bool
     ensures { result ≡ closesUnit s.now }
 {
-    let Counted::Count(n) = count_obus(s, Kind::Frame) else {
-        return true;
-    };
-    1 <= n
+    match count_obus(s, Kind::Frame) {
+        Ok(n) => n >= 1,
+        Err(_) => true,
+    }
 }
 
-// The next packet that closes, from a on, or the number of packets.
-pub(crate) fn next_close(packets: &[u8], ends: &[u32], a: usize) -> usize
-    requires { a ≤ length ends.now }
-    ensures { Next (listed packets.now ends.now) a result }
-{
-    let mut i = a;
-    while i < ends.len() {
-        if closes(packet(packets, ends, i)) {
-            return i;
-        }
-        i += 1;
+impl<'a> Packets<'a> {
+    // Packet i, not copied; nothing where there is none.
+    pub(crate) fn get(self, i: usize) -> &'a [u8]
+        ensures { result.now ≡ unit_of self.entry.bytes.now self.entry.ends.now i }
+    {
+        payload(self.bytes, start_of(self.ends, i), end_of(self.ends, i))
     }
-    i
-}
 
-// The first packet with bytes from a on, or b.
-pub(crate) fn first_full(packets: &[u8], ends: &[u32], a: usize, b: usize) -> usize
-    requires { (a ≤ b) × (b ≤ length ends.now) }
-    ensures { Full (listed packets.now ends.now) a b result }
-{
-    let mut i = a;
-    while i < b {
-        let u = packet(packets, ends, i);
-        if u.len() > 0 {
-            return i;
+    // The next packet that closes, from a on, or the number of packets.
+    // kept: a number stands for none, since the packets that wait then go on to there
+    pub(crate) fn next_close(self, a: usize) -> usize
+        requires { a ≤ length self.ends.now }
+        ensures { Next (listed self.entry.bytes.now self.entry.ends.now) a result }
+    {
+        for i in a..self.ends.len() {
+            if closes(self.get(i)) {
+                return i;
+            }
         }
-        i += 1;
+        self.ends.len()
     }
-    i
+
+    // The first packet with bytes from a on, or b.
+    // kept: as above
+    pub(crate) fn first_full(self, a: usize, b: usize) -> usize
+        requires { (a ≤ b) × (b ≤ length self.ends.now) }
+        ensures { Full (listed self.entry.bytes.now self.entry.ends.now) a b result }
+    {
+        for i in a..b {
+            if !self.get(i).is_empty() {
+                return i;
+            }
+        }
+        b
+    }
 }

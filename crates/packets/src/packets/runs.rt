@@ -6,59 +6,45 @@ ghost use Rattle.bitio.specs.Limits.{capped};
 ghost use Rattle.container.specs.code.Ranges.{kept_bytes, Range};
 ghost use Rattle.packets.specs.code.PacketRuns.{listed, all_parsed, lead_of, Run, RunRoom};
 
-use crate::packets::lists::packet;
-use bitio::numbers::plus;
+use crate::packets::lists::Packets;
 use container::ranges::{put_written, written_len};
-use obu::reader::{ObuAt, obu_at};
+use obu::reader::obu_at;
 use obu::unit::{Kind, is_type};
 
 // Where the delimiter at the head of a packet ends, 0 if there is none.
 pub(crate) fn lead_end(s: &[u8]) -> usize
     ensures { Range s.now 0 result (lead_of s.now) }
 {
-    let ObuAt::Found(o) = obu_at(s, 0) else {
-        return 0;
-    };
-    if is_type(Kind::TemporalDelimiter, o.obu_type) {
-        return o.end;
+    match obu_at(s, 0) {
+        Ok(Some(o)) if is_type(Kind::TemporalDelimiter, o.obu_type) => o.end,
+        _ => 0,
     }
-    0
 }
 
-// How many bytes the OBUs of the packets from a to b have, written.
-pub(crate) fn run_len(packets: &[u8], ends: &[u32], a: usize, b: usize, keep: bool) -> usize
-    requires { Run packets.now ends.now a b }
-    ensures { result ≡ capped (length (kept_bytes keep (all_parsed (slice a b (listed packets.now ends.now))))) }
-{
-    let mut i = a;
-    let mut n: usize = 0;
-    while i < b {
-        let u = packet(packets, ends, i);
-        n = plus(n, written_len(u, 0, u.len(), keep));
-        i += 1;
+impl<'a> Packets<'a> {
+    // How many bytes the OBUs of the packets from a to b have, written.
+    pub(crate) fn run_len(self, a: usize, b: usize, keep: bool) -> usize
+        requires { Run self.bytes.now self.ends.now a b }
+        ensures { result ≡ capped (length (kept_bytes keep (all_parsed (slice a b (listed self.entry.bytes.now self.entry.ends.now))))) }
+    {
+        let mut n: usize = 0;
+        for i in a..b {
+            let u = self.get(i);
+            n = n.saturating_add(written_len(u, 0..u.len(), keep));
+        }
+        n
     }
-    n
-}
 
-// Writes them at `to`, where their room is known.
-pub(crate) fn put_run(
-    packets: &[u8],
-    ends: &[u32],
-    a: usize,
-    b: usize,
-    keep: bool,
-    out: &mut [u8],
-    to: usize,
-) -> usize
-    requires { RunRoom packets.now ends.now a b keep out.old to }
-    ensures { Wrote out.old to (kept_bytes keep (all_parsed (slice a b (listed packets.now ends.now)))) result out.new }
-{
-    let mut i = a;
-    let mut w = to;
-    while i < b {
-        let u = packet(packets, ends, i);
-        w = put_written(u, 0, u.len(), keep, out, w);
-        i += 1;
+    // Writes them at `to`, where their room is known.
+    pub(crate) fn put_run(self, a: usize, b: usize, keep: bool, out: &mut [u8], to: usize) -> usize
+        requires { RunRoom self.bytes.now self.ends.now a b keep out.old to }
+        ensures { Wrote out.old to (kept_bytes keep (all_parsed (slice a b (listed self.entry.bytes.now self.entry.ends.now)))) result out.new }
+    {
+        let mut w = to;
+        for i in a..b {
+            let u = self.get(i);
+            w = put_written(u, 0..u.len(), keep, out, w);
+        }
+        w
     }
-    w
 }

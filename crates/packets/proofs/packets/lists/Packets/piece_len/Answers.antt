@@ -1,0 +1,21 @@
+use Rattle.std.proofs.Common.{arith, sym, ap, ◌∙◌, length}
+use Rattle.packets.specs.code.PacketRuns.{parses_unit}
+use Rattle.packets.proofs.PacketPieceLaws.{parses-is, parses-not, front-run, back-run, apart-size}
+use Rattle.packets.proofs.packets.lists.Packets.piece_len.Goals as goal
+
+pub joined_len-requires : goal.joined_len-requires
+joined_len-requires c = record { all = c.requires; mid = parses-is _ (ap parses_unit (sym c.get-u.ensures) ∙ sym c.if-parses.ensures) }
+
+pub run_len-requires : goal.run_len-requires
+run_len-requires c = front-run c.requires
+
+pub overflow_add-c : goal.overflow_add-c
+overflow_add-c c = let p = c.requires in omega (arith, p.after, p.within)
+
+pub run_len-requires-2 : goal.run_len-requires-2
+run_len-requires-2 c = back-run c.requires
+
+pub returns : goal.returns
+returns c =
+    let n = parses-not _ (ap parses_unit (sym c.get-u.ensures) ∙ sym c.if-parses.ensures) in
+    apart-size c.args.self.bytes.now c.args.self.ends.now c.args.a c.args.c c.args.b c.requires n.0 n.1 c.run_len.ensures (ap length c.get-u.ensures) c.saturating_add-front.ensures c.run_len-2.ensures c.saturating_add.ensures
