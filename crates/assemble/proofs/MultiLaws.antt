@@ -50,12 +50,6 @@ pub over_limit : (room : OutputRoom) (n : Counts) → limit < n.picture + n.show
 unfolding fits_in
 over_limit room n h = rw (lt-leb (n.picture + n.shows + n.header) limit h)
 
-pub in-limit : (room : OutputRoom) (n : Counts) (r : Bool)
-    → r ≡ (leb (n.picture + n.shows + n.header) limit && leb n.units room.list && leb n.cues room.cues && leb n.picture room.picture && leb n.ends room.ends && leb n.shows room.shows && leb n.header room.header)
-    → r ≡ fits_in room n
-unfolding fits_in
-in-limit room n r e = e
-
 -- picture bytes and the header counted as far as a usize counts are judged alike
 module _ (room : OutputRoom) (n : Counts) (o : Output) (u : n.units ≡ length o.list) (c : n.cues ≡ length o.cues) (p : n.picture ≡ capped (length o.picture))
     (e : n.ends ≡ length o.ends) (w : n.shows ≡ length o.shows) (h : n.header ≡ capped (length o.header)) where

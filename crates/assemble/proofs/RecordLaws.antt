@@ -71,9 +71,6 @@ module _ {xs : List SegmentStruct} {d₀ d : List ℕ} {i : ℕ} (r : Copying xs
       sym (pasted-nil d (width * i)) ∙ ap (pasted d (width * i)) (sym (ap numbers_of e ∙ numbers-nil)) ∙ r.rest
 
   module _ (h : i < copy_count (length xs) (length d₀)) where
-    pub copy-less : i < length xs
-    copy-less = omega (arith, copied-within (length xs) (length d₀))
-
     pub copy-room : i < segment_count d
     copy-room = omega (arith, copied-room (length xs) (length d₀), r.len)
 

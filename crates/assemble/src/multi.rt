@@ -1,13 +1,14 @@
 // Assembly (assemble_multi, decoder_model false): segments in, the unit list and the cue list out.
-ghost use Rattle.std.specs.Prelude.{◌≡◌, ◌+◌, ◌≤◌, length};
+ghost use Rattle.std.specs.Prelude.{◌≡◌, ◌+◌, ◌≤◌, length, Err};
 ghost use Rattle.bitio.specs.Lent.{pasted};
 ghost use Rattle.bitio.specs.Limits.{capped};
 ghost use Rattle.header.specs.Sequence.{sequence_in};
 ghost use Rattle.blocks.specs.Blocks.{total};
 ghost use Rattle.blocks.specs.Numbers.{head_key, head_golden, segment_count, frames_in};
+ghost use Rattle.pictures.specs.Says.{outcome_of};
 ghost use Rattle.pictures.specs.Flat.{judged, answer_or, rewriting};
 ghost use Rattle.assemble.specs.code.Stages.{renewal_in, header_in, needed, fits_in, room_for};
-ghost use Rattle.assemble.specs.Whole.{outcome, six, Handed};
+ghost use Rattle.assemble.specs.Whole.{outcome, six, assembled_code, Handed};
 
 use crate::headers::Headers;
 use crate::plan::{Plan, plan_multi};
@@ -115,6 +116,8 @@ fn fits_room(
 }
 
 // From picture bytes and the segments' numbers.
+// kept: the six slices come apart from C, and a struct of several `&mut` slices that is lent on to calls is not covered by
+// the borrow checker
 pub fn assemble_multi(
     picture: &[u8],
     segments: &[u64],
@@ -146,4 +149,12 @@ pub fn assemble_multi(
     put_shows(shows, segments, &plan.sequence, renewal.is_some());
     put_sequence_obu(header, segments, &plan.headers);
     Ok(need)
+}
+
+// A refusal's number, and in the high bits its segment, counted from 1 so that 0 says that none is to blame.
+pub fn code_of(fault: Fault) -> u64
+    ensures { result ≡ assembled_code (outcome_of (Err fault)) }
+{
+    let segment = fault.segment.map_or(0, |i| i as u64 % 4294967295 + 1);
+    u32::from(fault.refusal) as u64 + segment * 4294967296
 }

@@ -7,6 +7,7 @@ use obu::reader::payload;
 
 // The unit of an entry, segment * 4 + kind: of the picture bytes for a key (0) or a golden (1), of the show bytes for a
 // show (2). Empty where the entry names none, or its bytes are not there.
+// kept: entries are numbers, which C reads, and the slices stand apart, as document 01 names this function
 pub fn unit<'a, 'b>(pictures: &'a [u8], shows: &'a [u8], ends: &'b [u32], entry: u32) -> &'a [u8]
     ensures { result.now ≡ named pictures.now ends.now shows.now entry }
 {

@@ -1,14 +1,13 @@
 // Assembly by way of the entry on segment structs, for comparisons: flat numbers are put into a local array of structs,
 // whose front is lent.
-ghost use Rattle.std.specs.Prelude.{◌≡◌, ◌≤◌, Err};
+ghost use Rattle.std.specs.Prelude.{◌≡◌, ◌≤◌};
 ghost use Rattle.blocks.specs.Numbers.{segment_count};
-ghost use Rattle.pictures.specs.Says.{outcome_of};
-ghost use Rattle.assemble.specs.Whole.{six, assembled_code};
+ghost use Rattle.assemble.specs.Whole.{six};
 ghost use Rattle.bench.specs.Boards.{boards_in, boards_outcome, Told};
 
+use assemble::multi::code_of;
 use assemble::segments::assemble_segments;
-use blocks::numbers::{Segment, WIDTH, is_whole, no_segment, segment_count, segment_of};
-use pictures::fault::Fault;
+use blocks::numbers::{Segment, WIDTH, is_whole, segment_count, segment_of};
 use pictures::settings::Settings;
 
 // As many boards as the array has.
@@ -24,19 +23,11 @@ fn boards_of(segments: &[u64]) -> [Segment; BOARDS]
     requires { segment_count segments.now ≤ 64 }
     ensures { result ≡ boards_in segments.now }
 {
-    let mut boards = [no_segment(); BOARDS];
+    let mut boards = [Segment::default(); BOARDS];
     for i in 0..segment_count(segments) {
         boards[i] = segment_of(segments, i);
     }
     boards
-}
-
-// A refusal's number, and in the high bits its segment, counted from 1 so that 0 says that none is to blame.
-fn code_of(fault: Fault) -> u64
-    ensures { result ≡ assembled_code (outcome_of (Err fault)) }
-{
-    let segment = fault.segment.map_or(0, |i| i as u64 % 4294967295 + 1);
-    u32::from(fault.refusal) as u64 + segment * 4294967296
 }
 
 // Assembly from flat numbers, by way of structs: 0, or why not.

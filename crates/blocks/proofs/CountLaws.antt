@@ -77,9 +77,6 @@ count_none = refl
 pub one_more : (key : Bool) (n : ℕ) → key ≡ true → n + 1 ≡ n + length (block_cue key 0)
 one_more key n e = rw e
 
-pub none_more : (key : Bool) (n : ℕ) → key ≡ false → n ≡ n + length (block_cue key 0)
-none_more key n e = rw e (omega arith)
-
 cue-most : (key : Bool) → length (block_cue key 0) ≤ 1
 cue-most true = omega arith
 cue-most false = omega arith

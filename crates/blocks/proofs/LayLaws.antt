@@ -30,9 +30,6 @@ module _ (d : List ℕ) (at v i : ℕ) where
       ap (λ (k : ℕ). set (pasted d at (replicate i v)) k v) (sym n) ∙ pasted-set d at (replicate i v) v (omega (arith, n))
       ∙ ap (pasted d at) (replicate_more i v ∙ ap (λ (k : ℕ). replicate k v) (sym (add-one i)))
 
-  pub fill-length : at + i ≤ length d → length (pasted d at (replicate i v)) ≡ length d
-  fill-length h = pasted_length d at (replicate i v) (omega (arith, length-replicate i v))
-
 -- two stores and what is put behind them
 pub two-and-more : (d : List ℕ) (w x y : ℕ) (zs : List ℕ) → w + 2 + length zs ≤ length d
     → pasted (set (set d w x) (w + 1) y) (w + 2) zs ≡ pasted d w (x ∷ y ∷ zs)
@@ -68,9 +65,6 @@ module _ (key : Bool) (c at : ℕ) where
 
   pub cue-put : (d : List ℕ) → key ≡ true → c < length d → set d c (at + 1) ≡ pasted d c (block_cue key at)
   cue-put d e h = rw e (ap (set d c) (add-one at) ∙ pasted-one d c (suc at) h)
-
-  pub cue-next : key ≡ true → c + 1 ≡ c + length (block_cue key at)
-  cue-next e = rw e
 
   pub cue-none : (d : List ℕ) → key ≡ false → (d ≡ pasted d c (block_cue key at)) × (c ≡ c + length (block_cue key at))
   cue-none d e = rw e (sym (pasted-nil d c), omega arith)
@@ -173,10 +167,6 @@ blocks-none zero gop after = refl
 blocks-none (suc k) gop after =
     let n : min 0 gop ≡ 0 = omega arith in
     rw n (blocks-none k gop (after || leb 2 0))
-
-pub next-is : (gop n : ℕ) (s : Standing) → n ≡ min s.left gop
-    → ◌≡◌ {A = Block} (record { size = n; key = not s.after || leb 2 n; behind = record { left = s.left - n; after = s.after || leb 2 n } }) (next_block gop s)
-next-is gop n s e = rw e
 
 module _ (gop : ℕ) (s : Standing) {b : Block} (is : b ≡ next_block gop s) where
   -- a block has some units, and leaves the others

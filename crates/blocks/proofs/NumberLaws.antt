@@ -41,14 +41,6 @@ frames-length rs = length-map (records rs) head_frames ∙ records-length (segme
 number_at : (rs : List ℕ) (i j : ℕ) → get_or rs (width * i + j) 0 ≡ get_or (record_at rs i) j 0
 number_at rs i j = sym (get_or-drop (width * i) rs j 0)
 
-pub segment-at : (rs : List ℕ) (i : ℕ)
-    → ◌≡◌ {A = Segment} (record { key_start = get_or rs (width * i) 0; key_end = get_or rs (width * i + 1) 0; golden_start = get_or rs (width * i + 2) 0; golden_end = get_or rs (width * i + 3) 0; frames = get_or rs (width * i + 4) 0 })
-    (head_segment (record_at rs i))
-segment-at rs i =
-    let z : width * i ≡ width * i + 0 = omega arith in
-    let e : get_or rs (width * i) 0 ≡ get_or (record_at rs i) 0 0 = ap (λ (k : ℕ). get_or rs k 0) z ∙ number_at rs i 0 in
-    λ t. record { key_start = e t; key_end = number_at rs i 1 t; golden_start = number_at rs i 2 t; golden_end = number_at rs i 3 t; frames = number_at rs i 4 t }
-
 pub record-put : (d : List ℕ) (at : ℕ) (x : Segment) → at + width ≤ length d
     → set (set (set (set (set d at x.key_start) (at + 1) x.key_end) (at + 2) x.golden_start) (at + 3) x.golden_end) (at + 4) x.frames ≡ pasted d at (record_of x)
 record-put d at x h =

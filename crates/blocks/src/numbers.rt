@@ -1,7 +1,7 @@
 // The flat numbers of the segments: read and written here alone. Code above goes by names, not by places.
 ghost use Rattle.std.specs.Prelude.{◌≡◌, ◌*◌, ◌<◌};
 ghost use Rattle.bitio.specs.Lent.{pasted};
-ghost use Rattle.blocks.specs.Numbers.{width, record_of, head_segment, no_segment, inside, head_inside, segment_count, is_whole, record_at, key_at, golden_at, frames_at};
+ghost use Rattle.blocks.specs.Numbers.{width, record_of, head_segment, inside, head_inside, segment_count, is_whole, record_at, key_at, golden_at, frames_at};
 
 use obu::reader::payload;
 
@@ -9,26 +9,13 @@ use obu::reader::payload;
 pub const WIDTH: usize = 5;
 
 // Where its key starts and ends in the picture bytes, where its golden does, and its frames.
-#[derive(Clone, Copy)]
+#[derive(Clone, Copy, Default)]
 pub struct Segment {
     pub key_start: u64,
     pub key_end: u64,
     pub golden_start: u64,
     pub golden_end: u64,
     pub frames: u64,
-}
-
-// What stands for a segment where there is none.
-pub fn no_segment() -> Segment
-    ensures { result ≡ no_segment }
-{
-    Segment {
-        key_start: 0,
-        key_end: 0,
-        golden_start: 0,
-        golden_end: 0,
-        frames: 0,
-    }
 }
 
 pub fn segment_count(segments: &[u64]) -> usize

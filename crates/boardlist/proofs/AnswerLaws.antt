@@ -6,9 +6,8 @@ use mathlib.Core.List.{List}
 use mathlib.Core.Option.{Option}
 use Rattle.std.specs.Prelude.{Result, Ok, Err}
 use lib.ListN.{length, take}
-use Rattle.bitio.specs.Parse.{accepted}
 use Rattle.bitio.specs.Lent.{span, pasted, placed, lent}
-use Rattle.bitio.proofs.LentLaws.{pasted-front, pasted_length, placed-says-room}
+use Rattle.bitio.proofs.LentLaws.{pasted-front, pasted_length}
 use Rattle.pictures.specs.Assemble.{Outcome, stopped, made, and_also, Output}
 use denote.Triple.Both.{Both}
 use Rattle.bitio.specs.declared.refusal.Refusal.{Refusal}
@@ -17,7 +16,7 @@ use Rattle.assemble.proofs.AnswerLaws.{stopped-is}
 use Rattle.assemble.proofs.MultiLaws.{RoomForAll}
 use Rattle.assemble.specs.Whole.{counts, counts_of, Lent, outcome, lent_after, Handed, output_room}
 use Rattle.assemble.specs.declared.multi.Counts.{Counts}
-use Rattle.listing.specs.File.{FileReading, read_layout, file_numbers, read_into, file_numbers_after}
+use Rattle.listing.specs.File.{FileReading, read_layout, file_numbers, settings_of, read_into, file_numbers_after}
 use Rattle.listing.specs.Text.{stopped_text, unread_text}
 use Rattle.listing.specs.Says.{file_says}
 use Rattle.listing.specs.declared.file.Layout.{Layout}
@@ -26,7 +25,7 @@ use Rattle.listing.specs.declared.file.Unread.TheVariants.{Bad, Full}
 use Rattle.listing.proofs.FileLaws.{read_is}
 use Rattle.pictures.specs.declared.settings.Settings.{Settings}
 use Rattle.boardlist.proofs.MadeLaws.{outcome_held}
-use Rattle.boardlist.specs.Printed.{text_of, made_text, CountsFit, Texted, settings_of, printed_of, printed, slices_after_of, slices_after}
+use Rattle.boardlist.specs.Printed.{text_of, made_text, CountsFit, Texted, printed_of, printed, slices_after_of, slices_after}
 
 -- the same text by another name
 pub retold : {t u : List ℕ} {r : Result ℕ Refusal} {out : Both (List ℕ) (List ℕ)} → t ≡ u → Texted t r out → Texted u r out
@@ -111,8 +110,3 @@ module _ (s numbers : List ℕ) (d : Lent) where
     pub read_left : lent_after (from (first_records l.segments numbers')) d ≡ slices_after s numbers d
     unfolding slices_after
     read_left = ap (λ (rs : List ℕ). lent_after (from rs) d) numbers_are ∙ ap (λ (r : FileReading). slices_after_of r s d) e
-
--- ---- the end of the text lies within the memory that it was put into
-
-pub end_within : (d t : List ℕ) (n : ℕ) → accepted n ≡ placed d 0 t → n ≤ length d
-end_within d t n e = let h = placed-says-room d 0 t n (sym e) in omega (arith, h.0, h.1)

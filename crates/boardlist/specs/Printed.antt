@@ -5,21 +5,16 @@ use Rattle.bitio.specs.Lent.{span, placed, lent}
 use Rattle.bitio.specs.Refusal.{says}
 use Rattle.bitio.specs.declared.refusal.Refusal.{Refusal}
 use Rattle.pictures.specs.Assemble.{Outcome, stopped, made, Output}
-use Rattle.pictures.specs.declared.settings.Settings.{Settings}
 use Rattle.assemble.specs.Whole.{Lent, six, outcome, lent_after}
 use Rattle.assemble.specs.declared.multi.Counts.{Counts}
-use Rattle.listing.specs.File.{FileReading, bad, full, read_layout, file_numbers, read_into, file_numbers_after}
+use Rattle.listing.specs.File.{FileReading, bad, full, read_layout, file_numbers, settings_of, read_into, file_numbers_after}
 use Rattle.listing.specs.Text.{listing, stopped_text, refused_text, bad_file}
-use Rattle.listing.specs.declared.file.Layout.{Layout}
 use Rattle.boardlist.specs.declared.answer.Memory.{Memory}
 
 -- the listing of what was made; a refusal, with its segment where it has one
 abbrev pub text_of : Outcome Output → List ℕ
 text_of (made o) = listing o.list (length o.cues) o.picture o.ends o.shows
 text_of (stopped k i) = stopped_text k i
-
-abbrev pub settings_of : Layout → Settings
-settings_of l = record { gop = l.gop_size; fps = l.fps; den = l.fps_den }
 
 abbrev pub printed_of : FileReading → List ℕ → Lent → List ℕ
 printed_of bad s d = bad_file

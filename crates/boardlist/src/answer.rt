@@ -2,15 +2,14 @@
 ghost use Rattle.bitio.specs.Lent.{span};
 ghost use Rattle.blocks.specs.Numbers.{first_records};
 ghost use Rattle.assemble.specs.Whole.{outcome};
-ghost use Rattle.listing.specs.File.{LayoutFits};
-ghost use Rattle.boardlist.specs.Printed.{lent_of, settings_of, made_text, CountsFit, Texted, Prints, Answers};
+ghost use Rattle.listing.specs.File.{LayoutFits, settings_of};
+ghost use Rattle.boardlist.specs.Printed.{lent_of, made_text, CountsFit, Texted, Prints, Answers};
 
 use assemble::multi::{Counts, assemble_multi};
 use bitio::refusal::Refusal;
 use blocks::numbers::WIDTH;
 use listing::file::{Layout, read_file};
 use listing::text::{Units, put_listing, put_refused, put_unread};
-use pictures::settings::Settings;
 
 // Room for so many units, and for as many segments: each has two ends and a show unit of five bytes.
 const COUNT: usize = 4096;
@@ -67,13 +66,9 @@ impl Memory {
         ensures { Prints (outcome (span file.now layout.start layout.end) (first_records layout.segments self.old.numbers) (settings_of layout)) result (record { entry = out.old; exit = out.new }) (record { entry = self.old; exit = self.new }) }
     {
         let made = assemble_multi(
-            &file[layout.start..layout.end],
-            &self.numbers[..WIDTH * layout.segments],
-            Settings {
-                gop: layout.gop_size,
-                fps: layout.fps,
-                den: layout.fps_den,
-            },
+            layout.picture(file),
+            layout.numbers(&self.numbers),
+            layout.settings(),
             &mut self.list,
             &mut self.cues,
             &mut self.pictures,

@@ -47,6 +47,16 @@ impl Memory {
         }
     }
 
+    // Cue i of the list, from 0. The first is always 1; behind the first walk the others stand in their slice, and 0 behind
+    // the last.
+    fn cue(&self, i: usize) -> Option<u32> {
+        if i == 0 {
+            return Some(1);
+        }
+        let cue = *self.cues.get(i)?;
+        (cue != 0).then_some(cue)
+    }
+
     // The whole way from a cue.
     fn walk(&mut self, form: Form, boards: &Boards, cue: u32) -> Result<usize, Fault> {
         playback::walk::walk(
@@ -75,11 +85,9 @@ impl Memory {
 pub(crate) fn play(boards: &Boards, page: &mut Page) {
     let mut memory = Memory::new();
     for i in 0..memory.cues.len() {
-        // the first is always 1; behind the first walk the others stand in their slice, and 0 behind the last
-        let cue = if i == 0 { 1 } else { memory.cues[i] };
-        if cue == 0 {
+        let Some(cue) = memory.cue(i) else {
             return;
-        }
+        };
         for form in [Form::Stream, Form::AnnexB] {
             match memory.walk(form, boards, cue) {
                 Ok(n) => page.put_shown(cue, form, &memory.shown[..n.min(memory.shown.len())]),

@@ -1,5 +1,5 @@
 // The lines that boardplay prints. They wait on a page that is written out whenever one more may have no room there.
-#![tactic(auto, using(listing::proofs::DecimalLaws::decimal_most, listing::proofs::TextLaws::length_field, listing::proofs::TextLaws::length_counted, crate::proofs::PageLaws::ends_within))]
+#![tactic(auto, using(listing::proofs::DecimalLaws::decimal_most, listing::proofs::TextLaws::length_field, listing::proofs::TextLaws::length_counted, listing::proofs::WroteLaws::ends_within))]
 
 ghost use Rattle.std.specs.Prelude.{◌≡◌, ◌+◌, ◌≤◌};
 
@@ -14,6 +14,7 @@ const ROOM: usize = 65536;
 // no line has more
 const LINE: usize = 64;
 
+// kept: the new form is no plainer: a page from listing could get these lines as methods only by a trait
 #[derive(Drop)]
 pub(crate) struct Page {
     text: [u8; ROOM],

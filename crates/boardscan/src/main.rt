@@ -20,15 +20,16 @@ fn put_segments(segments: Segments, page: &mut Page) {
 #[tactic(auto, using(listing::proofs::FileLaws::layout_fits))]
 fn main() {
     // one byte more than a file may have, so that a longer one is seen
-    let mut file = [0u8; 65537];
+    let mut bytes = [0u8; 65537];
     let mut numbers = [0u64; WIDTH * 4096];
     let mut page = Page::new();
-    let n = io::read_full(0, &mut file);
-    match read_file(&file[..n], &mut numbers) {
+    let n = io::read_full(0, &mut bytes);
+    let file = &bytes[..n];
+    match read_file(file, &mut numbers) {
         Ok(layout) => {
             let segments = Segments {
-                picture: &file[layout.start..layout.end],
-                numbers: &numbers[0..WIDTH * layout.segments],
+                picture: layout.picture(file),
+                numbers: layout.numbers(&numbers),
             };
             put_segments(segments, &mut page);
         }

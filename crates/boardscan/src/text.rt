@@ -1,5 +1,5 @@
 // The lines of a board, on a page that is written out before the next board's.
-#![tactic(auto, using(listing::proofs::DecimalLaws::decimal_most, listing::proofs::TextLaws::length_field, listing::proofs::TextLaws::length_counted))]
+#![tactic(auto, using(listing::proofs::DecimalLaws::decimal_most, listing::proofs::TextLaws::length_field, listing::proofs::TextLaws::length_counted, listing::proofs::WroteLaws::ends_within))]
 
 ghost use Rattle.std.specs.Prelude.{◌≡◌, ◌+◌, ◌≤◌, length};
 
@@ -15,6 +15,7 @@ use obu::writer::put_bytes;
 // more than the lines of any board need
 const ROOM: usize = 2048;
 
+// kept: the new form is no plainer: a page from listing could get these lines as methods only by a trait
 #[derive(Drop)]
 pub(crate) struct Page {
     text: [u8; ROOM],

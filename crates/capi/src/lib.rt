@@ -1,24 +1,14 @@
 // What a packaging host calls from C: numbers and byte slices only. Declared in include/magbelo.h.
 #![tactic(auto)]
 
-ghost use Rattle.std.specs.Prelude.{◌≡◌, Err};
+ghost use Rattle.std.specs.Prelude.{◌≡◌};
 ghost use Rattle.container.specs.Container.{stream, read};
-ghost use Rattle.pictures.specs.Says.{outcome_of};
-ghost use Rattle.assemble.specs.Whole.{outcome, six, assembled_code};
+ghost use Rattle.assemble.specs.Whole.{outcome, six};
 ghost use Rattle.capi.specs.Door.{four, UnitsRead, five, Called};
 
-use assemble::multi::assemble_multi;
+use assemble::multi::{assemble_multi, code_of};
 use container::stream::split_obu_stream;
-use pictures::fault::Fault;
 use pictures::settings::Settings;
-
-// A refusal's number, and in the high bits its segment, counted from 1 so that 0 says that none is to blame.
-fn code_of(fault: Fault) -> u64
-    ensures { result ≡ assembled_code (outcome_of (Err fault)) }
-{
-    let segment = fault.segment.map_or(0, |i| i as u64 % 4294967295 + 1);
-    u32::from(fault.refusal) as u64 + segment * 4294967296
-}
 
 // The units of a stream: 0, with their bytes in `out`, the end of each in `ends`, and how many there are of both; or
 // document 01's number, and all is as it was.

@@ -3,6 +3,7 @@ use Rattle.std.specs.Prelude.{ℕ, List, [], ◌∷◌, ◌++◌, map, Bool, tru
 use Rattle.bitio.specs.Parse.{Answer, answer}
 use Rattle.obu.specs.Obu.{Obu, obus, unit_bytes}
 use Rattle.obu.specs.Unit.{is_delimiter, is_frame, has}
+use Rattle.obu.specs.Place.{Place, no_more, wrong, lies}
 
 abbrev pub has_frame : List Obu → Bool
 has_frame os = has is_frame os
@@ -82,3 +83,9 @@ flat (u ∷ us) = u ++ flat us
 -- 01, write_obu_stream: the units, one behind the other
 unfoldable pub stream_bytes : List (List ℕ) → List ℕ
 stream_bytes us = flat us
+
+-- where the OBU ends that stands at `at`, or `at` if there is none
+abbrev pub end_of : ℕ → Place → ℕ
+end_of at no_more = at
+end_of at (wrong k) = at
+end_of at (lies t e a b) = b

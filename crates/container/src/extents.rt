@@ -1,6 +1,8 @@
 // Where the units of a stream lie in its bytes.
 ghost use Rattle.std.specs.Prelude.{◌≡◌, ℕ, ◌+◌, ◌<◌, length};
-ghost use Rattle.container.specs.code.Extents.{Frames, ToFrame, ToNext, FirstObu, FirstUnit};
+ghost use Rattle.obu.specs.Place.{obu_place};
+ghost use Rattle.container.specs.Stream.{end_of};
+ghost use Rattle.container.specs.code.Extents.{Frames, ToFrame, ToNext, FirstUnit};
 
 use obu::reader::obu_at;
 use obu::unit::{Kind, is_type};
@@ -49,10 +51,9 @@ fn to_next(s: &[u8], at: usize) -> usize
     p
 }
 
-// The end of the OBU at `at`, or `at` where nothing is left.
-fn obu_end(s: &[u8], at: usize) -> usize
-    requires { (n : ℕ) × Frames s.now at n }
-    ensures { FirstObu s.now at result }
+// Where the OBU at `at` ends, or `at` if there is none.
+pub fn obu_end(s: &[u8], at: usize) -> usize
+    ensures { result ≡ end_of at (obu_place s.now at) }
 {
     match obu_at(s, at) {
         Ok(Some(o)) => o.end,

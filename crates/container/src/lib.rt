@@ -1,7 +1,7 @@
 // Units from and to a stream, lists of units in lent memory, and the OBUs between two positions (document 01).
 #![tactic(auto)]
 
-mod extents;
+pub mod extents;
 pub mod lists;
 pub mod ranges;
 pub mod stream;

@@ -1,4 +1,4 @@
-// A frame's references, size and tiles (AV1 5.9.2, 5.9.5 to 5.9.9, 5.9.15), read with a cursor.
+// A frame's references, size and tiles (AV1 5.9.2, 5.9.5 to 5.9.9, 5.9.15).
 #![tactic(auto)]
 
 pub mod refs;

@@ -4,48 +4,37 @@ use native.Mathlib.Omega.{arith}
 use mathlib.Core.Path.{◌≡◌, refl, sym, ap, ap₂, ◌∙◌}
 use mathlib.Core.List.{List, [], ◌++◌}
 use lib.ListN.{length, get_or}
-use lib.Pow.{pow_mono, pow-add}
 use Rattle.bitio.specs.Lent.{pasted}
 use Rattle.bitio.proofs.LentLaws.{pasted-nil, pasted-more, pasted_length}
 use Rattle.blocks.specs.Numbers.{width, segment_count}
-use Rattle.listing.specs.File.{number_at, u32_at, units_length, segment_end, segment_numbers, file_numbers_from}
+use Rattle.listing.specs.File.{number_at, u32_at, u64_at, units_length, segment_end, segment_numbers, file_numbers_from}
 
--- ---- a number, from its highest byte down
+-- ---- a number's bytes
 
--- the bytes from i on come to v
-pub record Reads (s : List ℕ) (at n i v : ℕ) : Type 0 where
-  pub within : i ≤ n
-  pub same : v ≡ number_at s (at + i) (n - i)
-  pub small : v < 2 ^ (8 * (n - i))
+module _ (s : List ℕ) (at : ℕ) where
+  abbrev byte : ℕ → ℕ
+  byte i = get_or s (at + i) 0
 
-pub reads_start : (s : List ℕ) (at n : ℕ) → Reads s at n n 0
-unfolding number_at
-reads_start s at n =
-    let z : n - n ≡ 0 = omega arith in
-    record { within = omega arith; same = rw z; small = rw z (omega arith) }
-
-module _ {s : List ℕ} {at n i v : ℕ} (r : Reads s at n i v) where
-  pub reads_room : n ≤ 8 → 1 ≤ i → v < 2 ^ 56
-  reads_room h k = let p = pow_mono {i = 8 * (n - i)} {j = 56} (omega arith) in omega (arith, r.small)
-
-  pub reads_turn : 1 ≤ i → get_or s (at + (i - 1)) 0 < 256 → Reads s at n (i - 1) (256 * v + get_or s (at + (i - 1)) 0)
+  pub u32_bytes : u32_at s at ≡ get_or s at 0 + byte 1 * 256 + byte 2 * 65536 + byte 3 * 16777216
   unfolding number_at
-  reads_turn h b =
-      let k : n - (i - 1) ≡ suc (n - i) = omega arith in
-      let e : suc (at + (i - 1)) ≡ at + i = omega arith in
-      let m : 8 * (n - (i - 1)) ≡ 8 * (n - i) + 8 = omega arith in
-      let p = pow-add 2 (8 * (n - i)) 8 in
-      record {
-        within = omega (arith, r.within);
-        same = rw (k, e) (omega (arith, r.same));
-        small = rw m (omega (arith, p, r.small));
-      }
+  u32_bytes =
+      let a : suc at ≡ at + 1 = omega arith in
+      let b : suc (suc at) ≡ at + 2 = omega arith in
+      let c : suc (suc (suc at)) ≡ at + 3 = omega arith in
+      rw (c, b, a) (omega arith)
 
-  pub reads_end : i ≤ 0 → (v ≡ number_at s at n) × (v < 2 ^ (8 * n))
-  reads_end h =
-      let a : at + i ≡ at = omega arith in
-      let k : n - i ≡ n = omega arith in
-      (r.same ∙ ap₂ (number_at s) a k, rw (← k) r.small)
+  pub u64_bytes : u64_at s at ≡ get_or s at 0 + byte 1 * 256 + byte 2 * 65536 + byte 3 * 16777216
+      + byte 4 * 4294967296 + byte 5 * 1099511627776 + byte 6 * 281474976710656 + byte 7 * 72057594037927936
+  unfolding number_at
+  u64_bytes =
+      let a : suc at ≡ at + 1 = omega arith in
+      let b : suc (suc at) ≡ at + 2 = omega arith in
+      let c : suc (suc (suc at)) ≡ at + 3 = omega arith in
+      let d : suc (suc (suc (suc at))) ≡ at + 4 = omega arith in
+      let e : suc (suc (suc (suc (suc at)))) ≡ at + 5 = omega arith in
+      let f : suc (suc (suc (suc (suc (suc at))))) ≡ at + 6 = omega arith in
+      let g : suc (suc (suc (suc (suc (suc (suc at)))))) ≡ at + 7 = omega arith in
+      rw (g, f, e, d, c, b, a) (omega arith)
 
 -- ---- the sum of the lengths
 
@@ -62,9 +51,9 @@ module _ {s : List ℕ} {from count i sum : ℕ} (r : Summing s from count i sum
       let a : from + 16 * i + 16 ≡ from + 16 * (i + 1) = omega arith in
       rw k (ap (λ (q : ℕ). u32_at s (from + 16 * i) + u32_at s (from + 16 * i + 4) + units_length s (count - (i + 1)) q) a)
 
-  pub sum_turn : (x y : ℕ) → i < count → (x ≡ u32_at s (from + 16 * i)) × (x < 2 ^ 32) → (y ≡ u32_at s (from + 16 * i + 4)) × (y < 2 ^ 32) → Summing s from count (i + 1) (sum + (x + y))
-  sum_turn x y h p q =
-      record { within = omega arith; small = omega (arith, r.small, p.1, q.1); whole = omega (arith, r.whole, lengths_more h, p.0, q.0) }
+  pub sum_turn : (x y : ℕ) → i < count → x ≡ u32_at s (from + 16 * i) → x < 2 ^ 32 → y ≡ u32_at s (from + 16 * i + 4) → y < 2 ^ 32 → Summing s from count (i + 1) (sum + (x + y))
+  sum_turn x y h p a q b =
+      record { within = omega arith; small = omega (arith, r.small); whole = omega (arith, r.whole, lengths_more h, p, q) }
 
   pub sum_end : count ≤ i → sum ≡ units_length s count from
   unfolding units_length

@@ -7,7 +7,7 @@ use lib.ListN.{length, take, drop, set, length-append}
 use lib.Seq.{length-take-le, take-set-le, drop_at, set_split}
 use Rattle.bitio.specs.Parse.{accepted, refused}
 use Rattle.bitio.specs.Lent.{pasted, Wrote, placed, lent}
-use Rattle.bitio.proofs.LentLaws.{pasted-set, placed-room, placed-full, lent-room, lent-full}
+use Rattle.bitio.proofs.LentLaws.{pasted-set, placed-room, placed-full, placed-says-room, lent-room, lent-full}
 
 -- what a store behind xs, made before xs, comes to
 pub pasted_behind : (d : List ℕ) (w : ℕ) (xs : List ℕ) (i a : ℕ) → i ≡ w + length xs → i < length d → pasted (set d i a) w xs ≡ pasted d w (xs ++ (a ∷ []))
@@ -43,6 +43,10 @@ none_placed d xs h = sym (placed-full d 0 xs (omega arith))
 
 pub none_lent : (d xs : List ℕ) → length d < length xs → d ≡ lent d 0 xs
 none_lent d xs h = sym (lent-full d 0 xs (omega arith))
+
+-- a text put at the head of lent memory ends within it
+pub ends_within : (d xs : List ℕ) (end : ℕ) → accepted end ≡ placed d 0 xs → end ≤ length d
+ends_within d xs end e = let h = placed-says-room d 0 xs end (sym e) in omega (arith, h.0, h.1)
 
 -- what putting bytes says
 pub wrote : {d d' : List ℕ} {at r : ℕ} {xs : List ℕ} → (r ≡ at + length xs) × (d' ≡ pasted d at xs) → Wrote d at xs r d'

@@ -14,6 +14,7 @@ pub(crate) fn decimal_len(v: u64) -> usize
 }
 
 // Writes the digits of v, the last first.
+// kept: the new form is no plainer: io::decimal fills 20 bytes of its own, from which the digits would be copied to `at`
 #[tactic(auto, using(crate::proofs::DecimalLaws::digits_start, crate::proofs::DecimalLaws::digits_end))]
 fn put_decimal(out: &mut [u8], at: usize, v: u64) -> usize
     requires { at + length (decimal v) ≤ length out.old }

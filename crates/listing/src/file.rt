@@ -1,11 +1,12 @@
 // The file of boardlist: picture bytes, segments and settings, each after its u32 count, little-endian.
 ghost use Rattle.std.specs.Prelude.{◌≡◌, ◌+◌, ◌*◌, ◌≤◌, ◌<◌, ◌^◌, length};
-ghost use Rattle.bitio.specs.Lent.{pasted};
-ghost use Rattle.blocks.specs.Numbers.{width, segment_count};
-ghost use Rattle.listing.specs.File.{number_at, units_length, segment_numbers, segment_end, file_numbers_from, FileSized, Records, layout_in, read_into, file_numbers_after};
+ghost use Rattle.bitio.specs.Lent.{pasted, span};
+ghost use Rattle.blocks.specs.Numbers.{width, segment_count, first_records};
+ghost use Rattle.listing.specs.File.{u32_at, u64_at, units_length, segment_numbers, segment_end, file_numbers_from, FileSized, Records, settings_of, layout_in, read_into, file_numbers_after};
 ghost use Rattle.listing.specs.Says.{file_says};
 
 use blocks::numbers::{Segment, WIDTH, put_record};
+use pictures::settings::Settings;
 
 // What a file holds. The picture bytes lie from start to end.
 #[derive(Clone, Copy)]
@@ -18,6 +19,36 @@ pub struct Layout {
     pub fps_den: u32,
 }
 
+impl Layout {
+    // The picture bytes of the file.
+    #[tactic(auto, unfolding(bitio::specs::Lent::span))]
+    pub fn picture(self, file: &[u8]) -> &[u8]
+        requires start_first { self.start ≤ self.end }
+        requires within { self.end ≤ length file.now }
+        ensures { result.now ≡ span file.now self.start self.end }
+    {
+        &file[self.start..self.end]
+    }
+
+    // The numbers of its segments.
+    pub fn numbers(self, numbers: &[u64]) -> &[u64]
+        requires { width * self.segments ≤ length numbers.now }
+        ensures { result.now ≡ first_records self.segments numbers.now }
+    {
+        &numbers[..WIDTH * self.segments]
+    }
+
+    pub fn settings(self) -> Settings
+        ensures { result ≡ settings_of self }
+    {
+        Settings {
+            gop: self.gop_size,
+            fps: self.fps,
+            den: self.fps_den,
+        }
+    }
+}
+
 // Why a file is not read.
 #[derive(Clone, Copy)]
 pub enum Unread {
@@ -27,18 +58,31 @@ pub enum Unread {
     Full,
 }
 
-// The number of n bytes at `at`, the lowest first.
-#[tactic(auto, using(crate::proofs::NumberLaws::reads_start, crate::proofs::NumberLaws::reads_room, crate::proofs::NumberLaws::reads_end))]
-fn number(file: &[u8], at: usize, n: usize) -> u64
-    requires there { at + n ≤ length file.now }
-    requires width { n ≤ 8 }
-    ensures { (result ≡ number_at file.now at n) × (result < 2 ^ (8 * n)) }
+// The u32 at `at`.
+#[tactic(auto, using(crate::proofs::NumberLaws::u32_bytes))]
+fn read_u32(file: &[u8], at: usize) -> u32
+    requires { at + 4 ≤ length file.now }
+    ensures { result ≡ u32_at file.now at }
 {
-    let mut v: u64 = 0;
-    for i in (0..n).rev() {
-        v = 256 * v + file[at + i] as u64;
-    }
-    v
+    u32::from_le_bytes([file[at], file[at + 1], file[at + 2], file[at + 3]])
+}
+
+// The u64 at `at`.
+#[tactic(auto, using(crate::proofs::NumberLaws::u64_bytes))]
+fn read_u64(file: &[u8], at: usize) -> u64
+    requires { at + 8 ≤ length file.now }
+    ensures { result ≡ u64_at file.now at }
+{
+    u64::from_le_bytes([
+        file[at],
+        file[at + 1],
+        file[at + 2],
+        file[at + 3],
+        file[at + 4],
+        file[at + 5],
+        file[at + 6],
+        file[at + 7],
+    ])
 }
 
 // How many bytes the units of so many segments have.
@@ -49,7 +93,7 @@ fn units_len(file: &[u8], from: usize, count: usize) -> u64
     let mut sum: u64 = 0;
     for i in 0..count {
         let at = from + 16 * i;
-        sum += number(file, at, 4) + number(file, at + 4, 4);
+        sum += read_u32(file, at) as u64 + read_u32(file, at + 4) as u64;
     }
     sum
 }
@@ -61,16 +105,16 @@ fn settings(file: &[u8], picture: usize, count: usize) -> Option<Layout>
 {
     let from = 8 + picture;
     let at = from + 16 * count;
-    if number(file, at, 4) != 3 || units_len(file, from, count) != picture as u64 {
+    if read_u32(file, at) != 3 || units_len(file, from, count) != picture as u64 {
         return None;
     }
     Some(Layout {
         start: 4,
         end: 4 + picture,
         segments: count,
-        gop_size: number(file, at + 4, 8),
-        fps: u32::try_from(number(file, at + 12, 8)).ok()?,
-        fps_den: u32::try_from(number(file, at + 20, 8)).ok()?,
+        gop_size: read_u64(file, at + 4),
+        fps: u32::try_from(read_u64(file, at + 12)).ok()?,
+        fps_den: u32::try_from(read_u64(file, at + 20)).ok()?,
     })
 }
 
@@ -83,9 +127,9 @@ fn find(file: &[u8]) -> Option<Layout>
     }
     // the counts and the settings alone have 36 bytes
     let sections = file.len().checked_sub(36)?;
-    let picture = number(file, 0, 4) as usize;
+    let picture = read_u32(file, 0) as usize;
     let segments = sections.checked_sub(picture)?;
-    let count = number(file, 4 + picture, 4) as usize;
+    let count = read_u32(file, 4 + picture) as usize;
     if segments != 16 * count {
         return None;
     }
@@ -100,9 +144,9 @@ fn put_segment(numbers: &mut [u64], i: usize, file: &[u8], from: usize, start: u
     ensures value { (result ≡ segment_end file.now from start) × (result < start + 2 ^ 33) }
     ensures numbers_after { numbers.new ≡ pasted numbers.old (width * i) (segment_numbers file.now from start) }
 {
-    let key = start + number(file, from, 4);
-    let golden = key + number(file, from + 4, 4);
-    let frames = number(file, from + 8, 8);
+    let key = start + read_u32(file, from) as u64;
+    let golden = key + read_u32(file, from + 4) as u64;
+    let frames = read_u64(file, from + 8);
     put_record(
         numbers,
         i,

@@ -1,4 +1,5 @@
 // The text that boardlist prints: a list of units, or why there is none.
+// kept: put into lent memory by functions of our own, as `Display` needs a String or a stream
 ghost use Rattle.std.specs.Prelude.{◌≡◌, ◌+◌, ◌≤◌, length, leb};
 ghost use Rattle.bitio.specs.Lent.{Wrote, placed, lent};
 ghost use Rattle.bitio.specs.Refusal.{says};

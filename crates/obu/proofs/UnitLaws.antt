@@ -125,16 +125,6 @@ module _ {A : Type 0} (last : Bool) (p : A → Bool) where
       go false true t y = refl
       go false false t y = refl
 
--- and then something is kept
-pub seen_next : {A : Type 0} (last t : Bool) (x : A) (y : Option A) → is_some (pick ((last || not (is_some y)) && t) (some x) y) ≡ (is_some y || t)
-seen_next true true x none = refl
-seen_next true true x (some y) = refl
-seen_next true false x none = refl
-seen_next true false x (some y) = refl
-seen_next false true x none = refl
-seen_next false false x none = refl
-seen_next false t x (some y) = refl
-
 -- something is kept where something was sought and found
 pub kept_none : (s : List ℕ) (x : Optional Found) (y : Option Located) → sought_says s (Ok x) ≡ accepted y → is_none x ≡ not (is_some y)
 kept_none s None none e = refl

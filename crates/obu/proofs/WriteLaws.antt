@@ -10,7 +10,6 @@ use lib.ListN.{length, set, length-append}
 use Rattle.bitio.specs.Parse.{accepted, refused}
 use Rattle.bitio.specs.Lent.{pasted}
 use Rattle.bitio.specs.Leb.{leb_bytes, framed}
-use Rattle.bitio.proofs.LebLaws.{bytes-mono}
 use Rattle.bitio.proofs.LentLaws.{pasted-more, pasted-one, pasted-set, placed-room, lent-room, placed-full, lent-full}
 use Rattle.obu.specs.Obu.{passes, ext_bytes, header, obu_bytes}
 use Rattle.obu.specs.Write.{obu_length, obu, obu_placed, obu_lent}
@@ -51,14 +50,6 @@ obu-pasted d at t e p {a} {b} {c} {i} {j} h ea ei r eb ej ec =
     let k : i + length lb ≡ at + length (hd ++ lb) = omega arith in
     let ob : b ≡ pasted d at (hd ++ lb) = eb ∙ ap₂ (λ x y. pasted x y lb) ea (ei ∙ m) ∙ pasted-more d at hd h lb in
     ec ∙ ap₂ (λ x y. pasted x y p) ob (ej ∙ k) ∙ pasted-more d at (hd ++ lb) h p ∙ ap (pasted d at) (append_assoc hd lb p)
-
--- where a size n and m bytes have room, so have a lesser size v, and the m bytes behind it
-module _ (p m l v n : ℕ) (h : v ≤ n) (r : p + length (leb_bytes n) + m ≤ l) where
-  pub size_room : p + length (leb_bytes v) ≤ l
-  size_room = omega (arith, bytes-mono h)
-
-  pub behind-room : (q : ℕ) → q ≡ p + length (leb_bytes v) → q + m ≤ l
-  behind-room q e = omega (arith, bytes-mono h)
 
 -- ---- the outcomes of writing an OBU
 

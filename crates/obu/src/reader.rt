@@ -7,6 +7,7 @@ use bitio::refusal::Refusal;
 
 #[derive(Clone, Copy)]
 pub struct Obu {
+    // kept: a number, as `put_obu` takes any and refuses those that do not pass (2)
     pub obu_type: u8,
     // temporal_id in three bits, spatial_id in two, three reserved
     pub extension: Option<u8>,

@@ -4,7 +4,7 @@ use native.Mathlib.Omega.{arith}
 use mathlib.Core.Path.{◌≡◌, refl, sym, ap, ◌∙◌}
 use mathlib.Core.List.{List, [], ◌∷◌}
 use mathlib.Core.Bool.{Bool, true, false, cond as pick, ◌&&◌}
-use lib.ListN.{length, take, drop, get_or, length-drop, get_or-eq_default}
+use lib.ListN.{length, take, drop, get_or, length-drop}
 use lib.Seq.{slice, slice_empty, drop-drop}
 use lib.Dec.{leb, eqb}
 use borrow.Author.Tests.{le-leb, lt-leb, leb-true, leb-false, eqb-true, eq-eqb, ne_eqb}
@@ -87,9 +87,6 @@ pub listed-length : (at : ℕ) (s es : List ℕ) → length (listed_from at s es
 unfolding listed_from
 listed-length at s [] = refl
 listed-length at s (e ∷ es) = ap suc (listed-length e s es)
-
-pub listed-out : (s es : List ℕ) (i : ℕ) → length es ≤ i → get_or (listed s es) i [] ≡ []
-listed-out s es i l = get_or-eq_default (listed s es) [] (omega (arith, listed-length 0 s es))
 
 part-zero : (s : List ℕ) (a : ℕ) → part s a 0 ≡ []
 unfolding part span

@@ -14,14 +14,14 @@ use Rattle.bitio.proofs.LentLaws.{wrote-length, wrote-more}
 use Rattle.obu.specs.Obu.{Obu, obus}
 use Rattle.obu.specs.Unit.{of_unit}
 use Rattle.obu.proofs.ObuLaws.{obus-nil}
-use Rattle.bitio.specs.Limits.{limit, capped}
+use Rattle.bitio.specs.Limits.{capped}
 use Rattle.container.specs.Stream.{lead, others, either}
-use Rattle.container.specs.code.Ranges.{Range, here, more, kept_bytes, Ranged, Measured, Roomy, WroteKept}
+use Rattle.container.specs.code.Ranges.{Range, here, more, kept_bytes}
 use Rattle.container.proofs.StreamLaws.{bytes-append}
 use Rattle.container.proofs.RangeLaws.{range-end}
 use Rattle.packets.specs.code.PacketRuns.{listed, unit_of, all_parsed, parsed, lead_of, piece, Parses, Full, Run, RunRoom, HeadAt, found, missing, LeadAt, waiting, closing, behind, parses_unit, Piece, Joins}
 use Rattle.packets.proofs.SliceLaws.{slice_at, every-or}
-use Rattle.packets.proofs.PacketListLaws.{listed-length, listed-out, listed-short}
+use Rattle.packets.proofs.PacketListLaws.{listed-length, listed-short}
 use Rattle.packets.proofs.PacketSteps.{first-obu, lead-found, lead-missing}
 use Rattle.packets.proofs.PacketRunLaws.{lead-empty, run_bytes, parsed-append}
 
@@ -57,12 +57,12 @@ module _ {s es : List ℕ} {a b i : ℕ} (r : Run s es a b) (f : Full (listed s 
   head-found : i < b → lead_of (unit_of s es i) ≡ lead (all_parsed (slice a b (listed s es)))
   head-found l = lead-found (listed s es) a b i inside f l r.parse
 
-  head-missing : b ≤ i → lead_of (unit_of s es (length es)) ≡ lead (all_parsed (slice a b (listed s es)))
+  head-missing : b ≤ i → lead_of [] ≡ lead (all_parsed (slice a b (listed s es)))
   head-missing l =
       let e : i ≡ b = omega (arith, f.within) in
-      rw (listed-out s es (length es) (omega arith), lead-empty, lead-missing (listed s es) a b i inside f e)
+      rw (lead-empty, lead-missing (listed s es) a b i inside f e)
 
-head-leads : {s es : List ℕ} {a b r : ℕ} → Run s es a b → HeadAt s es a b r → lead_of (unit_of s es r) ≡ lead (all_parsed (slice a b (listed s es)))
+head-leads : {s es : List ℕ} {a b : ℕ} {u : List ℕ} → Run s es a b → HeadAt s es a b u → lead_of u ≡ lead (all_parsed (slice a b (listed s es)))
 head-leads x (found f l) = head-found x f l
 head-leads x (missing f l) = head-missing x f l
 
@@ -70,14 +70,27 @@ range-nil : {s : List ℕ} {a b : ℕ} {l : List Obu} → Range s a b l → l �
 range-nil (here l) e = refl
 range-nil (more p r) e = let z : ◌≡◌ {A = ℕ} 0 1 = cc in absurd (omega arith)
 
-module _ {u v : List ℕ} (q : u ≡ v) {e : ℕ} (r : Range u 0 e (lead_of u)) where
+module _ {u : List ℕ} {e : ℕ} (r : Range u 0 e (lead_of u)) where
   -- a delimiter stands there
-  pub lead-yes : 0 < e → lead_of v ≡ [] → ⊥
-  lead-yes l n = let z = range-nil r (ap lead_of q ∙ n) in omega arith
+  pub lead-yes : 0 < e → lead_of u ≡ [] → ⊥
+  lead-yes l n = let z = range-nil r n in omega arith
 
   -- none does
-  pub lead-no : e ≤ 0 → lead_of v ≡ []
-  lead-no l = rw (← q) (range-end r l)
+  pub lead-no : e ≤ 0 → lead_of u ≡ []
+  lead-no l = range-end r l
+
+-- packets are no longer than the bytes
+unit-short : (s es : List ℕ) (i : ℕ) → length (unit_of s es i) ≤ length s
+unit-short s es i = every-or (λ x. length x ≤ length s) i (listed s es) [] (omega arith) (listed-short 0 s es)
+
+head-short : {s es : List ℕ} {a b : ℕ} {u : List ℕ} → HeadAt s es a b u → length u ≤ length s
+head-short {s} {es} (found {i} f l) = unit-short s es i
+head-short (missing f l) = omega arith
+
+pub lead-short : {s es : List ℕ} {a c b : ℕ} {u : List ℕ} → LeadAt s es a c b u → length u ≤ length s
+lead-short (waiting h n) = head-short h
+lead-short {s} {es} {c} (closing h n m) = unit-short s es c
+lead-short (behind h n m k) = head-short k
 
 -- ---- the runs of a piece
 
@@ -120,23 +133,6 @@ module _ {s es : List ℕ} {a c b : ℕ} (p : Piece s es a c b) where
   unfolding piece
   piece-apart k e = rw e
 
--- ---- a packet's head, measured and written
-
-module _ (s es : List ℕ) (i : ℕ) {u : List ℕ} {e : ℕ} (short : length s ≤ limit) (q : u ≡ unit_of s es i) (r : Range u 0 e (lead_of u)) where
-  pub head-ranged : Ranged u 0 e
-  head-ranged =
-      let k = every-or (λ x. length x ≤ length s) i (listed s es) [] (omega arith) (listed-short 0 s es) in
-      record { short = omega (arith, ap length q); os = lead_of u; range = r }
-
-  pub head-measured : {n : ℕ} → Measured u 0 e true n → n ≡ length (kept_bytes true (lead_of (unit_of s es i)))
-  head-measured f = f (lead_of u) r ∙ ap (λ x. length (kept_bytes true (lead_of x))) q
-
-  pub head-wrote : {d o : List ℕ} {to w : ℕ} → WroteKept u 0 e true d to w o → Wrote d to (kept_bytes true (lead_of (unit_of s es i))) w o
-  head-wrote {d} {o} {to} {w} f = rw q at (f (lead_of u) r)
-
-  pub head-roomy : {d : List ℕ} {to : ℕ} → to + length (kept_bytes true (lead_of (unit_of s es i))) ≤ length d → Roomy u 0 e true d to
-  head-roomy l = record { os = lead_of u; range = r; room = omega (arith, ap (λ x. length (kept_bytes true (lead_of x))) q) }
-
 -- ---- the three places where the delimiter may stand
 
 module _ (s es : List ℕ) (a c b : ℕ) (j : Joins s es a c b) where
@@ -153,9 +149,9 @@ module _ (s es : List ℕ) (a c b : ℕ) (j : Joins s es a c b) where
   either-some [] y n = absurd (n refl)
   either-some (o ∷ x) y n = refl
 
-  lead-leads : {r : ℕ} → LeadAt s es a c b r → lead_of (unit_of s es r) ≡ either first (either second third)
-  lead-leads (waiting {i} h n) =
-      either-some (lead_of (unit_of s es i)) (either second third) n ∙ ap (λ y. either y (either second third)) (head-leads (front-run j.all) h)
+  lead-leads : {u : List ℕ} → LeadAt s es a c b u → lead_of u ≡ either first (either second third)
+  lead-leads (waiting {u} h n) =
+      either-some (lead_of u) (either second third) n ∙ ap (λ y. either y (either second third)) (head-leads (front-run j.all) h)
   lead-leads (closing h n m) =
       rw (← head-leads (front-run j.all) h, n)
       (either-some (lead_of (unit_of s es c)) third m ∙ ap (λ y. either y third) (lead-parsed (unit_of s es c) j.mid))
@@ -164,22 +160,22 @@ module _ (s es : List ℕ) (a c b : ℕ) (j : Joins s es a c b) where
 
   -- ---- where the packet that closes parses
 
-  module _ (i : ℕ) (h : LeadAt s es a c b i) where
-    split : piece (listed s es) a c b ≡ kept_bytes true (lead_of (unit_of s es i)) ++ run_bytes false (listed s es) a b
-    split = piece-joined j.all j.mid (lead_of (unit_of s es i)) (lead-leads h)
+  module _ (u : List ℕ) (h : LeadAt s es a c b u) where
+    split : piece (listed s es) a c b ≡ kept_bytes true (lead_of u) ++ run_bytes false (listed s es) a b
+    split = piece-joined j.all j.mid (lead_of u) (lead-leads h)
 
-    split-length : length (piece (listed s es) a c b) ≡ length (kept_bytes true (lead_of (unit_of s es i))) + length (run_bytes false (listed s es) a b)
-    split-length = ap length split ∙ length-append (kept_bytes true (lead_of (unit_of s es i))) (run_bytes false (listed s es) a b)
+    split-length : length (piece (listed s es) a c b) ≡ length (kept_bytes true (lead_of u)) + length (run_bytes false (listed s es) a b)
+    split-length = ap length split ∙ length-append (kept_bytes true (lead_of u)) (run_bytes false (listed s es) a b)
 
-    pub joined-size : {m n k : ℕ} → m ≡ length (kept_bytes true (lead_of (unit_of s es i))) → n ≡ capped (length (run_bytes false (listed s es) a b)) → k ≡ capped (m + n)
+    pub joined-size : {m n k : ℕ} → m ≡ length (kept_bytes true (lead_of u)) → n ≡ capped (length (run_bytes false (listed s es) a b)) → k ≡ capped (m + n)
         → k ≡ capped (length (piece (listed s es) a c b))
     joined-size p q r = omega (arith, split-length)
 
-    pub joined-head : (d : List ℕ) (to : ℕ) → to + length (piece (listed s es) a c b) ≤ length d → to + length (kept_bytes true (lead_of (unit_of s es i))) ≤ length d
+    pub joined-head : (d : List ℕ) (to : ℕ) → to + length (piece (listed s es) a c b) ≤ length d → to + length (kept_bytes true (lead_of u)) ≤ length d
     joined-head d to room = omega (arith, split-length)
 
     module _ {d : List ℕ} {to : ℕ} (room : to + length (piece (listed s es) a c b) ≤ length d) where
-      module _ {o : List ℕ} {w : ℕ} (x : Wrote d to (kept_bytes true (lead_of (unit_of s es i))) w o) where
+      module _ {o : List ℕ} {w : ℕ} (x : Wrote d to (kept_bytes true (lead_of u)) w o) where
         pub joined-room : RunRoom s es a b false o w
         joined-room =
             record {

@@ -47,8 +47,5 @@ impl From<Refusal> for Fault {
 pub fn in_segment<T>(answer: Result<T, Refusal>, i: usize) -> Result<T, Fault>
     ensures { outcome_of result ≡ in_segment i (says answer) }
 {
-    match answer {
-        Ok(value) => Ok(value),
-        Err(refusal) => Err(Fault::in_segment(refusal, i)),
-    }
+    answer.map_err(|refusal| Fault::in_segment(refusal, i))
 }

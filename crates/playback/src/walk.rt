@@ -11,7 +11,7 @@ use pictures::settings::Settings;
 
 // How many positions have their number. Every buffer is the caller's; what a refusal leaves in them is what the steps
 // before it wrote.
-// kept: buffers apart, as assembly and way's functions take them.
+// kept: buffers apart, as assemble_multi takes them, for its reason.
 pub fn walk(
     form: Form,
     picture: &[u8],

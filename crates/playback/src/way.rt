@@ -47,7 +47,7 @@ impl Form {
 }
 
 // The units that the list's entries name, gathered and then written in a container.
-// kept: buffers apart, here and below: a struct of `&mut` slices needs a clause for each, that it lends the same slice on.
+// kept: buffers apart, here and below, as in assemble_multi.
 pub fn write_list(
     form: Form,
     listed: &Listed,

@@ -1,6 +1,6 @@
 -- Laws of the fields of a line.
-use Rattle.std.proofs.Common.{◌≡◌, refl, List, None, ℕ, zero, suc, ◌+◌, ◌-◌, ◌≤◌, ◌<◌, arith}
-use Rattle.protocol.specs.Fields.{FieldsRead, field_after, fields_in}
+use Rattle.std.proofs.Common.{◌≡◌, refl, List, Err, ℕ, zero, suc, ◌+◌, ◌-◌, ◌≤◌, ◌<◌, arith}
+use Rattle.protocol.specs.Fields.{Place, FieldsRead, field_after, fields_in}
 
 -- one more of those that are left
 pub fields_more : (k i : ℕ) (s : List ℕ) (t : FieldsRead) → i < k
@@ -17,7 +17,7 @@ fields_end k i s t h =
     rw e refl
 
 -- behind a bad one nothing more is read
-pub fields_bad : (k : ℕ) (s d es ns : List ℕ) → fields_in k s (record { fields = None; decoded = d; ends = es; numbers = ns }) ≡ record { fields = None; decoded = d; ends = es; numbers = ns }
+pub fields_bad : (k : ℕ) (s d es ns : List ℕ) (p : Place) → fields_in k s (record { fields = Err p; decoded = d; ends = es; numbers = ns }) ≡ record { fields = Err p; decoded = d; ends = es; numbers = ns }
 unfolding fields_in
-fields_bad zero s d es ns = refl
-fields_bad (suc k) s d es ns = fields_bad k s d es ns
+fields_bad zero s d es ns p = refl
+fields_bad (suc k) s d es ns p = fields_bad k s d es ns p

@@ -4,20 +4,11 @@ use mathlib.Core.Path.{◌≡◌, sym, ap, ◌∙◌}
 use mathlib.Core.List.{List, ◌++◌}
 use Rattle.bitio.specs.Parse.{Answer, refused, accepted}
 use Rattle.protocol.specs.Answers.{Line}
-use Rattle.protocol.specs.Answers.{parts_of, refused_with, Numbered, numbered, with_numbers, filled, parted}
-use Rattle.protocol.specs.Told.{numbers_by, told}
+use Rattle.protocol.specs.Answers.{parts_of, refused_with, Numbered, numbered, with_numbers}
+use Rattle.protocol.specs.Told.{numbers_by}
 use Rattle.protocol.proofs.AnswerLaws.{numbers_more}
 
 -- ---- answers with lent memory are equal where each part is
-
-pub same-filled : {r q : Line} {s t : List ℕ} → r ≡ q → s ≡ t → filled r s ≡ filled q t
-same-filled i j = rw (i, j)
-
-pub same-parted : {r q : Line} {s t e f : List ℕ} → r ≡ q → s ≡ t → e ≡ f → parted r s e ≡ parted q t f
-same-parted i j k = rw (i, j, k)
-
-pub same-told : {r q : Line} {s t e f n m : List ℕ} → r ≡ q → s ≡ t → e ≡ f → n ≡ m → told r s e n ≡ told q t f m
-same-told i j k l = rw (i, j, k, l)
 
 -- ---- the two ways that numbers are told: x is what the library answers
 

@@ -1,6 +1,7 @@
 -- The fields of a line, each of the kind that its request asks for.
-use Rattle.std.specs.Prelude.{ℕ, zero, suc, ◌+◌, ◌%◌, ◌^◌, List, Bool, true, false, ◌&&◌, cond as pick, Option, Some, None, length, set, leb, ltb, eqb}
-use Rattle.std.specs.Option.{option_map, option_and_then}
+use Rattle.std.specs.Prelude.{ℕ, zero, suc, ◌+◌, ◌-◌, ◌%◌, ◌^◌, List, Bool, true, false, ◌&&◌, cond as pick, Option, Some, None, Result, Ok, Err, length, set, leb, ltb, eqb}
+use Rattle.std.specs.Option.{option_and_then}
+use Rattle.std.specs.Result.{result_map_both}
 use Rattle.std.specs.Str.{bytes_eq}
 use Rattle.protocol.specs.Text.{ascii, byte_string, decoded_to, decoded_in, read_number, word_at}
 use Rattle.protocol.specs.Kinds.{no_byte, largest_of, Form, form, split_of, stop_of}
@@ -21,30 +22,34 @@ pub record Place : Type 0 where
 abbrev pub place : Fields → Place
 place f = record { next = f.next; format = form f.format; bytes = f.bytes; ends = f.ends; numbers = f.numbers }
 
--- the same, or none once a field was bad, and the memory that fields go to
+-- the same, an error once a field was bad, and the memory that fields go to
 pub record FieldsRead : Type 0 where
-  pub fields : Option Place
+  pub fields : Result Place Place
   pub decoded : List ℕ
   pub ends : List ℕ
   pub numbers : List ℕ
 
-abbrev pub fields_read : Option Fields → (decoded ends numbers : List ℕ) → FieldsRead
-fields_read f d es ns = record { fields = option_map place f; decoded = d; ends = es; numbers = ns }
+abbrev pub fields_read : Result Fields Fields → (decoded ends numbers : List ℕ) → FieldsRead
+fields_read f d es ns = record { fields = result_map_both place place f; decoded = d; ends = es; numbers = ns }
 
 -- ---- one field
 
+-- behind a bad one: nothing more is read
+abbrev pub spoiled_of : Place → Place
+spoiled_of p = record { next = 2 ^ 64 - 1; format = p.format; bytes = p.bytes; ends = p.ends; numbers = p.numbers }
+
 -- a byte string that ends at e, as one more of those whose ends are es
 abbrev pub with_bytes : Place → (d es ns : List ℕ) → Option ℕ → FieldsRead
-with_bytes p d es ns None = record { fields = None; decoded = d; ends = es; numbers = ns }
+with_bytes p d es ns None = record { fields = Err (spoiled_of p); decoded = d; ends = es; numbers = ns }
 with_bytes p d es ns (Some e) =
     pick (ltb p.ends (length es))
     (record {
-      fields = Some (record { next = p.next; format = p.format; bytes = e; ends = p.ends + 1; numbers = p.numbers });
+      fields = Ok (record { next = p.next; format = p.format; bytes = e; ends = p.ends + 1; numbers = p.numbers });
       decoded = d;
       ends = set es p.ends (e % 2 ^ 32);
       numbers = ns;
     })
-    (record { fields = None; decoded = d; ends = es; numbers = ns })
+    (record { fields = Err (spoiled_of p); decoded = d; ends = es; numbers = ns })
 
 -- the word w as a byte string, put behind those before it
 unfoldable pub bytes_field : Place → (d es ns : List ℕ) → List ℕ → FieldsRead
@@ -64,16 +69,16 @@ value_of kind w =
     (option_and_then (λ most. option_and_then (up_to most) (read_number w)) (largest_of kind))
 
 abbrev pub with_number : Place → (d es ns : List ℕ) → Option ℕ → FieldsRead
-with_number p d es ns None = record { fields = None; decoded = d; ends = es; numbers = ns }
+with_number p d es ns None = record { fields = Err (spoiled_of p); decoded = d; ends = es; numbers = ns }
 with_number p d es ns (Some v) =
     pick (ltb p.numbers (length ns))
     (record {
-      fields = Some (record { next = p.next; format = p.format; bytes = p.bytes; ends = p.ends; numbers = p.numbers + 1 });
+      fields = Ok (record { next = p.next; format = p.format; bytes = p.bytes; ends = p.ends; numbers = p.numbers + 1 });
       decoded = d;
       ends = es;
       numbers = set ns p.numbers v;
     })
-    (record { fields = None; decoded = d; ends = es; numbers = ns })
+    (record { fields = Err (spoiled_of p); decoded = d; ends = es; numbers = ns })
 
 -- the word w as a number
 unfoldable pub value_field : Place → (d es ns : List ℕ) → Kind → List ℕ → FieldsRead
@@ -92,7 +97,7 @@ behind p n f = record { next = n; format = f; bytes = p.bytes; ends = p.ends; nu
 
 -- a field of the kind of i, before those of f: it ends at what stands before the next
 abbrev pub field_at : List ℕ → Place → (d es ns : List ℕ) → Option (Item × Form) → FieldsRead
-field_at s p d es ns None = record { fields = None; decoded = d; ends = es; numbers = ns }
+field_at s p d es ns None = record { fields = Err (spoiled_of p); decoded = d; ends = es; numbers = ns }
 field_at s p d es ns (Some x) =
     let w = word_at (stop_of x.1) s p.next in
     field_from (behind p (p.next + length w + 1) x.1) d es ns x.0.kind w
@@ -100,13 +105,13 @@ field_at s p d es ns (Some x) =
 -- one field more, if one is left
 unfoldable pub field_of : List ℕ → Place → (d es ns : List ℕ) → FieldsRead
 field_of s p d es ns =
-    pick (ltb (length s) p.next) (record { fields = Some p; decoded = d; ends = es; numbers = ns })
+    pick (ltb (length s) p.next) (record { fields = Ok p; decoded = d; ends = es; numbers = ns })
     (field_at s p d es ns (split_of p.format))
 
 -- the same, if none before it was bad
-abbrev pub field_after : List ℕ → Option Place → (d es ns : List ℕ) → FieldsRead
-field_after s None d es ns = record { fields = None; decoded = d; ends = es; numbers = ns }
-field_after s (Some p) d es ns = field_of s p d es ns
+abbrev pub field_after : List ℕ → Result Place Place → (d es ns : List ℕ) → FieldsRead
+field_after s (Err p) d es ns = record { fields = Err p; decoded = d; ends = es; numbers = ns }
+field_after s (Ok p) d es ns = field_of s p d es ns
 
 -- k fields more
 unfoldable pub fields_in : ℕ → List ℕ → FieldsRead → FieldsRead
@@ -117,15 +122,16 @@ fields_in (suc k) s t = fields_in k s (field_after s t.fields t.decoded t.ends t
 abbrev pub is_all_of : Place → List ℕ → Bool
 is_all_of p s = eqb p.next (length s + 1) && eqb (length p.format.items) 0
 
-abbrev pub all_of : List ℕ → Place → Option Place
-all_of s p = pick (is_all_of p s) (Some p) None
+abbrev pub all_of : List ℕ → Result Place Place → Result Place Place
+all_of s (Err p) = Err p
+all_of s (Ok p) = pick (is_all_of p s) (Ok p) (Err p)
 
 abbrev pub all_read : List ℕ → FieldsRead → FieldsRead
-all_read s t = record { fields = option_and_then (all_of s) t.fields; decoded = t.decoded; ends = t.ends; numbers = t.numbers }
+all_read s t = record { fields = all_of s t.fields; decoded = t.decoded; ends = t.ends; numbers = t.numbers }
 
 abbrev pub start_of : ℕ → Form → Place
 start_of n f = record { next = n; format = f; bytes = 0; ends = 0; numbers = 0 }
 
 -- all fields from n on: there are fewer of them than characters
 abbrev pub fields_of : List ℕ → ℕ → Form → (decoded ends numbers : List ℕ) → FieldsRead
-fields_of s n f d es ns = all_read s (fields_in (length s) s (record { fields = Some (start_of n f); decoded = d; ends = es; numbers = ns }))
+fields_of s n f d es ns = all_read s (fields_in (length s) s (record { fields = Ok (start_of n f); decoded = d; ends = es; numbers = ns }))

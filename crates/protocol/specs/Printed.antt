@@ -3,7 +3,7 @@ use Rattle.std.specs.Prelude.{ℕ, zero, suc, ◌+◌, ◌-◌, ◌/◌, ◌%◌
 use Rattle.bitio.specs.Limits.{capped}
 use Rattle.bitio.specs.Lent.{span}
 use Rattle.protocol.specs.Answers.{Line, line}
-use Rattle.protocol.specs.Kinds.{no_byte, plain, any, separator_of, item_of, Form, form, split_of}
+use Rattle.protocol.specs.Kinds.{no_byte, plain, any, separator_of, item_code, item_of, Form, form, split_of}
 use Rattle.protocol.specs.Marked.{is_clean}
 use Rattle.protocol.specs.Text.{ascii}
 use Rattle.protocol.specs.Told.{Told, told}
@@ -83,13 +83,26 @@ is_over a _ p = leb a.numbers p.numbers
 abbrev pub told_at : ℕ → ℕ → Printing → Printing
 told_at v n p = record { item = item_of (v % 256); told = v / 256; format = p.format; parts = p.parts; numbers = n }
 
--- at the item i before those of f, in whose place the next number may tell some
-abbrev pub opened_by : Told → Kind → Printing → Printing
-opened_by t Tells p = told_at (get_or t.numbers p.numbers 0) (after_of p.numbers) p
-opened_by t _ p = p
+-- at the first item that the next number tells, in place of all but the repeated ones
+abbrev pub opened_of : Told → Printing → Printing
+opened_of t p =
+    record {
+      item = item_of (get_or t.numbers p.numbers 0 % 256);
+      told = get_or t.numbers p.numbers 0 / 256;
+      format = any p.format.repeated;
+      parts = p.parts;
+      numbers = after_of p.numbers;
+    }
 
+-- two digits that stand for such items
+abbrev pub tells : ℕ → Bool
+tells c = eqb c (item_code (plain Tells))
+
+-- at the item i before those of f
 abbrev pub opened_at : Told → Item → Form → Printing → Printing
-opened_at t i f p = opened_by t i.kind (record { item = i; told = p.told; format = f; parts = p.parts; numbers = p.numbers })
+opened_at t i f p =
+    let here : Printing = record { item = i; told = p.told; format = f; parts = p.parts; numbers = p.numbers } in
+    pick (tells (item_code i)) (opened_of t here) here
 
 -- repeated kinds end where there is no more for the first of them
 abbrev pub next_by : Told → Printing → Option (Item × Form) → Option Printing
@@ -98,7 +111,9 @@ next_by t p (Some x) = pick (eqb (length p.format.items) 0 && is_over t.answer x
 
 -- at the next item, if there is one
 unfoldable pub next_of : Told → Printing → Option Printing
-next_of t p = pick (ltb 0 p.told) (Some (told_at p.told p.numbers p)) (next_by t p (split_of p.format))
+next_of t p =
+    pick (tells (p.told % 256)) (Some (opened_of t p)) (
+    pick (ltb 0 p.told) (Some (told_at p.told p.numbers p)) (next_by t p (split_of p.format)))
 
 -- behind an item that took a part or a number
 abbrev pub past_by : Kind → Printing → Printing

@@ -1,6 +1,6 @@
 -- How much a request is lent (the protocol's prefix `room B E T `).
-use Rattle.std.specs.Prelude.{ℕ, ◌+◌, List, Bool, true, ◌&&◌, cond as pick, Option, Some, None, length, leb}
-use Rattle.std.specs.Option.{option_map, option_and_then}
+use Rattle.std.specs.Prelude.{ℕ, ◌+◌, List, Bool, true, ◌&&◌, cond as pick, Option, Some, None, Result, Ok, Err, length, leb}
+use Rattle.std.specs.Option.{option_map}
 use Rattle.std.specs.Str.{bytes_eq}
 use Rattle.protocol.specs.Text.{ascii, read_number, word, word_at}
 use Rattle.protocol.specs.declared.lent.Room.{Room}
@@ -18,16 +18,22 @@ number_field s i = pick (leb i (length s)) (option_map (λ v. (v, i + length (wo
 
 -- ---- the prefix
 
--- the three numbers from i on
-abbrev pub room_from : List ℕ → ℕ → Option Prefix
-room_from s i =
-    option_and_then (λ (b : ℕ × ℕ). option_and_then (λ (e : ℕ × ℕ). option_map (λ (t : ℕ × ℕ).
-    record { room = Some (record { bytes = b.0; ends = e.0; times = t.0 }); next = t.1 })
-    (number_field s e.1)) (number_field s b.1)) (number_field s i)
+-- its three numbers, one behind the other; an error has those before the bad one
+abbrev pub room_by_times : ℕ → ℕ → Option (ℕ × ℕ) → Result Prefix Room
+room_by_times b e None = Err (record { bytes = b; ends = e; times = 0 })
+room_by_times b e (Some t) = Ok (record { room = Some (record { bytes = b; ends = e; times = t.0 }); next = t.1 })
+
+abbrev pub room_by_ends : List ℕ → ℕ → Option (ℕ × ℕ) → Result Prefix Room
+room_by_ends s b None = Err (record { bytes = b; ends = 0; times = 0 })
+room_by_ends s b (Some e) = room_by_times b e.0 (number_field s e.1)
+
+abbrev pub room_by_bytes : List ℕ → Option (ℕ × ℕ) → Result Prefix Room
+room_by_bytes s None = Err (record { bytes = 0; ends = 0; times = 0 })
+room_by_bytes s (Some b) = room_by_ends s b.0 (number_field s b.1)
 
 -- `room`, and three numbers; or no prefix
-unfoldable pub room_prefix : List ℕ → Option Prefix
-room_prefix s = pick (bytes_eq (word 32 s) (ascii "room")) (room_from s (length (word 32 s) + 1)) (Some (record { room = None; next = 0 }))
+unfoldable pub room_prefix : List ℕ → Result Prefix Room
+room_prefix s = pick (bytes_eq (word 32 s) (ascii "room")) (room_by_bytes s (number_field s (length (word 32 s) + 1))) (Ok (record { room = None; next = 0 }))
 
 -- ---- what is lent
 

@@ -1,10 +1,13 @@
 // What a request is answered: a refusal, or so much of the memory lent to it. What has no room there is left out.
 ghost use Rattle.std.specs.Prelude.{◌≡◌, [], ◌∷◌};
-ghost use Rattle.bitio.specs.Refusal.{number};
+ghost use Rattle.bitio.specs.Refusal.{number, says};
 ghost use Rattle.protocol.specs.Answers.{line, parts_of, refused_with, numbered, with_numbers, parted, with_parts};
+ghost use Rattle.protocol.specs.Told.{count_told};
 
 use bitio::refusal::Refusal;
 
+// kept: memory, ends and numbers are lent apart, as a struct of several `&mut` slices that is lent on to calls is not
+// covered by the borrow checker
 #[derive(Clone, Copy)]
 pub struct Answer {
     pub refused: Option<Refusal>,
@@ -42,6 +45,13 @@ pub fn refused(refusal: Refusal) -> Answer
         refused: Some(refusal),
         ..done()
     }
+}
+
+// What was written into lent memory: so many bytes, in no parts.
+pub fn count(written: Result<usize, Refusal>) -> Answer
+    ensures { line result ≡ count_told (says written) }
+{
+    written.map_or_else(refused, |n| parts(n, 0))
 }
 
 impl Answer {

@@ -2,7 +2,7 @@
 // and the end of each into `ends`; numbers go into `numbers`.
 ghost use Rattle.std.specs.Prelude.{◌≡◌, List, ℕ};
 ghost use Rattle.protocol.specs.Room.{number_field};
-ghost use Rattle.protocol.specs.Fields.{place, fields_read, bytes_field, value_of, value_field, field_of, is_all_of, fields_of};
+ghost use Rattle.protocol.specs.Fields.{place, fields_read, spoiled_of, bytes_field, value_of, value_field, field_of, is_all_of, fields_of};
 ghost use Rattle.protocol.specs.Kinds.{form};
 
 use crate::kinds::{Format, Kind, NO_BYTE};
@@ -11,7 +11,7 @@ use crate::text::{decode, read_decimal, word_at};
 // How far the fields of a line have been read.
 #[derive(Clone, Copy)]
 pub struct Fields {
-    // where the next one starts: one past the line's end where none is left
+    // where the next one starts: one past the line's end where none is left, far behind it once one was bad
     pub next: usize,
     // the kinds that follow
     pub format: Format,
@@ -35,6 +35,16 @@ fn value(kind: Kind, word: &[u8]) -> Option<u64>
 }
 
 impl Fields {
+    // Nothing is read behind a bad one.
+    fn spoiled(self) -> Fields
+        ensures { place result ≡ spoiled_of (place self) }
+    {
+        Fields {
+            next: usize::MAX,
+            ..self
+        }
+    }
+
     // Whether no field of the line is left, and none is missing.
     fn is_all(self, line: &[u8]) -> bool
         ensures { result ≡ is_all_of (place self) line.now }
@@ -43,15 +53,15 @@ impl Fields {
     }
 
     #[tactic(auto, unfolding(crate::specs::Fields::bytes_field))]
-    fn read_bytes(self, word: &[u8], decoded: &mut [u8], ends: &mut [u32]) -> Option<Fields>
+    fn read_bytes(self, word: &[u8], decoded: &mut [u8], ends: &mut [u32]) -> Result<Fields, Fields>
         ensures { (ns : List ℕ) → fields_read result decoded.new ends.new ns ≡ bytes_field (place self) decoded.old ends.old ns word.now }
     {
-        let end = decode(word, decoded, self.bytes)?;
+        let end = decode(word, decoded, self.bytes).ok_or(self.spoiled())?;
         if self.ends >= ends.len() {
-            return None;
+            return Err(self.spoiled());
         }
         ends[self.ends] = (end % 0x1_0000_0000) as u32;
-        Some(Fields {
+        Ok(Fields {
             bytes: end,
             ends: self.ends + 1,
             ..self
@@ -59,15 +69,15 @@ impl Fields {
     }
 
     #[tactic(auto, unfolding(crate::specs::Fields::value_field))]
-    fn read_number(self, kind: Kind, word: &[u8], numbers: &mut [u64]) -> Option<Fields>
+    fn read_number(self, kind: Kind, word: &[u8], numbers: &mut [u64]) -> Result<Fields, Fields>
         ensures { (d es : List ℕ) → fields_read result d es numbers.new ≡ value_field (place self) d es numbers.old kind word.now }
     {
-        let v = value(kind, word)?;
+        let v = value(kind, word).ok_or(self.spoiled())?;
         if self.numbers >= numbers.len() {
-            return None;
+            return Err(self.spoiled());
         }
         numbers[self.numbers] = v;
-        Some(Fields {
+        Ok(Fields {
             numbers: self.numbers + 1,
             ..self
         })
@@ -81,14 +91,14 @@ impl Fields {
         decoded: &mut [u8],
         ends: &mut [u32],
         numbers: &mut [u64],
-    ) -> Option<Fields>
+    ) -> Result<Fields, Fields>
         ensures { fields_read result decoded.new ends.new numbers.new ≡ field_of line.now (place self) decoded.old ends.old numbers.old }
     {
         let from = self.next;
         if from > line.len() {
-            return Some(self);
+            return Ok(self);
         }
-        let (item, format) = self.format.split()?;
+        let (item, format) = self.format.split().ok_or(self.spoiled())?;
         let word = word_at(line, from, format.stop());
         let behind = Fields {
             next: from + word.len() + 1,
@@ -103,7 +113,7 @@ impl Fields {
     }
 }
 
-// All fields from `next` on, of which there are fewer than characters; none where one of them is bad or missing.
+// All fields from `next` on, of which there are fewer than characters; where one is bad or missing, those before it.
 pub fn read_fields(
     line: &[u8],
     next: usize,
@@ -111,7 +121,7 @@ pub fn read_fields(
     decoded: &mut [u8],
     ends: &mut [u32],
     numbers: &mut [u64],
-) -> Option<Fields>
+) -> Result<Fields, Fields>
     ensures { fields_read result decoded.new ends.new numbers.new ≡ fields_of line.now next (form format) decoded.old ends.old numbers.old }
 {
     let mut fields = Fields {
@@ -125,9 +135,9 @@ pub fn read_fields(
         fields = fields.read_field(line, decoded, ends, numbers)?;
     }
     if fields.is_all(line) {
-        Some(fields)
+        Ok(fields)
     } else {
-        None
+        Err(fields)
     }
 }
 

@@ -74,6 +74,9 @@ pub const NUMBER: Item = Item {
     kind: Kind::Number,
 };
 
+// What tells a further number of told items.
+pub(crate) const TOLD: u64 = Kind::Told as u64;
+
 impl Item {
     // The two hexadecimal digits that tell it among an answer's numbers.
     #[tactic(auto, using(crate::proofs::KindLaws::code_small))]

@@ -1,10 +1,9 @@
 // Memory that a request is lent: marked before the call, and looked at after it.
 ghost use Rattle.std.specs.Prelude.{◌≡◌, drop};
-ghost use Rattle.protocol.specs.Answers.{line};
-ghost use Rattle.protocol.specs.Marked.{byte_mark, end_mark, number_mark, marked_for, is_marked, is_clean};
+ghost use Rattle.std.specs.List.{list_all};
+ghost use Rattle.protocol.specs.Marked.{byte_mark, end_mark, number_mark, marked_for};
 ghost use Rattle.protocol.specs.Room.{room_prefix, size_lent, lent_by, is_there, lent_within};
 
-use crate::answer::Answer;
 use crate::fields::number;
 use crate::text::word_at;
 
@@ -13,11 +12,11 @@ pub const BYTES_LENT: usize = 65536;
 
 pub const ENDS_LENT: usize = 32768;
 
-const BYTE_MARK: u8 = 0xa5;
+pub const BYTE_MARK: u8 = 0xa5;
 
 pub const END_MARK: u32 = 0xa5a5_a5a5;
 
-const NUMBER_MARK: u64 = 0xa5a5_a5a5_a5a5_a5a5;
+pub(crate) const NUMBER_MARK: u64 = 0xa5a5_a5a5_a5a5_a5a5;
 
 // How much a line's prefix `room B E T ` lends.
 #[derive(Clone, Copy)]
@@ -36,23 +35,33 @@ pub struct Prefix {
     pub next: usize,
 }
 
-// None where `room` is no three numbers' word.
+// Where no three numbers follow `room`, those before the bad one, and 0 for each from there on.
 #[tactic(auto, unfolding(crate::specs::Room::room_prefix))]
-pub fn room_prefix(line: &[u8]) -> Option<Prefix>
+pub fn room_prefix(line: &[u8]) -> Result<Prefix, Room>
     ensures { result ≡ room_prefix line.now }
 {
     let word = word_at(line, 0, b' ');
     if word != b"room".as_slice() {
-        return Some(Prefix {
+        return Ok(Prefix {
             room: None,
             next: 0,
         });
     }
-    let (bytes, next) = number(line, word.len() + 1)?;
-    let (ends, next) = number(line, next)?;
-    let (times, next) = number(line, next)?;
-    let room = Some(Room { bytes, ends, times });
-    Some(Prefix { room, next })
+    let mut room = Room {
+        bytes: 0,
+        ends: 0,
+        times: 0,
+    };
+    let (bytes, next) = number(line, word.len() + 1).ok_or(room)?;
+    room.bytes = bytes;
+    let (ends, next) = number(line, next).ok_or(room)?;
+    room.ends = ends;
+    let (times, next) = number(line, next).ok_or(room)?;
+    room.times = times;
+    Ok(Prefix {
+        room: Some(room),
+        next,
+    })
 }
 
 // What a request is lent, exactly.
@@ -149,39 +158,9 @@ pub fn mark_lent(is_own: bool, memory: &mut [u8], ends: &mut [u32], numbers: &mu
     numbers.fill(NUMBER_MARK);
 }
 
-// Whether every byte from `from` on is as it was marked.
-pub fn is_marked(memory: &[u8], from: usize) -> bool
-    ensures { result ≡ is_marked byte_mark (drop from memory.now) }
+// Whether every element from `from` on is as it was marked.
+pub fn is_marked<T: Copy + PartialEq>(memory: &[T], from: usize, mark: T) -> bool
+    ensures { result ≡ list_all (λ v. T.eq v mark) (drop from memory.now) }
 {
-    memory.iter().skip(from).all(|b| *b == BYTE_MARK)
-}
-
-pub fn are_ends_marked(ends: &[u32], from: usize) -> bool
-    ensures { result ≡ is_marked end_mark (drop from ends.now) }
-{
-    ends.iter().skip(from).all(|end| *end == END_MARK)
-}
-
-fn are_numbers_marked(numbers: &[u64], from: usize) -> bool
-    ensures { result ≡ is_marked number_mark (drop from numbers.now) }
-{
-    numbers.iter().skip(from).all(|v| *v == NUMBER_MARK)
-}
-
-// Whether the call has left all memory as it was that its answer does not account for.
-pub(crate) fn is_clean(
-    is_own: bool,
-    answer: Answer,
-    memory: &[u8],
-    ends: &[u32],
-    numbers: &[u64],
-) -> bool
-    ensures { result ≡ is_clean is_own (line answer) memory.now ends.now numbers.now }
-{
-    if is_own {
-        return !answer.is_dirty;
-    }
-    is_marked(memory, answer.bytes)
-        && are_ends_marked(ends, answer.ends)
-        && are_numbers_marked(numbers, answer.numbers)
+    memory.iter().skip(from).all(|v| *v == mark)
 }

@@ -2,12 +2,13 @@
 ghost use Rattle.std.specs.Prelude.{◌≡◌, ◌-◌, ◌^◌, option_map};
 ghost use Rattle.protocol.specs.Answers.{line};
 ghost use Rattle.protocol.specs.Kinds.{form};
+ghost use Rattle.protocol.specs.Marked.{is_clean};
 ghost use Rattle.protocol.specs.Typed.{typed};
-ghost use Rattle.protocol.specs.Printed.{left_told, printing, part_end, part_start, part_text, value_text, body_text, item_text, is_over, told_at, opened_at, next_of, past_of, items_text, print_start, format_of, head_text, answer_text, bad_line};
+ghost use Rattle.protocol.specs.Printed.{left_told, printing, part_end, part_start, part_text, value_text, body_text, item_text, is_over, told_at, opened_of, opened_at, next_of, past_of, items_text, print_start, format_of, head_text, answer_text, bad_line};
 
 use crate::answer::Answer;
-use crate::kinds::{Format, Item, Kind, NO_BYTE, NUMBER};
-use crate::lent::is_clean;
+use crate::kinds::{Format, Item, Kind, NO_BYTE, NUMBER, TOLD};
+use crate::lent::{BYTE_MARK, END_MARK, NUMBER_MARK, is_marked};
 use crate::memory::number_at;
 use crate::output::Output;
 use bitio::ends::end_of;
@@ -77,6 +78,18 @@ pub struct Left<'a> {
 }
 
 impl<'a> Left<'a> {
+    // Whether the call has left all memory as it was that its answer does not account for.
+    fn is_clean(self, is_own: bool) -> bool
+        ensures { result ≡ is_clean is_own (line self.entry.answer) self.entry.memory.now self.entry.ends.now self.entry.numbers.now }
+    {
+        if is_own {
+            return !self.answer.is_dirty;
+        }
+        is_marked(self.memory, self.answer.bytes, BYTE_MARK)
+            && is_marked(self.ends, self.answer.ends, END_MARK)
+            && is_marked(self.numbers, self.answer.numbers, NUMBER_MARK)
+    }
+
     // Where part i ends: the last one with all the answer's bytes.
     fn part_end(self, i: usize) -> usize
         ensures { result ≡ part_end (line self.entry.answer) self.entry.ends.now i }
@@ -118,20 +131,33 @@ impl<'a> Left<'a> {
         }
     }
 
+    // At the first item that the next number tells, in place of all but the repeated ones.
+    fn opened(self, printed: Printed) -> Printed
+        ensures { printing result ≡ opened_of (left_told self.entry) (printing printed) }
+    {
+        let told = number_at(self.numbers, printed.numbers);
+        let format = Format {
+            items: &[],
+            ..printed.format
+        };
+        let opened = Printed { format, ..printed };
+        opened.told_at(told, printed.numbers.saturating_add(1))
+    }
+
     // At the first item of the format, with the rest of it.
     fn opened_at(self, item: Item, format: Format, printed: Printed) -> Printed
         ensures { printing result ≡ opened_at (left_told self.entry) item (form format) (printing printed) }
     {
-        let opened = Printed {
+        let here = Printed {
             item,
             format,
             ..printed
         };
-        if item.kind != Kind::Told {
-            return opened;
+        if item.code() == TOLD {
+            self.opened(here)
+        } else {
+            here
         }
-        let told = number_at(self.numbers, printed.numbers);
-        opened.told_at(told, printed.numbers.saturating_add(1))
     }
 
     // At the next item, if there is one: repeated kinds end where there is no more for the first of them.
@@ -139,6 +165,9 @@ impl<'a> Left<'a> {
     fn next(self, printed: Printed) -> Option<Printed>
         ensures { option_map printing result ≡ next_of (left_told self.entry) (printing printed) }
     {
+        if printed.told % 256 == TOLD {
+            return Some(self.opened(printed));
+        }
         if printed.told > 0 {
             return Some(printed.told_at(printed.told, printed.numbers));
         }
@@ -228,7 +257,7 @@ pub fn put_answer(left: Left<'_>, format: Format, is_own: bool, out: &mut Output
     let answer = left.answer;
     put_head(answer, out);
     left.put_items(format_of(answer, format), out);
-    if is_clean(is_own, answer, left.memory, left.ends, left.numbers) {
+    if left.is_clean(is_own) {
         out.put_text(b"\n");
     } else {
         out.put_text(b" dirty\n");

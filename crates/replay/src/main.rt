@@ -93,7 +93,7 @@ impl Program {
             &mut self.numbers,
         );
         match request {
-            Some(request) => answer(
+            Ok(request) => answer(
                 request,
                 given(request.fields, &self.decoded, &self.ends, &self.numbers),
                 &mut self.memory,
@@ -101,7 +101,7 @@ impl Program {
                 &mut self.out_numbers,
                 &mut self.output,
             ),
-            None => bad_line(&mut self.output),
+            Err(_) => bad_line(&mut self.output),
         }
     }
 

@@ -5,16 +5,16 @@ ghost use Rattle.protocol.specs.Answers.{line, numbered, filled};
 ghost use Rattle.protocol.specs.Told.{numbers_by};
 ghost use Rattle.replay_headers.specs.Headers.{reading_answer, bits_told, uvlc_told, leb_told, lebput_told};
 
-use crate::count::count;
 use bitio::leb128::{leb128, leb128_encode};
 use bitio::reader::{BitReader, Read};
 use bitio::refusal::Refusal;
-use protocol::answer::{Answer, done, refused};
+use protocol::answer::{Answer, count, done, refused};
 
 // The number that was read, and the place behind it.
 fn tell_read(read: Read<u64>, numbers: &mut [u64]) -> Answer
     ensures { numbered (line result) numbers.new ≡ numbers_by (λ l. l) (reading_answer (reading read)) numbers.old }
 {
+    // kept: `map_or_else` was tried, and the proof of its closure, which writes to `numbers`, didn't close.
     match read {
         Ok((v, next)) => done().pair(v, next.pos as u64, numbers),
         Err(refusal) => refused(refusal),

@@ -6,7 +6,6 @@ ghost use Rattle.header.specs.Sequence.{sequence_in};
 ghost use Rattle.protocol.specs.Answers.{line, parts_of, numbered, filled, with_numbers};
 ghost use Rattle.replay_headers.specs.Headers.{support_of, seq_told, support_told, emitted_of, emit_told, frame_fields, frame_told};
 
-use crate::count::count;
 use crate::sequence_fields::put_sequence;
 use bitio::refusal::Refusal;
 use emit::seq_header::emit::emit_sequence_header;
@@ -16,12 +15,13 @@ use header::seq_header::SequenceObu;
 use header::seq_header::check::check_supported;
 use header::seq_header::read::parse_sequence_header;
 use header::seq_header::timing::with_timing_info_rate;
-use protocol::answer::{Answer, done, refused};
+use protocol::answer::{Answer, count, done, refused};
 
 // seq PAYLOAD
 pub fn seq(s: &[u8], numbers: &mut [u64]) -> Answer
     ensures { numbered (line result) numbers.new ≡ seq_told s.now numbers.old }
 {
+    // kept: `map_or_else` was tried, and the proof of its closure, which writes to `numbers`, didn't close.
     match parse_sequence_header(s) {
         Ok(sequence) => put_sequence(&sequence, numbers),
         Err(refusal) => refused(refusal),
@@ -39,10 +39,7 @@ fn check_payload(s: &[u8]) -> Result<(), Refusal>
 pub fn support(s: &[u8]) -> Answer
     ensures { line result ≡ support_told s.now }
 {
-    match check_payload(s) {
-        Ok(()) => done(),
-        Err(refusal) => refused(refusal),
-    }
+    check_payload(s).map_or_else(refused, |()| done())
 }
 
 // The header as it was read, or timed.
@@ -63,6 +60,7 @@ pub fn emit(s: &[u8], is_timed: bool, num: u64, den: u64, memory: &mut [u8]) -> 
 {
     let num = (num % 0x1_0000_0000) as u32;
     let den = (den % 0x1_0000_0000) as u32;
+    // kept: `and_then` was tried, and the proof of its closure, which writes to `memory`, didn't close.
     match renew(s, is_timed, num, den) {
         Ok(sequence) => count(emit_sequence_header(&sequence, memory, 0)),
         Err(refusal) => refused(refusal),
@@ -92,6 +90,7 @@ fn put_frame(x: FrameHeaderInfo, numbers: &mut [u64]) -> Answer
 pub fn frame(sequence: &[u8], payload: &[u8], numbers: &mut [u64]) -> Answer
     ensures { numbered (line result) numbers.new ≡ frame_told sequence.now payload.now numbers.old }
 {
+    // kept: `map_or_else` was tried, and the proof of its closure, which writes to `numbers`, didn't close.
     match parse_frame_header_info(payload, sequence) {
         Ok(x) => put_frame(x, numbers),
         Err(refusal) => refused(refusal),

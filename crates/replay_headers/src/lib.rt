@@ -2,7 +2,6 @@
 #![tactic(auto)]
 
 pub mod bitio_ops;
-mod count;
 pub mod header_ops;
 pub mod obu_ops;
 mod sequence_fields;

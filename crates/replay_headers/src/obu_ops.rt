@@ -6,11 +6,10 @@ ghost use Rattle.protocol.specs.Answers.{line, filled};
 ghost use Rattle.protocol.specs.Told.{told};
 ghost use Rattle.replay_headers.specs.Headers.{extension_number, extension_from, tell_obu, AllTold, obus_told, obuput_told};
 
-use crate::count::count;
 use obu::reader::{Obu, obu_at, payload};
 use obu::unit::{Kind, count_obus};
 use obu::writer::put_obu;
-use protocol::answer::{Answer, done, refused};
+use protocol::answer::{Answer, count, done, refused};
 use protocol::kinds::NO_BYTE;
 
 fn extension_number(extension: Option<u8>) -> u64

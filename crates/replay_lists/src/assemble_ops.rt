@@ -13,7 +13,7 @@ use bitio::ends::{end_of, start_of};
 use blocks::numbers::{Segment, WIDTH, put_record, segment_count};
 use pictures::settings::Settings;
 use protocol::answer::Answer;
-use protocol::lent::{BYTES_LENT, END_MARK, ENDS_LENT, Lent};
+use protocol::lent::{BYTE_MARK, BYTES_LENT, END_MARK, ENDS_LENT, Lent};
 use protocol::memory::number_at;
 
 // No line has more segments, six characters each.
@@ -68,10 +68,10 @@ fn assemble_lent(
 {
     let list = &mut [END_MARK; ENDS_LENT];
     let cues = &mut [END_MARK; ENDS_LENT];
-    let pictures = &mut [0xa5u8; BYTES_LENT];
+    let pictures = &mut [BYTE_MARK; BYTES_LENT];
     let ends = &mut [END_MARK; ENDS_LENT];
-    let shows = &mut [0xa5u8; SHOWS];
-    let header = &mut [0xa5u8; ENDS_LENT];
+    let shows = &mut [BYTE_MARK; SHOWS];
+    let header = &mut [BYTE_MARK; ENDS_LENT];
     let list = &mut list[..lent.ends.min(ENDS_LENT)];
     let cues = &mut cues[..lent.numbers.min(ENDS_LENT)];
     let pictures = &mut pictures[..lent.bytes.min(BYTES_LENT)];

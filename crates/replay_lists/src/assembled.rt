@@ -12,7 +12,7 @@ use obu::reader::payload;
 use pictures::fault::Fault;
 use protocol::answer::{Answer, done, refused};
 use protocol::kinds::{Before, Item, Kind, NUMBER};
-use protocol::lent::{are_ends_marked, is_marked};
+use protocol::lent::{BYTE_MARK, END_MARK, is_marked};
 
 const COMMA: Item = Item {
     before: Before::Comma,
@@ -76,12 +76,12 @@ impl<'a> Slices<'a> {
     fn are_marked(self, counts: Counts) -> bool
         ensures { result ≡ slices_marked counts (handed self.entry) }
     {
-        are_ends_marked(self.list, counts.units)
-            && are_ends_marked(self.cues, counts.cues)
-            && are_ends_marked(self.ends, counts.ends)
-            && is_marked(self.pictures, counts.picture)
-            && is_marked(self.shows, counts.shows)
-            && is_marked(self.header, counts.header)
+        is_marked(self.list, counts.units, END_MARK)
+            && is_marked(self.cues, counts.cues, END_MARK)
+            && is_marked(self.ends, counts.ends, END_MARK)
+            && is_marked(self.pictures, counts.picture, BYTE_MARK)
+            && is_marked(self.shows, counts.shows, BYTE_MARK)
+            && is_marked(self.header, counts.header, BYTE_MARK)
     }
 
     // The unit of each of the first n entries is the part of that number.

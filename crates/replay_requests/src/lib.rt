@@ -6,5 +6,5 @@ mod requests;
 mod rows;
 
 pub use operations::{Given, operate};
-pub use requests::{Request, read_request};
+pub use requests::{Request, Unread, read_request};
 pub use rows::Operation;

@@ -29,6 +29,7 @@ pub fn scan(s: &[u8], ends: &[u32], numbers: &mut [u64]) -> Answer
     ensures { numbered (line result) numbers.new ≡ scan_told s.now ends.now numbers.old }
 {
     let sequence = part(s, ends, 0);
+    // kept: `map_or_else` was tried, and the proof of its closure, which writes to `numbers`, didn't close.
     match parse_sequence_header(sequence) {
         Ok(_) => scan_all(sequence, s, ends, numbers),
         Err(refusal) => refused(refusal),

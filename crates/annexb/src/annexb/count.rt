@@ -47,7 +47,6 @@ pub(crate) fn count_inner(u: &[u8]) -> Result<usize, Refusal>
     Ok(n)
 }
 
-// kept: bytes and ends apart, as C lends them; two functions here take both, and a struct lengthens their contracts
 // How many bytes all units have in Annex B, or the refusal of the first that does not parse.
 pub(crate) fn count_units(units: &[u8], unit_ends: &[u32]) -> Result<usize, Refusal>
     requires { (length units.now ≤ limit) × (accepts (units_at units.now unit_ends.now) ≡ true) }

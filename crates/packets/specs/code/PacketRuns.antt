@@ -99,17 +99,17 @@ pub record RunRoom (s es : List ℕ) (a b : ℕ) (keep : Bool) (d : List ℕ) (t
   pub run : Run s es a b
   pub room : to + length (kept_bytes keep (all_parsed (slice a b (listed s es)))) ≤ length d
 
--- r is the packet at the head of those from a to b: the first with bytes, or the number of packets where none has any
-pub data HeadAt (s es : List ℕ) (a b : ℕ) : ℕ → Type 0 where
-  found : {i : ℕ} → Full (listed s es) a b i → i < b → HeadAt s es a b i
-  missing : {i : ℕ} → Full (listed s es) a b i → b ≤ i → HeadAt s es a b (length es)
+-- u is the packet at the head of those from a to b: the first with bytes, or empty where none has any
+pub data HeadAt (s es : List ℕ) (a b : ℕ) : List ℕ → Type 0 where
+  found : {i : ℕ} → Full (listed s es) a b i → i < b → HeadAt s es a b (unit_of s es i)
+  missing : {i : ℕ} → Full (listed s es) a b i → b ≤ i → HeadAt s es a b []
 
--- r is the packet whose delimiter moves to the front: the head of those that wait, the one that closes, the head of those
+-- u is the packet whose delimiter moves to the front: the head of those that wait, the one that closes, the head of those
 -- behind it, the first of them that has one
-pub data LeadAt (s es : List ℕ) (a c b : ℕ) : ℕ → Type 0 where
-  waiting : {i : ℕ} → HeadAt s es a c i → (lead_of (unit_of s es i) ≡ [] → ⊥) → LeadAt s es a c b i
-  closing : {i : ℕ} → HeadAt s es a c i → lead_of (unit_of s es i) ≡ [] → (lead_of (unit_of s es c) ≡ [] → ⊥) → LeadAt s es a c b c
-  behind : {i j : ℕ} → HeadAt s es a c i → lead_of (unit_of s es i) ≡ [] → lead_of (unit_of s es c) ≡ [] → HeadAt s es (c + 1) b j → LeadAt s es a c b j
+pub data LeadAt (s es : List ℕ) (a c b : ℕ) : List ℕ → Type 0 where
+  waiting : {u : List ℕ} → HeadAt s es a c u → (lead_of u ≡ [] → ⊥) → LeadAt s es a c b u
+  closing : {u : List ℕ} → HeadAt s es a c u → lead_of u ≡ [] → (lead_of (unit_of s es c) ≡ [] → ⊥) → LeadAt s es a c b (unit_of s es c)
+  behind : {u v : List ℕ} → HeadAt s es a c u → lead_of u ≡ [] → lead_of (unit_of s es c) ≡ [] → HeadAt s es (c + 1) b v → LeadAt s es a c b v
 
 -- whether a unit parses
 abbrev pub parses_unit : List ℕ → Bool

@@ -2,29 +2,18 @@
 ghost use Rattle.std.specs.Prelude.{◌≡◌, true, false, ◌≤◌, length};
 ghost use Rattle.bitio.specs.Refusal.{says};
 ghost use Rattle.obu.specs.Obu.{obus};
-ghost use Rattle.obu.specs.Place.{obu_place};
 ghost use Rattle.obu.specs.Unit.{stray_in, of_unit};
 ghost use Rattle.bitio.specs.Limits.{limit};
 ghost use Rattle.container.specs.Limits.{bytes_room};
 ghost use Rattle.container.specs.Units.{count_of, out_after};
 ghost use Rattle.packets.specs.Packets.{canonical_at};
-ghost use Rattle.packets.specs.code.Canonical.{end_of, Clean};
+ghost use Rattle.packets.specs.code.Canonical.{Clean};
 
 use bitio::refusal::Refusal;
+use container::extents::obu_end;
 use container::ranges::{put_written, written_len};
 use container::units::have_room;
-use obu::reader::obu_at;
 use obu::writer::put_bytes;
-
-// Where the first OBU ends, 0 if there is none.
-fn first_end(s: &[u8]) -> usize
-    ensures { result ≡ end_of (obu_place s.now 0) }
-{
-    match obu_at(s, 0) {
-        Ok(Some(o)) => o.end,
-        _ => 0,
-    }
-}
 
 // The unit as it is, if it has room.
 pub(crate) fn copy_unit(unit: &[u8], out: &mut [u8]) -> Result<usize, Refusal>
@@ -44,7 +33,7 @@ pub(crate) fn clean_unit(unit: &[u8], out: &mut [u8]) -> Result<usize, Refusal>
     ensures answer { says result ≡ count_of (canonical_at (bytes_room (length out.old)) unit.now) }
     ensures out { out.new ≡ out_after (canonical_at (bytes_room (length out.old)) unit.now) out.old }
 {
-    let mid = first_end(unit);
+    let mid = obu_end(unit, 0);
     let end = unit.len();
     let first = written_len(unit, 0..mid, true);
     let len = first.saturating_add(written_len(unit, mid..end, false));

@@ -18,26 +18,27 @@ fn parses(s: &[u8]) -> bool
 }
 
 impl<'a> Packets<'a> {
-    // The first packet with bytes of the run from a to b, or the number of packets.
-    fn head_of(self, a: usize, b: usize) -> usize
+    // The first packet with bytes of the run from a to b; empty if there is none.
+    fn head_of(self, a: usize, b: usize) -> &'a [u8]
         requires { Run self.bytes.now self.ends.now a b }
-        ensures { HeadAt self.entry.bytes.now self.entry.ends.now a b result }
+        ensures { HeadAt self.entry.bytes.now self.entry.ends.now a b result.now }
     {
         let i = self.first_full(a, b);
-        if i < b { i } else { self.ends.len() }
+        if i < b { self.get(i) } else { &[] }
     }
 
     // The packet at whose head the delimiter stands that moves to the front, if there is one.
-    fn lead_of(self, a: usize, c: usize, b: usize) -> usize
+    fn lead_of(self, a: usize, c: usize, b: usize) -> &'a [u8]
         requires { Joins self.bytes.now self.ends.now a c b }
-        ensures { LeadAt self.entry.bytes.now self.entry.ends.now a c b result }
+        ensures { LeadAt self.entry.bytes.now self.entry.ends.now a c b result.now }
     {
-        let i = self.head_of(a, c);
-        if lead_end(self.get(i)) > 0 {
-            return i;
+        let head = self.head_of(a, c);
+        if lead_end(head) > 0 {
+            return head;
         }
-        if lead_end(self.get(c)) > 0 {
-            return c;
+        let closing = self.get(c);
+        if lead_end(closing) > 0 {
+            return closing;
         }
         self.head_of(c + 1, b)
     }
@@ -47,7 +48,7 @@ impl<'a> Packets<'a> {
         requires { Joins self.bytes.now self.ends.now a c b }
         ensures { result ≡ capped (length (piece (listed self.entry.bytes.now self.entry.ends.now) a c b)) }
     {
-        let u = self.get(self.lead_of(a, c, b));
+        let u = self.lead_of(a, c, b);
         let head = written_len(u, 0..lead_end(u), true);
         head.saturating_add(self.run_len(a, b, false))
     }
@@ -70,7 +71,7 @@ impl<'a> Packets<'a> {
         requires { JoinsRoom self.bytes.now self.ends.now a c b out.old to }
         ensures { Wrote out.old to (piece (listed self.entry.bytes.now self.entry.ends.now) a c b) result out.new }
     {
-        let u = self.get(self.lead_of(a, c, b));
+        let u = self.lead_of(a, c, b);
         let next = put_written(u, 0..lead_end(u), true, out, to);
         self.put_run(a, b, false, out, next)
     }

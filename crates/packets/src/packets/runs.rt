@@ -12,6 +12,7 @@ use obu::reader::obu_at;
 use obu::unit::{Kind, is_type};
 
 // Where the delimiter at the head of a packet ends, 0 if there is none.
+// kept: 0 stands for none, since what is measured and written is the range from 0 to there, which then is empty
 pub(crate) fn lead_end(s: &[u8]) -> usize
     ensures { Range s.now 0 result (lead_of s.now) }
 {

@@ -1,4 +1,4 @@
-use Rattle.std.proofs.Common.{arith, refl, sym, get_or, ◌-◌}
+use Rattle.std.proofs.Common.{arith, refl, get_or, ◌-◌}
 use native.Mathlib.Decide.{dec_lt}
 use Rattle.bitio.proofs.LebTurns.{number-start, number_cut, number-long, number-last, number_more, weight-more, weight-le, byte-room}
 use Rattle.bitio.proofs.leb128.leb128.Goals as goal

@@ -1,5 +1,5 @@
 use Rattle.std.proofs.Common.{arith, ◌≡◌, ◌+◌, ◌-◌}
-use Rattle.container.proofs.ExtentTurns.{unit-alone, unit-more, unit-led, unit-unled, frames-behind}
+use Rattle.container.proofs.ExtentTurns.{unit-alone, unit-more, unit-led, unit-unled, frames-behind, obu-ends}
 use Rattle.container.proofs.extents.next_unit.Goals as goal
 
 pub returns-then-left-eq0 : goal.returns-then-left-eq0
@@ -20,8 +20,5 @@ returns-then-left-ge2 c = unit-more c.requires.1 c.to_frame-behind.ensures c.to_
 pub returns-then-lead : goal.returns-then-lead
 returns-then-lead c = unit-led c.requires.1 c.to_frame-behind.ensures c.to_next-next.ensures (omega arith) (omega arith)
 
-pub obu_end-requires : goal.obu_end-requires
-obu_end-requires c = frames-behind c.to_next-next.ensures.behind
-
 pub returns : goal.returns
-returns c = unit-unled c.requires.1 c.to_frame-behind.ensures c.to_next-next.ensures (omega arith) (omega arith) c.obu_end.ensures
+returns c = unit-unled c.requires.1 c.to_frame-behind.ensures c.to_next-next.ensures (omega arith) (omega arith) (obu-ends (frames-behind c.to_next-next.ensures.behind).1 c.obu_end.ensures)

@@ -14,5 +14,5 @@ returns-in_err-segments c =
 
 pub returns-then-segments-count : goal.returns-then-segments-count
 returns-then-segments-count c =
-    let k = counts_is c.args.file.now c.number-picture.ensures.0 c.number-count.ensures.0 in
+    let k = counts_is c.args.file.now c.read_u32-picture.ensures c.read_u32-count.ensures in
     not_whole _ (λ t. omega (arith, t.sized, k))

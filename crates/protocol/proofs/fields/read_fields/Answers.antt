@@ -1,4 +1,4 @@
-use Rattle.std.proofs.Common.{refl, ◌∙◌, sym, ap, ◌-◌, ◌+◌, length, arith}
+use Rattle.std.proofs.Common.{rules, refl, ◌∙◌, sym, ap, ◌-◌, ◌+◌, length, arith}
 use Rattle.protocol.specs.Fields.{fields_in, all_read}
 use Rattle.protocol.proofs.FieldLaws.{fields_more, fields_end, fields_bad}
 use Rattle.protocol.proofs.fields.read_fields.Goals as goal
@@ -15,8 +15,9 @@ returns-in_err-fields c =
     let s = c.args.line.now in
     let n = c.read_field.new in
     let e = l.invariant ∙ fields_more (length s) l.counter s _ (omega arith) ∙ ap (fields_in (length s - (l.counter + 1)) s) (sym c.in_err-fields.ensures)
-    ∙ fields_bad (length s - (l.counter + 1)) s n.decoded n.ends n.numbers in
-    rw c.from_residual.ensures (sym (ap (all_read s) e))
+    ∙ fields_bad (length s - (l.counter + 1)) s n.decoded n.ends n.numbers _ in
+    let z = sym (ap (all_read s) e) in
+    search (rules, z)
 
 pub returns-then-is_all : goal.returns-then-is_all
 returns-then-is_all c =

@@ -1,5 +1,5 @@
 use Rattle.std.proofs.Common.{arith, ◌<◌, sym}
-use lib.Pow.{pow-lt, pow_pos}
+use lib.Pow.{pow-lt}
 use Rattle.bitio.proofs.BitLaws.{read-lt, shl_one}
 use Rattle.bitio.proofs.reader.BitReader.uvlc_suffix.Goals as goal
 

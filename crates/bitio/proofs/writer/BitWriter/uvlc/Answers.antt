@@ -1,4 +1,4 @@
-use Rattle.std.proofs.Common.{arith, ◌≤◌}
+use Rattle.std.proofs.Common.{arith}
 use Rattle.bitio.specs.Write.{uvlc_zeros}
 use Rattle.bitio.proofs.UvlcFormLaws.{uvlc-most}
 use Rattle.bitio.proofs.writer.BitWriter.uvlc.Goals as goal

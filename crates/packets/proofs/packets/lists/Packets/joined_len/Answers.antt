@@ -1,14 +1,15 @@
-use Rattle.packets.proofs.PacketPieceLaws.{whole_run, head-ranged, head-measured, joined-size}
+use Rattle.std.proofs.Common.{arith}
+use Rattle.packets.proofs.PacketPieceLaws.{whole_run, lead-short, joined-size}
 use Rattle.packets.proofs.packets.lists.Packets.joined_len.Goals as goal
 
 pub written_len-head-requires : goal.written_len-head-requires
-written_len-head-requires c = head-ranged c.args.self.bytes.now c.args.self.ends.now _ c.requires.all.short c.get-u.ensures c.lead_end.ensures
+written_len-head-requires c = record { short = omega (arith, c.requires.all.short, lead-short c.lead_of-u.ensures); os = _; range = c.lead_end.ensures }
 
 pub run_len-requires : goal.run_len-requires
 run_len-requires c = whole_run c.requires.all c.requires.mid
 
 pub returns : goal.returns
 returns c =
-    joined-size c.args.self.bytes.now c.args.self.ends.now c.args.a c.args.c c.args.b c.requires _ c.lead_of.ensures
-    (head-measured c.args.self.bytes.now c.args.self.ends.now _ c.requires.all.short c.get-u.ensures c.lead_end.ensures c.written_len-head.ensures)
+    joined-size c.args.self.bytes.now c.args.self.ends.now c.args.a c.args.c c.args.b c.requires _ c.lead_of-u.ensures
+    (c.written_len-head.ensures _ c.lead_end.ensures)
     c.run_len.ensures c.saturating_add.ensures
