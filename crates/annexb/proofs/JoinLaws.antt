@@ -1,11 +1,16 @@
 -- Laws of units written to Annex B: what is counted, and what is written.
-use Prim.Native.Nat.{ℕ, ◌+◌, ◌-◌, ◌*◌, ◌≤◌, ◌<◌}
+use Prim.Native.Nat.{ℕ, zero, suc, ◌+◌, ◌-◌, ◌*◌, ◌≤◌, ◌<◌}
 use native.Mathlib.Omega.{arith}
 use mathlib.Core.Path.{◌≡◌, refl, sym, ap, ◌∙◌}
 use mathlib.Core.List.{List, [], ◌∷◌, ◌++◌, flat_map, append_assoc, append-nil}
 use mathlib.Core.Option.{Option}
-use mathlib.Core.Bool.{true}
-use lib.ListN.{length, get_or, drop, length-append}
+use lib.ListN.{length, get_or, take, drop, length-append, length-drop, take-append-drop}
+use lib.Seq.{take_all, take-suc, drop-cons}
+use native.Mathlib.Numerals.{add-one}
+use Rattle.container.specs.Stream.{flat, stream_bytes}
+use Rattle.container.specs.Lists.{listed}
+use Rattle.container.specs.declared.lists.Units.{Units}
+use Rattle.container.proofs.ListLaws.{units-bytes, list-listed}
 use native.Mathlib.Decide.{dec_lt}
 use borrow.Author.Tests.{lt-ltb}
 use Rattle.bitio.specs.Parse.{Answer, refused, accepted, answer, Head, stop, item, many, accepted_list}
@@ -13,20 +18,18 @@ use Rattle.bitio.specs.Leb.{leb_bytes, framed}
 use Rattle.bitio.proofs.LebLaws.{bytes_most}
 use Rattle.bitio.proofs.LentLaws.{wrote_none, wrote-more, wrote-length}
 use Rattle.obu.specs.Obu.{Obu, passes, ext_bytes, header, head_obu, obus_of, obus}
-use Rattle.obu.specs.Place.{wrong, place_of, obu_place}
+use Rattle.obu.specs.Place.{wrong, part, place_of, obu_place}
 use Rattle.obu.specs.Write.{obu}
 use Rattle.obu.proofs.ObuLaws.{obu-shrinks}
-use Rattle.obu.proofs.PlaceLaws.{slice-to-end, Placed, IsPlaced, is-wrong}
+use Rattle.obu.proofs.PlaceLaws.{part_placed, IsPlaced, is-wrong}
 use Rattle.container.specs.AnnexB.{inner_bytes, annexb_unit, wrote, annexb_bytes}
 use Rattle.bitio.specs.Limits.{limit}
-use Rattle.container.specs.Units.{units_at, count_of, out_after}
-use Rattle.bitio.specs.Lent.{span, Wrote}
-use Rattle.container.specs.Lists.{accepts}
+use Rattle.container.specs.Units.{count_of, out_after}
+use Rattle.bitio.specs.Lent.{Wrote}
 use Rattle.annexb.specs.code.Fill.{ObusRoom}
 use Rattle.annexb.specs.code.Join.{inner_length, framed_length, AnnexbRoom}
-use Rattle.annexb.proofs.SpanLaws.{span-all, ahead, Passed, passed_start, passed-next, passed-stop, passed-end}
+use Rattle.annexb.proofs.PassedLaws.{ahead, Passed, passed_start, passed-next, passed-stop, passed-end}
 use Rattle.annexb.proofs.FillLaws.{flat_map-append, Whole}
-use Rattle.annexb.proofs.CutLaws.{CutUpTo, cut-start, cut-next, cut-good, cut-part, cut-done, accepted-is}
 use Rattle.obu.proofs.WriteLaws.{ext-most}
 
 -- ---- lengths
@@ -69,29 +72,33 @@ unit-few n l =
 
 -- ---- an OBU of a unit
 
-module _ {s : List ℕ} {at : ℕ} {o : Obu} {a b : ℕ} (p : Placed s at o a b) where
-  pub head_at : head_obu (span s at (length s)) ≡ item o (span s b (length s))
-  unfolding span
-  head_at = rw (slice-to-end s at, slice-to-end s b) p.head
+pub placed-is : {s : List ℕ} {at t : ℕ} {x : Option ℕ} {a b : ℕ} (i : IsPlaced s at t x a b) → obu t x (part s a b) ≡ i.obu
+placed-is i = rw (← i.type, ← i.ext, part_placed i.placed)
 
-pub placed-is : {s : List ℕ} {at t : ℕ} {x : Option ℕ} {a b : ℕ} (i : IsPlaced s at t x a b) → obu t x (span s a b) ≡ i.obu
-unfolding span
-placed-is i = rw (← i.type, ← i.ext, i.placed.payload)
+pub placed-size : {s : List ℕ} {at t : ℕ} {x : Option ℕ} {a b : ℕ} (i : IsPlaced s at t x a b) → length (inner_bytes i.obu) ≡ framed_length (inner_length x (length (part s a b)))
+placed-size i = rw (← i.ext, part_placed i.placed) (inner-size i.obu)
 
-pub placed-size : {s : List ℕ} {at t : ℕ} {x : Option ℕ} {a b : ℕ} (i : IsPlaced s at t x a b) → length (inner_bytes i.obu) ≡ framed_length (inner_length x (b - a))
-placed-size i = rw (← i.ext, i.placed.size) (inner-size i.obu)
+placed-few : {s : List ℕ} {at t : ℕ} {x : Option ℕ} {a b : ℕ} (i : IsPlaced s at t x a b) → length (inner_bytes i.obu) ≡ framed_length (inner_length x (b - a))
+placed-few i = rw (← i.ext, i.placed.size) (inner-size i.obu)
 
-pub stop-at : (s : List ℕ) (at k : ℕ) → at < length s → obu_place s at ≡ wrong k → head_obu (span s at (length s)) ≡ stop k
-unfolding obu_place span
-stop-at s at k l q = rw (slice-to-end s at) (go (head_obu (drop at s)) (rw (lt-ltb at (length s) l) at q))
+-- what is left behind `at`
+pub left-some : (s : List ℕ) (at : ℕ) → at < length s → 0 < length (drop at s)
+left-some s at l = omega (arith, length-drop at s)
+
+pub left-none : (s : List ℕ) (at : ℕ) → length s ≤ at → length (drop at s) ≡ 0
+left-none s at l = omega (arith, length-drop at s)
+
+pub stop-at : (s : List ℕ) (at k : ℕ) → at < length s → obu_place s at ≡ wrong k → head_obu (drop at s) ≡ stop k
+unfolding obu_place
+stop-at s at k l q = go (head_obu (drop at s)) (rw (lt-ltb at (length s) l) at q)
   where
     go : (x : Head Obu) → place_of s x ≡ wrong k → x ≡ stop k
     go (stop j) q = let z : j ≡ k = cc in rw z
     go (item y r) q = let z : ◌≡◌ {A = ℕ} 0 1 = cc in absurd (omega arith)
 
-pub obus-are : (s : List ℕ) → obus s ≡ many head_obu (span s 0 (length s))
+pub obus-are : (s : List ℕ) → obus s ≡ many head_obu s
 unfolding obus_of
-obus-are s = ap (many head_obu) (sym (span-all s))
+obus-are s = refl
 
 -- ---- counting the OBUs of a unit
 
@@ -100,13 +107,14 @@ counts s = answer (λ os. length (flat_map inner_bytes os)) (obus s)
 
 pub record Counting (s : List ℕ) (at n : ℕ) : Type 0 where
   pub done : List Obu
-  pub passed : Passed head_obu s 0 (length s) at done
+  pub passed : Passed head_obu s (drop at s) done
+  pub within : at ≤ length s
   pub bytes-are : n ≡ length (flat_map inner_bytes done)
   pub few : n ≤ 12 * at
 
 pub counting-start : (s : List ℕ) → Counting s 0 0
 unfolding flat_map
-counting-start s = record { done = []; passed = passed_start head_obu (obu-shrinks passes) s 0 (length s) (omega arith); bytes-are = refl; few = omega arith }
+counting-start s = record { done = []; passed = passed_start head_obu (obu-shrinks passes) s; within = omega arith; bytes-are = refl; few = omega arith }
 
 one_more : (os : List Obu) (o : Obu) → length (flat_map inner_bytes (os ++ (o ∷ []))) ≡ length (flat_map inner_bytes os) + length (inner_bytes o)
 unfolding flat_map
@@ -118,11 +126,12 @@ module _ {s : List ℕ} {at n : ℕ} (c : Counting s at n) where
   pub counting-next : length s ≤ limit → {t : ℕ} {x : Option ℕ} {a b m : ℕ} → IsPlaced s at t x a b → m ≡ framed_length (inner_length x (b - a)) → Counting s b (n + m)
   counting-next l {x = x} {a} {b} {m} i q =
       let p = i.placed in
-      let z = placed-size i in
+      let z = placed-few i in
       let f = (inner-few x (b - a) (omega (arith, p.within))).1 in
       record {
         done = c.done ++ (i.obu ∷ []);
-        passed = passed-next head_obu (obu-shrinks passes) s 0 (length s) c.passed (head_at p) p.within;
+        passed = passed-next head_obu (obu-shrinks passes) s c.passed p.head;
+        within = p.within;
         bytes-are = omega (arith, c.bytes-are, one_more c.done i.obu);
         few = omega (arith, c.few, p.after, p.ends);
       }
@@ -130,10 +139,10 @@ module _ {s : List ℕ} {at n : ℕ} (c : Counting s at n) where
   pub counting-stop : (k : ℕ) → obu_place s at ≡ wrong k → refused k ≡ counts s
   counting-stop k q =
       let l = (is-wrong s at k q).0 in
-      rw (obus-are s ∙ passed-stop head_obu (obu-shrinks passes) s 0 (length s) c.passed l (omega arith) k (stop-at s at k l q))
+      rw (obus-are s ∙ passed-stop head_obu (obu-shrinks passes) s c.passed (left-some s at l) k (stop-at s at k l q))
 
   pub counting-end : length s ≤ at → accepted n ≡ counts s
-  counting-end l = rw (obus-are s ∙ passed-end head_obu (obu-shrinks passes) s 0 (length s) c.passed l) (ap accepted c.bytes-are)
+  counting-end l = rw (obus-are s ∙ passed-end head_obu (obu-shrinks passes) s c.passed (left-none s at l)) (ap accepted c.bytes-are)
 
 -- ---- counting units
 
@@ -179,17 +188,16 @@ module _ (done : List (List ℕ)) {bs : List ℕ} (e : annexb_bytes done ≡ acc
       go (accepted os) (refused k) p q = let z : ◌≡◌ {A = ℕ} 0 1 = cc in absurd (omega arith)
       go (accepted os) (accepted cs) p q = (os, p, cs, let z : bs ++ (annexb_unit os ++ cs) ≡ all = cc in sym z)
 
-pub record Totalling (s es : List ℕ) (at i n : ℕ) : Type 0 where
-  pub done : List (List ℕ)
-  pub cut : CutUpTo s es at i done
+-- the units up to i are counted
+pub record Totalling (us : List (List ℕ)) (i n : ℕ) : Type 0 where
   pub bytes : List ℕ
-  pub made : annexb_bytes done ≡ accepted bytes
+  pub made : annexb_bytes (take i us) ≡ accepted bytes
   pub bytes-are : n ≡ length bytes
-  pub few : n ≤ 48 * at + 3 * i
+  pub few : n ≤ 48 * length (flat (take i us)) + 3 * i
 
-pub totalling-start : (s es : List ℕ) → Totalling s es 0 0 0
+pub totalling-start : (us : List (List ℕ)) → Totalling us 0 0
 unfolding annexb_bytes
-totalling-start s es = record { done = []; cut = cut-start s es; bytes = []; made = refl; bytes-are = refl; few = omega arith }
+totalling-start us = record { bytes = []; made = refl; bytes-are = refl; few = omega arith }
 
 -- what was counted of a unit
 pub counts-is : (u : List ℕ) {n : ℕ} → counts u ≡ accepted n → (os : List Obu) × (obus u ≡ accepted os) × (n ≡ length (flat_map inner_bytes os))
@@ -209,42 +217,59 @@ counts-refused u {k} q = go (obus u) q
     go (refused j) q = let z : j ≡ k = cc in rw z
     go (accepted os) q = let z : ◌≡◌ {A = ℕ} 0 1 = cc in absurd (omega arith)
 
-module _ (s es : List ℕ) (a : accepts (units_at s es) ≡ true) {at i n : ℕ} (t : Totalling s es at i n) where
-  abbrev all : Answer ℕ
-  all = count_of (annexb_bytes (accepted_list (units_at s es)))
+-- the bytes of a unit, and of those before it
+flat-more : (us : List (List ℕ)) (u : List ℕ) → length (flat (us ++ (u ∷ []))) ≡ length (flat us) + length u
+unfolding flat
+flat-more [] u = omega (arith, ap length (append-nil u))
+flat-more (v ∷ us) u = omega (arith, length-append v (flat (us ++ (u ∷ []))), length-append v (flat us), flat-more us u)
 
-  module _ (l : i < length es) where
-    abbrev end : ℕ
-    end = get_or es i 0
+flat-less : (i : ℕ) (us : List (List ℕ)) → length (flat (take i us)) ≤ length (flat us)
+unfolding flat
+flat-less zero us = omega arith
+flat-less (suc i) [] = omega arith
+flat-less (suc i) (u ∷ us) = omega (arith, length-append u (flat (take i us)), length-append u (flat us), flat-less i us)
 
-    pub totalling-good : (at ≤ end) × (end ≤ length s)
-    totalling-good = cut-good s es t.cut l a
+-- a list's units have all bytes
+pub listed-bytes : (x : Units) → length (flat (listed x.bytes.now x.ends.now)) ≡ length x.bytes.now
+unfolding stream_bytes
+listed-bytes x = ap length (units-bytes x.bytes.now x.ends.now (listed x.bytes.now x.ends.now) (list-listed x))
 
-    pub totalling-next : length s ≤ limit → {m k : ℕ} → counts (span s at end) ≡ accepted m → m ≤ 12 * (end - at) → k ≡ framed_length (framed_length m) → Totalling s es end (i + 1) (n + k)
-    totalling-next h {m} {k} q b z =
-        let g = totalling-good in
-        let (os, p, y) = counts-is (span s at end) q in
+module _ (us : List (List ℕ)) {i : ℕ} (l : i < length us) where
+  abbrev unit : List ℕ
+  unit = get_or us i []
+
+  one-taken : take (i + 1) us ≡ take i us ++ (unit ∷ [])
+  one-taken = rw (add-one i) (take-suc us i [] l)
+
+  around : us ≡ take i us ++ (unit ∷ drop (suc i) us)
+  around = sym (take-append-drop i us) ∙ ap (λ t. take i us ++ t) (drop-cons us i [] l)
+
+module _ (us : List (List ℕ)) {i n : ℕ} (t : Totalling us i n) where
+  module _ (l : i < length us) where
+    pub totalling-next : {m k : ℕ} → counts (unit us l) ≡ accepted m → m ≤ 12 * length (unit us l) → length (unit us l) ≤ limit → k ≡ framed_length (framed_length m) → Totalling us (i + 1) (n + k)
+    totalling-next {m} {k} q b h z =
+        let (os, p, y) = counts-is (unit us l) q in
         let f = (unit-few m (omega arith)).1 in
-        let x = unit_size os in
-        let w : framed_length (framed_length m) ≡ length (annexb_unit os) = ap (λ j. framed_length (framed_length j)) y ∙ sym x in
+        let w : framed_length (framed_length m) ≡ length (annexb_unit os) = ap (λ j. framed_length (framed_length j)) y ∙ sym (unit_size os) in
         record {
-          done = t.done ++ (span s at end ∷ []);
-          cut = cut-next s es t.cut l g.0 g.1;
           bytes = t.bytes ++ annexb_unit os;
-          made = bytes-more t.done t.made (span s at end) p;
+          made = rw (one-taken us l) (bytes-more (take i us) t.made (unit us l) p);
           bytes-are = omega (arith, t.bytes-are, length-append t.bytes (annexb_unit os));
-          few = omega (arith, t.few);
+          few = omega (arith, t.few, ap (λ x. length (flat x)) (one-taken us l), flat-more (take i us) (unit us l));
         }
 
-    pub totalling-stop : {k : ℕ} → counts (span s at end) ≡ refused k → refused k ≡ all
+    pub totalling-stop : {k : ℕ} → counts (unit us l) ≡ refused k → refused k ≡ count_of (annexb_bytes us)
     totalling-stop q =
-        let g = totalling-good in
-        let (us, p) = accepted-is (units_at s es) a in
-        let (ls, y) = cut-part s es t.cut l us p g.0 g.1 in
-        rw (p, y, bytes-bad t.done t.made (span s at end) ls (counts-refused (span s at end) q))
+        let e = ap annexb_bytes (around us l) ∙ bytes-bad (take i us) t.made (unit us l) (drop (suc i) us) (counts-refused (unit us l) q) in
+        rw e
 
-  pub totalling-end : length es ≤ i → accepted n ≡ all
-  totalling-end l = rw (cut-done s es t.cut l a, t.made) (ap accepted t.bytes-are)
+  pub totalling-few : n ≤ 48 * length (flat us) + 3 * i
+  totalling-few = omega (arith, t.few, flat-less i us)
+
+  pub totalling-end : length us ≤ i → accepted n ≡ count_of (annexb_bytes us)
+  totalling-end l =
+      let e = ap annexb_bytes (sym (take_all i us l)) ∙ t.made in
+      rw e (ap accepted t.bytes-are)
 
 -- ---- writing an OBU, a unit
 
@@ -267,63 +292,47 @@ module _ {d : List ℕ} {w : ℕ} (l : w ≤ length d) {d₁ d₂ d₃ : List �
       rw append_assoc at (wrote-more (wrote-more (rw n at a) l b) l c)
 
 -- the OBUs of a unit, to be written one after another
-pub whole-obus : {u d : List ℕ} {w : ℕ} → ObusRoom (obus u) (flat_map inner_bytes) d w → Whole head_obu inner_bytes u 0 (length u) d w
+pub whole-obus : {u d : List ℕ} {w : ℕ} → ObusRoom (obus u) (flat_map inner_bytes) d w → Whole head_obu inner_bytes u d w
 whole-obus {u} p = record { all = p.held; reads = sym (obus-are u) ∙ p.reads; room = p.room }
 
-pub obus-laid : {u d : List ℕ} {w : ℕ} (x : Whole head_obu inner_bytes u 0 (length u) d w) {d' : List ℕ} {w' : ℕ} → Wrote d w (flat_map inner_bytes x.all) w' d' → Wrote d w (flat_map inner_bytes (accepted_list (obus u))) w' d'
+pub obus-laid : {u d : List ℕ} {w : ℕ} (x : Whole head_obu inner_bytes u d w) {d' : List ℕ} {w' : ℕ} → Wrote d w (flat_map inner_bytes x.all) w' d' → Wrote d w (flat_map inner_bytes (accepted_list (obus u))) w' d'
 obus-laid {u} x l = rw (obus-are u ∙ x.reads) l
 
 -- ---- writing units
 
-pub record Putted (s es d : List ℕ) (at i : ℕ) (d' : List ℕ) (w : ℕ) : Type 0 where
-  pub done : List (List ℕ)
-  pub cut : CutUpTo s es at i done
+-- the units up to i are written
+pub record Putted (us : List (List ℕ)) (d : List ℕ) (i : ℕ) (d' : List ℕ) (w : ℕ) : Type 0 where
   pub bytes : List ℕ
-  pub made : annexb_bytes done ≡ accepted bytes
+  pub made : annexb_bytes (take i us) ≡ accepted bytes
   pub laid : Wrote d 0 bytes w d'
   pub kept : length d' ≡ length d
 
-pub putted-start : (s es d : List ℕ) → Putted s es d 0 0 d 0
+pub putted-start : (us : List (List ℕ)) (d : List ℕ) → Putted us d 0 d 0
 unfolding annexb_bytes
-putted-start s es d = record { done = []; cut = cut-start s es; bytes = []; made = refl; laid = wrote_none d 0; kept = refl }
+putted-start us d = record { bytes = []; made = refl; laid = wrote_none d 0; kept = refl }
 
-module _ {s es d : List ℕ} (x : AnnexbRoom s es d) {at i : ℕ} {d' : List ℕ} {w : ℕ} (t : Putted s es d at i d' w) where
-  good : accepts (units_at s es) ≡ true
-  good = rw x.cut
-
-  module _ (l : i < length es) where
-    abbrev upto : ℕ
-    upto = get_or es i 0
-
-    pub putted-good : (at ≤ upto) × (upto ≤ length s)
-    putted-good = cut-good s es t.cut l good
-
+module _ {us : List (List ℕ)} {d : List ℕ} (x : AnnexbRoom us d) {i : ℕ} {d' : List ℕ} {w : ℕ} (t : Putted us d i d' w) where
+  module _ (l : i < length us) where
     -- the OBUs of the unit, and what is written behind it
-    part : (os : List Obu) × (obus (span s at upto) ≡ accepted os) × (r : List ℕ) × (x.bytes ≡ t.bytes ++ (annexb_unit os ++ r))
-    part =
-        let g = putted-good in
-        let (ls, y) = cut-part s es t.cut l x.units x.cut g.0 g.1 in
-        bytes-part t.done t.made (span s at upto) ls (sym (ap annexb_bytes y) ∙ x.made)
+    next_one : (os : List Obu) × (obus (unit us l) ≡ accepted os) × (r : List ℕ) × (x.bytes ≡ t.bytes ++ (annexb_unit os ++ r))
+    next_one = bytes-part (take i us) t.made (unit us l) (drop (suc i) us) (sym (ap annexb_bytes (around us l)) ∙ x.made)
 
-    pub putted-unit : ObusRoom (obus (span s at upto)) annexb_unit d' w
+    pub putted-unit : ObusRoom (obus (unit us l)) annexb_unit d' w
     putted-unit =
-        let (os, p, r, y) = part in
+        let (os, p, r, y) = next_one in
         let n = ap length y ∙ length-append t.bytes (annexb_unit os ++ r) in
         record { held = os; reads = p; room = omega (arith, length-append (annexb_unit os) r, t.laid.next, t.kept, x.room) }
 
-    pub putted-next : {d'' : List ℕ} {w'' : ℕ} → Wrote d' w (annexb_unit (accepted_list (obus (span s at upto)))) w'' d'' → Putted s es d upto (i + 1) d'' w''
+    pub putted-next : {d'' : List ℕ} {w'' : ℕ} → Wrote d' w (annexb_unit (accepted_list (obus (unit us l)))) w'' d'' → Putted us d (i + 1) d'' w''
     putted-next m =
-        let g = putted-good in
         let u = putted-unit in
         let k = rw u.reads at m in
         record {
-          done = t.done ++ (span s at upto ∷ []);
-          cut = cut-next s es t.cut l g.0 g.1;
           bytes = t.bytes ++ annexb_unit u.held;
-          made = bytes-more t.done t.made (span s at upto) u.reads;
+          made = rw (one-taken us l) (bytes-more (take i us) t.made (unit us l) u.reads);
           laid = wrote-more t.laid (omega arith) k;
           kept = wrote-length k u.room ∙ t.kept;
         }
 
-  pub putted-end : length es ≤ i → d' ≡ out_after (annexb_bytes (accepted_list (units_at s es))) d
-  putted-end l = rw (cut-done s es t.cut l good, t.made) t.laid.out
+  pub putted-end : length us ≤ i → d' ≡ out_after (annexb_bytes us) d
+  putted-end l = let e = ap annexb_bytes (sym (take_all i us l)) ∙ t.made in rw e t.laid.out

@@ -1,8 +1,7 @@
-pub mod SpanLaws
+pub mod PassedLaws
 pub mod PartLaws
 pub mod MeasureLaws
 pub mod FillLaws
 pub mod SplitLaws
-pub mod CutLaws
 pub mod JoinLaws
 pub mod WriteLaws

@@ -29,9 +29,9 @@ pub says-refused : {x : Answer (List (List ℕ))} {k : ℕ} (d e : List ℕ) →
 says-refused d e q = (rw q, (rw q, rw q))
 
 module _ (room : Room) (s : List ℕ) where
-  pub read-long : limit < length s → read annexb room s ≡ refused 34
+  pub read-long : {k : ℕ} → (limit < length s) × (k ≡ 34) → read annexb room s ≡ refused k
   unfolding read
-  read-long l = rw (lt-leb (length s) limit l)
+  read-long (l, q) = rw (lt-leb (length s) limit l, q)
 
   pub read-empty : length s ≡ 0 → read annexb room s ≡ refused 13
   unfolding read annexb_units_of

@@ -7,17 +7,16 @@ use mathlib.Core.Bool.{true, false, cond as pick, ◌&&◌}
 use lib.ListN.{length}
 use lib.Dec.{leb}
 use borrow.Author.Tests.{le-leb, lt-leb, leb-true}
-use Rattle.bitio.specs.Parse.{Answer, refused, accepted, and_next, accepted_list}
+use Rattle.bitio.specs.Parse.{Answer, refused, accepted, and_next}
 use Rattle.container.specs.AnnexB.{annexb_bytes}
 use Rattle.bitio.specs.Limits.{limit}
 use Rattle.container.specs.Limits.{Room, bytes_room, fits, fit_bytes}
 use Rattle.container.specs.Container.{annexb, write_at}
 use Rattle.container.specs.Units.{units_at, count_of, out_after}
-use Rattle.container.proofs.ListLaws.{units-refused}
-use Rattle.container.specs.Lists.{accepts}
+use Rattle.container.proofs.ListLaws.{units-listed}
+use Rattle.container.specs.Lists.{listed, accepts}
 use Rattle.annexb.specs.code.Join.{AnnexbRoom}
 use Rattle.bitio.proofs.ParseLaws.{and_both}
-use Rattle.annexb.proofs.CutLaws.{accepted-is}
 
 -- an answer's two parts, as a writer's two clauses ask them
 abbrev pub WriterSays : Answer (List ℕ) → Answer ℕ → (d d' : List ℕ) → Type 0
@@ -31,23 +30,23 @@ pub writes-whole : {x y : Answer (List ℕ)} {a : Answer ℕ} (d : List ℕ) {d'
 writes-whole d q m w = (rw q m, rw q w)
 
 module _ (room : Room) (s es : List ℕ) where
-  pub write-long : limit < length s → write_at annexb room s es ≡ refused 34
+  pub write-long : {k : ℕ} → (limit < length s) × (k ≡ 34) → write_at annexb room s es ≡ refused k
   unfolding write_at and_next
-  write-long l = rw (lt-leb (length s) limit l)
+  write-long (l, q) = rw (lt-leb (length s) limit l, q)
 
   module _ (l : length s ≤ limit) where
-    pub write-bad : accepts (units_at s es) ≡ false → write_at annexb room s es ≡ refused 36
+    pub write-bad : {k : ℕ} → units_at s es ≡ refused k → write_at annexb room s es ≡ refused k
     unfolding write_at and_next
-    write-bad q = rw (le-leb (length s) limit l, units-refused s es q)
+    write-bad q = rw (le-leb (length s) limit l, q)
 
     -- the units' bytes
     abbrev made : Answer (List ℕ)
-    made = annexb_bytes (accepted_list (units_at s es))
+    made = annexb_bytes (listed s es)
 
     module _ (a : accepts (units_at s es) ≡ true) where
       write-made : write_at annexb room s es ≡ fit_bytes room made
       unfolding write_at and_next
-      write-made = let x = accepted-is (units_at s es) a in rw (le-leb (length s) limit l, x.1)
+      write-made = rw (le-leb (length s) limit l, units-listed s es a)
 
       pub write-refused : {k : ℕ} → count_of made ≡ refused k → write_at annexb room s es ≡ refused k
       write-refused {k} q = write-made ∙ go made q
@@ -71,14 +70,13 @@ module _ (room : Room) (s es : List ℕ) where
         write-whole f = write-fits ∙ rw f
 
 -- with room the units can be written
-pub writing : (s es d : List ℕ) → accepts (units_at s es) ≡ true → {n : ℕ} → count_of (annexb_bytes (accepted_list (units_at s es))) ≡ accepted n
-    → fits n 0 (bytes_room (length d)) ≡ true → AnnexbRoom s es d
-writing s es d a {n} q f = let (us, p) = accepted-is (units_at s es) a in go us p (annexb_bytes us) refl (rw p at q)
+pub writing : (us : List (List ℕ)) (d : List ℕ) {n : ℕ} → count_of (annexb_bytes us) ≡ accepted n → fits n 0 (bytes_room (length d)) ≡ true → AnnexbRoom us d
+writing us d {n} q f = go (annexb_bytes us) refl q
   where
-    go : (us : List (List ℕ)) → units_at s es ≡ accepted us → (x : Answer (List ℕ)) → annexb_bytes us ≡ x → count_of x ≡ accepted n → AnnexbRoom s es d
-    go us p (refused k) y q = let z : ◌≡◌ {A = ℕ} 0 1 = cc in absurd (omega arith)
-    go us p (accepted bs) y q =
+    go : (x : Answer (List ℕ)) → annexb_bytes us ≡ x → count_of x ≡ accepted n → AnnexbRoom us d
+    go (refused k) y q = let z : ◌≡◌ {A = ℕ} 0 1 = cc in absurd (omega arith)
+    go (accepted bs) y q =
         let z : length bs ≡ n = cc in
         let b = and_both (leb n limit) (leb n (length d) && leb 0 0) f in
         let c = and_both (leb n (length d)) (leb 0 0) b.1 in
-        record { units = us; cut = p; bytes = bs; made = y; room = omega (arith, leb-true n (length d) c.0) }
+        record { bytes = bs; made = y; room = omega (arith, leb-true n (length d) c.0) }

@@ -1,3 +1,3 @@
-pub mod Spans
+pub mod Parts
 pub mod Fill
 pub mod Join

@@ -5,15 +5,16 @@ ghost use Rattle.container.specs.Limits.{bytes_room, room_in};
 ghost use Rattle.container.specs.Container.{annexb, read, write_at};
 ghost use Rattle.container.specs.Units.{sizes_of, bytes_after, ends_after, count_of, out_after};
 
-use bitio::limits::LIMIT;
+use bitio::limits::check_limit;
 use bitio::refusal::Refusal;
-use container::lists::check_ends;
+use container::lists::Units;
 use container::units::{Sizes, have_room};
 
 mod count;
 mod fill;
 mod measure;
 mod part;
+mod parts;
 mod write;
 
 // The units of Annex B in written form into out, the end of each into ends; a refusal changes nothing.
@@ -22,9 +23,7 @@ pub fn split_annexb(data: &[u8], out: &mut [u8], ends: &mut [u32]) -> Result<Siz
     ensures out_after { out.new ≡ bytes_after (read annexb (room_in out.old ends.old) «data».now) out.old }
     ensures ends_after { ends.new ≡ ends_after (read annexb (room_in out.old ends.old) «data».now) ends.old }
 {
-    if data.len() > LIMIT {
-        return Err(Refusal::InputTooLong);
-    }
+    check_limit(data)?;
     if data.is_empty() {
         return Err(Refusal::NoBytes);
     }
@@ -41,16 +40,12 @@ pub fn write_annexb(units: &[u8], unit_ends: &[u32], out: &mut [u8]) -> Result<u
     ensures result_value { says result ≡ count_of (write_at annexb (bytes_room (length out.old)) units.now unit_ends.now) }
     ensures out_after { out.new ≡ out_after (write_at annexb (bytes_room (length out.old)) units.now unit_ends.now) out.old }
 {
-    if units.len() > LIMIT {
-        return Err(Refusal::InputTooLong);
-    }
-    if !check_ends(units, unit_ends) {
-        return Err(Refusal::NotAList);
-    }
-    let bytes = count::count_units(units, unit_ends)?;
+    check_limit(units)?;
+    let listed = Units::new(units, unit_ends)?;
+    let bytes = count::count_units(listed)?;
     if !have_room(bytes, out) {
         return Err(Refusal::NoRoom);
     }
-    write::put_units(units, unit_ends, out);
+    write::put_units(listed, out);
     Ok(bytes)
 }

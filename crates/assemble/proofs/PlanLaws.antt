@@ -7,7 +7,7 @@ use mathlib.Core.Bool.{Bool, true, false, cond as pick}
 use mathlib.Core.Option.{Option, none, some}
 use lib.ListN.{length}
 use lib.Dec.{eqb}
-use borrow.Author.Tests.{le-leb, eqb-true}
+use borrow.Author.Tests.{le-leb, lt-ltb, le-ltb, eqb-true}
 use Rattle.std.specs.Prelude.{Result, Ok, Err}
 use Rattle.std.specs.Result.{result_unwrap_or}
 use Rattle.bitio.specs.Refusal.{says}
@@ -15,7 +15,8 @@ use Rattle.bitio.specs.declared.refusal.Refusal.{Refusal}
 use Rattle.header.specs.declared.seq_header.SequenceObu.{SequenceObu}
 use Rattle.pictures.proofs.HeaderLaws.{read-says}
 use Rattle.bitio.specs.Parse.{Answer, refused, accepted, answer, and_next}
-use Rattle.bitio.specs.Limits.{capped}
+use Rattle.bitio.specs.Limits.{limit, limited, capped}
+use Rattle.bitio.proofs.LimitLaws.{limit_kept, limit_passed}
 use Rattle.bitio.specs.Lent.{span, pasted}
 use Rattle.bitio.proofs.LentLaws.{placed-room, lent-room, pasted_length, pasted-front}
 use Rattle.obu.specs.Obu.{Obu, obus, obu_bytes}
@@ -31,10 +32,12 @@ use Rattle.emittable.specs.Emittable.{emittable}
 use Rattle.header.specs.declared.seq_header.SequenceHeader.{SequenceHeader}
 use Rattle.header.specs.declared.seq_header.OperatingPoint.{OperatingPoint}
 use Rattle.header.proofs.TimedLaws.{timed-of}
-use Rattle.blocks.specs.Numbers.{head_key}
+use Rattle.blocks.specs.Numbers.{head_key, frames_in}
+use Rattle.pictures.specs.Segments.{segments_of}
+use Rattle.pictures.specs.Sizes.{sized_all}
 use Rattle.pictures.specs.Prepare.{first_of, timed_sequence, Prepared}
 use Rattle.pictures.specs.declared.settings.Settings.{Settings}
-use Rattle.pictures.specs.Assemble.{Outcome, stopped, made, and_also, in_segment, same_headers, header_obu, prepare_all, picture_of}
+use Rattle.pictures.specs.Assemble.{Outcome, stopped, made, and_also, verdict, overall, in_segment, same_headers, header_obu, prepare_all, picture_of}
 use Rattle.pictures.specs.Flat.{all_segments, later_segments, first_sequence, answer_or, all_prepared, measured}
 use Rattle.assemble.specs.code.Stages.{Going, going, WasRead, from_pictures, from_timing, from_header, from_key, checked, planned, new_payload, header_in}
 use Rattle.pictures.specs.code.Rewrite.{obu_in}
@@ -47,6 +50,22 @@ segment-made : {A : Type 0} (i : ℕ) (y : Answer A) (a : A) → made a ≡ in_s
 unfolding in_segment
 segment-made i (refused n) a e = let z : ◌≡◌ {A = ℕ} 0 1 = cc in absurd (omega arith)
 segment-made i (accepted b) a e = let w : a ≡ b = cc in ap (λ c. accepted c) (sym w)
+
+-- ---- 34 leads
+
+module _ (s rs : List ℕ) (gop : ℕ) where
+  pub checked_long : {k : ℕ} → ◌≡◌ {A = Answer (Unit {0})} (refused k) (limited s (accepted tt)) → stopped k none ≡ checked s rs gop
+  unfolding checked
+  checked_long e = let (m, k) = limit_passed s e in rw (lt-ltb limit (length s) m, k)
+
+  module _ {x : Unit {0}} (e : accepted x ≡ limited s (accepted tt)) where
+    pub checked_ranges : {k : ℕ} → ◌≡◌ {A = Answer (Unit {0})} (refused k) (verdict (segments_of s rs)) → stopped k none ≡ checked s rs gop
+    unfolding checked and_also overall
+    checked_ranges w = rw (le-ltb limit (length s) (limit_kept s e), ← w) refl
+
+    pub checked_sizes : {y : Unit {0}} → accepted y ≡ verdict (segments_of s rs) → sized_all gop (frames_in rs) ≡ checked s rs gop
+    unfolding checked and_also overall
+    checked_sizes w = rw (le-ltb limit (length s) (limit_kept s e), ← w) refl
 
 -- ---- the first sequence header OBU is one
 

@@ -136,8 +136,8 @@ module _ (s rs : List ℕ) (set : Settings) (d : Lent) where
       pub can-shows : 5 * length (all_segments s rs) ≤ length d.shows
       can-shows = omega (arith, length-all s rs, shows-are, roomy.shows)
 
-      pub can-header : (1 ≤ segment_count rs) × (length (header_in s rs p.headers) ≤ length d.header)
-      can-header = (sound.some-there, roomy.header)
+      pub can-header : length (header_in s rs p.headers) ≤ length d.header
+      can-header = roomy.header
 
       pub all_made : (r : Counts) (d' : Lent) → r ≡ need → d'.list ≡ pasted d.list 0 (list_of set.gop (frames_in rs)) → d'.cues ≡ pasted d.cues 0 (cues_of (list_of set.gop (frames_in rs)))
           → d'.pictures ≡ pasted d.pictures 0 (picture_of sents) → d'.ends ≡ pasted d.ends 0 (ends_from 0 sents)

@@ -1,4 +1,5 @@
 pub mod Whole
 pub mod Records
+pub mod Listed
 pub mod Examples
 pub mod code

@@ -7,6 +7,7 @@ use Rattle.pictures.specs.declared.settings.Settings.{Settings}
 use Rattle.pictures.specs.declared.fault.Fault.{Fault}
 use Rattle.pictures.specs.Says.{outcome_of}
 use Rattle.pictures.specs.Assemble.{Outcome, stopped, made, and_also, Output, OutputRoom, assemble}
+use Rattle.assemble.specs.declared.multi.Buffers.{Buffers}
 use Rattle.assemble.specs.declared.multi.Counts.{Counts}
 
 -- how much is handed out, and the first golden slot
@@ -44,7 +45,20 @@ abbrev pub six : (list cues pictures ends shows header : List ℕ) → Lent
 six list cues pictures ends shows header =
     record { list = list; cues = cues; pictures = pictures; ends = ends; shows = shows; header = header }
 
--- the room that these have
+-- those that the code is handed
+abbrev pub lent_of : Buffers → Lent
+lent_of b = six b.list.now b.cues.now b.pictures.now b.ends.now b.shows.now b.header.now
+
+-- the same memory, whatever it holds
+pub record SameBuffers (old new : Buffers) : Type 0 where
+  pub list : new.list.ghost_name ≡ old.list.ghost_name
+  pub cues : new.cues.ghost_name ≡ old.cues.ghost_name
+  pub pictures : new.pictures.ghost_name ≡ old.pictures.ghost_name
+  pub ends : new.ends.ghost_name ≡ old.ends.ghost_name
+  pub shows : new.shows.ghost_name ≡ old.shows.ghost_name
+  pub header : new.header.ghost_name ≡ old.header.ghost_name
+
+-- the room that lent slices have
 abbrev pub output_room : Lent → OutputRoom
 output_room d =
     record { list = length d.list; cues = length d.cues; picture = length d.pictures; ends = length d.ends; shows = length d.shows; header = length d.header }

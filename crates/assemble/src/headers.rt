@@ -1,11 +1,10 @@
 // The sequence headers that go out: the first key's own, or a new payload in each (01, timing absent).
-ghost use Rattle.std.specs.Prelude.{◌≡◌, ◌≤◌};
+ghost use Rattle.std.specs.Prelude.{◌≡◌};
 ghost use Rattle.obu.specs.Place.{extension_says};
-ghost use Rattle.blocks.specs.Numbers.{segment_count};
 ghost use Rattle.pictures.specs.Flat.{lent};
 ghost use Rattle.assemble.specs.code.Stages.{new_payload, renewal_in, extension_in, payload_in};
 
-use blocks::numbers::Segments;
+use crate::nonempty::NonEmpty;
 use obu::reader::{Obu, payload};
 
 // A new payload, at the head of an array with room for any.
@@ -52,12 +51,11 @@ impl Headers {
     }
 
     // Its payload.
-    pub(crate) fn payload<'a>(&'a self, segments: Segments<'a>) -> &'a [u8]
-        requires { 1 ≤ segment_count segments.numbers.now }
-        ensures { result.now ≡ payload_in segments.entry.picture.now segments.entry.numbers.now self.now }
+    pub(crate) fn payload<'a>(&'a self, segments: NonEmpty<'a>) -> &'a [u8]
+        ensures { result.now ≡ payload_in segments.entry.all.picture.now segments.entry.all.numbers.now self.now }
     {
         match self {
-            Headers::Own(obu) => payload(segments.key(0), obu.start, obu.end),
+            Headers::Own(obu) => obu.payload(segments.all.key(0)),
             Headers::Renewed(new) => new.payload(),
         }
     }

@@ -3,6 +3,7 @@
 
 pub mod headers;
 pub mod multi;
+mod nonempty;
 pub mod plan;
 pub mod segments;
 pub mod unit;

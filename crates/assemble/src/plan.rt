@@ -4,26 +4,26 @@ ghost use Rattle.std.proofs.Math.Option.{none, some};
 ghost use Rattle.bitio.specs.Parse.{answer};
 ghost use Rattle.bitio.specs.Refusal.{says};
 ghost use Rattle.obu.specs.Obu.{obu_bytes};
-ghost use Rattle.obu.specs.Place.{part};
 ghost use Rattle.obu.specs.Write.{obu};
 ghost use Rattle.header.specs.Sequence.{sequence_in};
 ghost use Rattle.emittable.specs.Emittable.{emittable};
 ghost use Rattle.emit.specs.Emit.{sequence_bytes};
-ghost use Rattle.blocks.specs.Numbers.{head_key, segment_count};
+ghost use Rattle.blocks.specs.Numbers.{head_key};
 ghost use Rattle.pictures.specs.Flat.{first_sequence};
 ghost use Rattle.pictures.specs.Says.{outcome_of};
 ghost use Rattle.pictures.specs.code.Rewrite.{obu_in};
 ghost use Rattle.assemble.specs.code.Stages.{WasRead, from_pictures, from_timing, from_header, checked, planned, renewal_in, header_in, plan_says};
 
 use crate::headers::{Headers, Renewal};
-use bitio::limits::LIMIT;
+use crate::nonempty::NonEmpty;
+use bitio::limits::check_limit;
 use bitio::refusal::Refusal;
 use blocks::numbers::Segments;
 use emit::seq_header::emit::emit_sequence_header;
 use header::seq_header::SequenceObu;
 use header::seq_header::check::read_supported;
 use header::seq_header::timing::with_timing_info_rate;
-use obu::reader::{Obu, payload};
+use obu::reader::Obu;
 use obu::unit::{Kind, find_obu};
 use pictures::fault::{Fault, in_segment};
 use pictures::headers::same_headers;
@@ -41,13 +41,11 @@ pub struct Plan {
 }
 
 // 34, 36, 21 to 25.
-#[tactic(auto, unfolding(crate::specs::code::Stages::checked, pictures::specs::Assemble::and_also, pictures::specs::Assemble::overall))]
+#[tactic(auto, using(crate::proofs::PlanLaws::checked_long, crate::proofs::PlanLaws::checked_ranges))]
 fn check_input(segments: Segments, gop: u64) -> Result<(), Fault>
     ensures { outcome_of result ≡ checked segments.entry.picture.now segments.entry.numbers.now gop }
 {
-    if segments.picture.len() > LIMIT {
-        return Err(Fault::overall(Refusal::InputTooLong));
-    }
+    check_limit(segments.picture)?;
     check_ranges(segments)?;
     check_sizes(gop, segments.numbers)
 }
@@ -100,15 +98,14 @@ fn plan_timing(
 }
 
 // The first key's header, 14 to 20, and the same in later keys: 1 to 5, 27.
-fn plan_header(segments: Segments, obu: Obu, settings: Settings) -> Result<Plan, Fault>
-    requires some { 1 ≤ segment_count segments.numbers.now }
-    requires sequence { obu.obu_type ≡ 1 }
-    ensures { plan_says segments.entry.picture.now segments.entry.numbers.now result ≡ from_header segments.entry.picture.now segments.entry.numbers.now settings (obu_in (head_key segments.entry.picture.now segments.entry.numbers.now) obu) }
+fn plan_header(segments: NonEmpty, obu: Obu, settings: Settings) -> Result<Plan, Fault>
+    requires { obu.obu_type ≡ 1 }
+    ensures { plan_says segments.entry.all.picture.now segments.entry.all.numbers.now result ≡ from_header segments.entry.all.picture.now segments.entry.all.numbers.now settings (obu_in (head_key segments.entry.all.picture.now segments.entry.all.numbers.now) obu) }
 {
-    let first = payload(segments.key(0), obu.start, obu.end);
+    let first = obu.payload(segments.all.key(0));
     let sequence = in_segment(read_supported(first), 0)?;
-    same_headers(segments, first)?;
-    plan_timing(segments, sequence, obu, settings)
+    same_headers(segments.all, first)?;
+    plan_timing(segments.all, sequence, obu, settings)
 }
 
 // The first sequence header OBU of a key: 1 to 5, 26.
@@ -123,6 +120,7 @@ pub(crate) fn plan_multi(segments: Segments, settings: Settings) -> Result<Plan,
     ensures { plan_says segments.entry.picture.now segments.entry.numbers.now result ≡ planned segments.entry.picture.now segments.entry.numbers.now settings }
 {
     check_input(segments, settings.gop)?;
+    let some = NonEmpty { all: segments };
     let obu = in_segment(first_sequence(segments.key(0)), 0)?;
-    plan_header(segments, obu, settings)
+    plan_header(some, obu, settings)
 }

@@ -1,12 +1,10 @@
 // Assembly from a lent list of range records (document 01): each is copied into the flat numbers that the core takes.
-ghost use Rattle.std.specs.Prelude.{◌≡◌, ◌+◌, ◌*◌, ◌<◌, length};
-ghost use Rattle.bitio.specs.Lent.{pasted};
-ghost use Rattle.blocks.specs.Numbers.{width};
-ghost use Rattle.assemble.specs.Whole.{six, Handed};
+ghost use Rattle.std.specs.Prelude.{◌≡◌, length};
+ghost use Rattle.assemble.specs.Whole.{lent_of, SameBuffers, Handed};
 ghost use Rattle.assemble.specs.Records.{copy_count, numbers_after, copied_outcome, records_outcome};
 
-use crate::multi::{Counts, assemble_multi};
-use bitio::limits::LIMIT;
+use crate::multi::{Buffers, Counts, assemble_multi};
+use bitio::limits::check_limit;
 use bitio::refusal::Refusal;
 use blocks::numbers::{Segment, WIDTH, put_record};
 use pictures::fault::Fault;
@@ -35,36 +33,20 @@ fn assemble_copied(
     count: usize,
     numbers: &mut [u64],
     settings: Settings,
-    list: &mut [u32],
-    cues: &mut [u32],
-    pictures: &mut [u8],
-    ends: &mut [u32],
-    shows: &mut [u8],
-    header: &mut [u8],
+    buffers: &mut Buffers<'_, '_, '_, '_, '_, '_>,
 ) -> Result<Counts, Fault>
     ensures handed { Handed (copied_outcome picture.now count numbers.old settings) result (record {
-      entry = six list.old cues.old pictures.old ends.old shows.old header.old;
-      exit = six list.new cues.new pictures.new ends.new shows.new header.new;
+      entry = lent_of buffers.old;
+      exit = lent_of buffers.new;
     }) }
+    ensures same { SameBuffers buffers.old buffers.new }
     ensures numbers { numbers.new ≡ numbers.old }
 {
     if count > numbers.len() / WIDTH {
-        if picture.len() > LIMIT {
-            return Err(Fault::overall(Refusal::InputTooLong));
-        }
+        check_limit(picture)?;
         return Err(Fault::overall(Refusal::NoRoom));
     }
-    assemble_multi(
-        picture,
-        &numbers[0..WIDTH * count],
-        settings,
-        list,
-        cues,
-        pictures,
-        ends,
-        shows,
-        header,
-    )
+    assemble_multi(picture, &numbers[0..WIDTH * count], settings, buffers)
 }
 
 // Assembly from segments. The lent numbers are working memory, of which document 01 says nothing: a record a segment,
@@ -74,21 +56,15 @@ pub fn assemble_segments(
     segments: &[Segment],
     numbers: &mut [u64],
     settings: Settings,
-    list: &mut [u32],
-    cues: &mut [u32],
-    pictures: &mut [u8],
-    ends: &mut [u32],
-    shows: &mut [u8],
-    header: &mut [u8],
+    buffers: &mut Buffers<'_, '_, '_, '_, '_, '_>,
 ) -> Result<Counts, Fault>
     ensures handed { Handed (records_outcome picture.now segments.now numbers.old settings) result (record {
-      entry = six list.old cues.old pictures.old ends.old shows.old header.old;
-      exit = six list.new cues.new pictures.new ends.new shows.new header.new;
+      entry = lent_of buffers.old;
+      exit = lent_of buffers.new;
     }) }
+    ensures same { SameBuffers buffers.old buffers.new }
     ensures numbers { numbers.new ≡ numbers_after segments.now numbers.old }
 {
     let count = copy_segments(segments, &mut *numbers);
-    assemble_copied(
-        picture, count, numbers, settings, list, cues, pictures, ends, shows, header,
-    )
+    assemble_copied(picture, count, numbers, settings, buffers)
 }

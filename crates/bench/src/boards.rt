@@ -2,10 +2,10 @@
 // whose front is lent.
 ghost use Rattle.std.specs.Prelude.{◌≡◌, ◌≤◌};
 ghost use Rattle.blocks.specs.Numbers.{segment_count};
-ghost use Rattle.assemble.specs.Whole.{six};
+ghost use Rattle.assemble.specs.Whole.{lent_of, SameBuffers};
 ghost use Rattle.bench.specs.Boards.{boards_in, boards_outcome, Told};
 
-use assemble::multi::code_of;
+use assemble::multi::{Buffers, code_of};
 use assemble::segments::assemble_segments;
 use blocks::numbers::{Segment, WIDTH, is_whole, segment_count, segment_of};
 use pictures::settings::Settings;
@@ -35,17 +35,13 @@ pub fn assemble_numbers(
     picture: &[u8],
     segments: &[u64],
     settings: Settings,
-    list: &mut [u32],
-    cues: &mut [u32],
-    pictures: &mut [u8],
-    ends: &mut [u32],
-    shows: &mut [u8],
-    header: &mut [u8],
+    buffers: &mut Buffers<'_, '_, '_, '_, '_, '_>,
 ) -> u64
-    ensures { Told (boards_outcome picture.now segments.now settings) result (record {
-      entry = six list.old cues.old pictures.old ends.old shows.old header.old;
-      exit = six list.new cues.new pictures.new ends.new shows.new header.new;
+    ensures told { Told (boards_outcome picture.now segments.now settings) result (record {
+      entry = lent_of buffers.old;
+      exit = lent_of buffers.new;
     }) }
+    ensures same { SameBuffers buffers.old buffers.new }
 {
     let count = segment_count(segments);
     if count > BOARDS || !is_whole(segments) {
@@ -53,18 +49,7 @@ pub fn assemble_numbers(
     }
     let boards = boards_of(segments);
     let mut numbers = [0u64; NUMBERS];
-    match assemble_segments(
-        picture,
-        &boards[..count],
-        &mut numbers,
-        settings,
-        list,
-        cues,
-        pictures,
-        ends,
-        shows,
-        header,
-    ) {
+    match assemble_segments(picture, &boards[..count], &mut numbers, settings, buffers) {
         Err(fault) => code_of(fault),
         Ok(_) => 0,
     }

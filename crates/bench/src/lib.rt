@@ -18,6 +18,7 @@ ghost use Rattle.bench.specs.Counts.{units_or_none, bytes_or_none};
 ghost use Rattle.bench.specs.Scans.{scan_sum};
 
 use annexb::annexb::{split_annexb, write_annexb};
+use assemble::multi::Buffers;
 use boards::assemble_numbers;
 use container::stream::write_obu_stream;
 use obu::writer::put_bytes;
@@ -122,9 +123,15 @@ pub extern "C" fn bench_assemble_segments(
         fps,
         den: fps_den,
     };
-    assemble_numbers(
-        picture, segments, settings, list, cues, pictures, ends, shows, header,
-    )
+    let mut buffers = Buffers {
+        list,
+        cues,
+        pictures,
+        ends,
+        shows,
+        header,
+    };
+    assemble_numbers(picture, segments, settings, &mut buffers)
 }
 
 // The ends of all frame headers, in bits, each frame scanned from the slots that those before it left: summed modulo 2^64,

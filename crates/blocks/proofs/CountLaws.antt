@@ -1,5 +1,5 @@
 -- Laws of cues counted: as many as key units, wherever they stand.
-use Prim.Native.Nat.{ℕ, suc, ◌+◌, ◌*◌, ◌-◌, ◌%◌, ◌≤◌, ◌<◌}
+use Prim.Native.Nat.{ℕ, suc, ◌+◌, ◌*◌, ◌%◌, ◌≤◌, ◌<◌}
 use native.Mathlib.Omega.{arith}
 use native.Mathlib.Numerals.{add-one}
 use mathlib.Core.Path.{◌≡◌, refl, ap, ◌∙◌}
@@ -7,14 +7,15 @@ use mathlib.Core.List.{List, [], ◌∷◌, ◌++◌, map}
 use mathlib.Core.Bool.{Bool, true, false, cond as pick}
 use lib.ListN.{length, length-append, length-map}
 use lib.Dec.{eqb}
-use Rattle.blocks.specs.Blocks.{Kind, code, block, next_block, standing, blocks, kinds, positions, is_key_entry, number, layout, list_of, total}
-use Rattle.blocks.specs.declared.blocks.Block.{Block}
-use Rattle.blocks.specs.declared.blocks.Standing.{Standing}
+use Rattle.blocks.specs.Blocks.{Kind, code, block, kinds, positions, is_key_entry, number, layout, list_of, total}
+use Rattle.blocks.specs.declared.block.Block.{Block}
+use Rattle.blocks.specs.declared.block.Blocks.{Blocks}
+use Rattle.blocks.specs.code.Steps.{units_left, IsNext}
 use Rattle.blocks.specs.Numbers.{head_frames, segment_count, records_behind, frames_at, frames_in}
 use Rattle.blocks.specs.code.Lay.{entries_of, cues_from, block_cue}
 use Rattle.blocks.proofs.NumberLaws.{behind-start, behind-end, behind_more}
 use Rattle.blocks.proofs.BlockLaws.{length-layout}
-use Rattle.blocks.proofs.LayLaws.{cues-append, next-cue, blocks-none, next-some, next-left, blocks_more, entries-append}
+use Rattle.blocks.proofs.LayLaws.{cues-append, next-cue, units_none, next-some, next-left, units_more, entries-append}
 use Rattle.blocks.proofs.ListLaws.{entries_from, list-more, list-none}
 
 -- ---- positions counted
@@ -72,10 +73,7 @@ count_none : cue_count [] ≡ 0
 unfolding positions
 count_none = refl
 
--- ---- one more
-
-pub one_more : (key : Bool) (n : ℕ) → key ≡ true → n + 1 ≡ n + length (block_cue key 0)
-one_more key n e = rw e
+-- ---- a cue
 
 cue-most : (key : Bool) → length (block_cue key 0) ≤ 1
 cue-most true = omega arith
@@ -83,40 +81,25 @@ cue-most false = omega arith
 
 -- ---- a segment's cues
 
--- n are counted, and the segment stands at t
-pub record CountingSegment (gop frames n : ℕ) (t : Standing) : Type 0 where
-  pub fuel : ℕ
-  pub enough : t.left ≤ fuel
-  pub sum : n + cue_count (entries_of 0 (blocks fuel gop t.after t.left)) ≡ cue_count (entries_of 0 (kinds gop frames))
-  pub small : n + t.left ≤ frames
+-- n are counted of a segment's blocks s₀, at s
+pub record CountingSegment (s₀ : Blocks) (n : ℕ) (s : Blocks) : Type 0 where
+  pub sum : n + cue_count (entries_of 0 (units_left s)) ≡ cue_count (entries_of 0 (units_left s₀))
+  pub small : n + s.left ≤ s₀.left
 
-pub counting-start : (gop frames : ℕ) → CountingSegment gop frames 0 (standing false frames)
-counting-start gop frames = record { fuel = frames; enough = omega arith; sum = omega arith; small = omega arith }
+module _ {s₀ : Blocks} {n : ℕ} {s : Blocks} (w : CountingSegment s₀ n s) where
+  pub counting-end : s.left ≡ 0 → n ≡ cue_count (entries_of 0 (units_left s₀))
+  counting-end z =
+      let e : cue_count (entries_of 0 (units_left s)) ≡ 0 = ap (λ (l : List Kind). cue_count (entries_of 0 l)) (units_none s z) ∙ count_none in
+      omega (arith, w.sum, e)
 
-module _ {gop frames n : ℕ} {t : Standing} (s : CountingSegment gop frames n t) where
-  pub counting-end : t.left ≤ 0 → n ≡ cue_count (entries_of 0 (kinds gop frames))
-  counting-end h =
-      let z : t.left ≡ 0 = omega arith in
-      let e : cue_count (entries_of 0 (blocks s.fuel gop t.after t.left)) ≡ 0 =
-      ap (λ (m : ℕ). cue_count (entries_of 0 (blocks s.fuel gop t.after m))) z ∙ ap (λ (l : List Kind). cue_count (entries_of 0 l)) (blocks-none s.fuel gop t.after) ∙ count_none in
-      omega (arith, s.sum, e)
-
-  pub counting-turn : {b : Block} (n' : ℕ) → b ≡ next_block gop t → 1 ≤ t.left → 1 ≤ gop → n' ≡ n + length (block_cue b.key 0) → CountingSegment gop frames n' b.behind
-  counting-turn {b} n' is h g w =
-      let later = blocks (s.fuel - 1) gop b.behind.after b.behind.left in
-      let m = next-some gop t is h g in
-      let a = ap (λ (l : List Kind). cue_count (entries_of 0 l)) (blocks_more gop t is s.fuel h s.enough) in
-      let e = ap cue_count (entries-append 0 (block b.key b.size) later) in
-      let k = count-append (entries_of 0 (block b.key b.size)) (entries_of 0 later) in
-      let q = ap length (next-cue gop t 0 0 is m) in
+  pub counting-turn : {b : Block} {t : Blocks} (n' : ℕ) → IsNext s b t → n' ≡ n + length (block_cue b.key 0) → CountingSegment s₀ n' t
+  counting-turn {b} {t} n' h e =
+      let a = ap (λ (l : List Kind). cue_count (entries_of 0 l)) (units_more h) in
+      let m = ap cue_count (entries-append 0 (block b.key b.size) (units_left t)) in
+      let k = count-append (entries_of 0 (block b.key b.size)) (entries_of 0 (units_left t)) in
+      let q = ap length (next-cue 0 0 h) in
       let u = cue-most b.key in
-      let f = next-left gop t is in
-      record {
-        fuel = s.fuel - 1;
-        enough = omega (arith, s.enough);
-        sum = omega (arith, s.sum, a, e, k, q);
-        small = omega (arith, s.small);
-      }
+      record { sum = omega (arith, w.sum, e, a, m, k, q); small = omega (arith, w.small, e, u, next-left h, next-some h) }
 
 -- ---- all segments' cues
 

@@ -5,30 +5,19 @@ use native.Mathlib.Numerals.{add-one}
 use mathlib.Core.Path.{◌≡◌, refl, sym, ap, ap₂, subst, ◌∙◌}
 use mathlib.Core.List.{List, [], ◌∷◌, ◌++◌}
 use mathlib.Core.Bool.{Bool, true, false, not, cond as pick, ◌||◌}
-use lib.ListN.{length, set, replicate, length-append, length-map, length-replicate}
+use lib.ListN.{length, set, replicate, length-append, length-map}
 use lib.Dec.{leb}
 use borrow.Author.Tests.{le-leb}
 use Rattle.bitio.specs.Lent.{pasted}
 use Rattle.bitio.proofs.LentLaws.{pasted-nil, pasted-one, pasted-more, pasted_length, pasted-set}
 use Rattle.blocks.proofs.BlockLaws.{length-block}
-use Rattle.blocks.specs.Blocks.{Kind, Key, Show, code, block, next_block, standing, blocks, kinds, positions, is_key_entry}
-use Rattle.blocks.specs.declared.blocks.Block.{Block}
-use Rattle.blocks.specs.declared.blocks.Standing.{Standing}
+use Rattle.blocks.specs.Blocks.{Kind, Key, Show, code, block, blocks, positions, is_key_entry}
+use Rattle.blocks.specs.declared.block.Block.{Block}
+use Rattle.blocks.specs.declared.block.Blocks.{Blocks}
+use Rattle.blocks.specs.code.Steps.{units_left, IsNext}
 use Rattle.blocks.specs.code.Lay.{entries_of, cues_from, block_cue, CanLay, Laid}
 
 -- ---- stores
-
--- one more of the same behind n of them
-pub replicate_more : (n v : ℕ) → replicate n v ++ (v ∷ []) ≡ replicate (suc n) v
-replicate_more zero v = refl
-replicate_more (suc n) v = ap (λ (l : List ℕ). v ∷ l) (replicate_more n v)
-
-module _ (d : List ℕ) (at v i : ℕ) where
-  pub fill_more : at + i < length d → set (pasted d at (replicate i v)) (at + i) v ≡ pasted d at (replicate (i + 1) v)
-  fill_more h =
-      let n : at + length (replicate i v) ≡ at + i = ap (λ (k : ℕ). at + k) (length-replicate i v) in
-      ap (λ (k : ℕ). set (pasted d at (replicate i v)) k v) (sym n) ∙ pasted-set d at (replicate i v) v (omega (arith, n))
-      ∙ ap (pasted d at) (replicate_more i v ∙ ap (λ (k : ℕ). replicate k v) (sym (add-one i)))
 
 -- two stores and what is put behind them
 pub two-and-more : (d : List ℕ) (w x y : ℕ) (zs : List ℕ) → w + 2 + length zs ≤ length d
@@ -168,24 +157,37 @@ blocks-none (suc k) gop after =
     let n : min 0 gop ≡ 0 = omega arith in
     rw n (blocks-none k gop (after || leb 2 0))
 
-module _ (gop : ℕ) (s : Standing) {b : Block} (is : b ≡ next_block gop s) where
+-- as many blocks as there are frames left are enough
+blocks_enough : (k m gop : ℕ) (after : Bool) (left : ℕ) → 1 ≤ gop → left ≤ k → left ≤ m → blocks k gop after left ≡ blocks m gop after left
+unfolding blocks
+blocks_enough zero m gop after left g h w = let z : left ≡ 0 = omega arith in rw z (sym (blocks-none m gop after))
+blocks_enough (suc k) zero gop after left g h w = let z : left ≡ 0 = omega arith in rw z (blocks-none (suc k) gop after)
+blocks_enough (suc k) (suc m) gop after left g h w =
+    let n = min left gop in
+    ap (λ (l : List Kind). block (not after || leb 2 n) n ++ l) (blocks_enough k m gop (after || leb 2 n) (left - n) g (omega arith) (omega arith))
+
+blocks_more : (gop left : ℕ) (after : Bool) → 1 ≤ gop → 1 ≤ left
+    → blocks left gop after left
+    ≡ block (not after || leb 2 (min left gop)) (min left gop) ++ blocks (left - min left gop) gop (after || leb 2 (min left gop)) (left - min left gop)
+unfolding blocks
+blocks_more gop zero after g h = absurd (omega arith)
+blocks_more gop (suc k) after g h =
+    let n = min (suc k) gop in
+    ap (λ (l : List Kind). block (not after || leb 2 n) n ++ l) (blocks_enough k (suc k - n) gop (after || leb 2 n) (suc k - n) g (omega arith) (omega arith))
+
+pub units_none : (s : Blocks) → s.left ≡ 0 → units_left s ≡ []
+units_none s z = rw z (blocks-none 0 s.gop s.after)
+
+module _ {s : Blocks} {b : Block} {t : Blocks} (n : IsNext s b t) where
   -- a block has some units, and leaves the others
-  pub next-some : 1 ≤ s.left → 1 ≤ gop → 1 ≤ b.size
-  next-some h g = omega (arith, ap (λ (x : Block). x.size) is)
+  pub next-some : 1 ≤ b.size
+  next-some = omega (arith, ap (λ (x : Block). x.size) n.is, n.some, s.some)
 
-  pub next-left : b.size + b.behind.left ≡ s.left
-  next-left = omega (arith, ap (λ (x : Block). x.size) is, ap (λ (x : Block). x.behind.left) is)
+  pub next-left : b.size + t.left ≡ s.left
+  next-left = omega (arith, ap (λ (x : Block). x.size) n.is, n.left)
 
-  pub blocks_more : (k : ℕ) → 1 ≤ s.left → s.left ≤ k → blocks k gop s.after s.left ≡ block b.key b.size ++ blocks (k - 1) gop b.behind.after b.behind.left
-  unfolding blocks
-  blocks_more zero h w = absurd (omega arith)
-  blocks_more (suc k) h w = let z : suc k - 1 ≡ k = omega arith in rw (z, is)
-
--- what is left of a segment that stands at s, with k blocks at most
-pub record Segmenting (d₀ e₀ : List ℕ) (p₀ c₀ i gop frames : ℕ) (d e : List ℕ) (p c : ℕ) (s : Standing) : Type 0 where
-  pub fuel : ℕ
-  pub enough : s.left ≤ fuel
-  pub laying : Laying d₀ e₀ p₀ c₀ (entries_of i (kinds gop frames)) d e p c (entries_of i (blocks fuel gop s.after s.left))
+  pub units_more : units_left s ≡ block b.key b.size ++ units_left t
+  units_more = rw (n.gop, n.left, n.after, n.is) (blocks_more s.gop s.left s.after s.some n.some)
 
 -- ---- a block's cue is the position of its key
 
@@ -226,11 +228,11 @@ block-cue p i (suc zero) false h = cue-yes p (i * 4 + 0) [] (key-yes i) ∙ ap (
 block-cue p i (suc (suc n)) true h = rw (le-leb 2 (suc (suc n)) (omega arith)) (cues-more p i n true)
 block-cue p i (suc (suc n)) false h = cues-more p i n false
 
-pub next-cue : (gop : ℕ) (s : Standing) {b : Block} (p i : ℕ) → b ≡ next_block gop s → 1 ≤ b.size → cues_from p (entries_of i (block b.key b.size)) ≡ block_cue b.key p
-next-cue gop s {b} p i is h =
+pub next-cue : {s : Blocks} {b : Block} {t : Blocks} (p i : ℕ) → IsNext s b t → cues_from p (entries_of i (block b.key b.size)) ≡ block_cue b.key p
+next-cue {s} {b} p i n =
     let k : b.key ≡ (not s.after || leb 2 b.size) =
-    ap (λ (x : Block). x.key) is ∙ sym (ap (λ (x : Block). not s.after || leb 2 x.size) is) in
-    ap (λ (t : Bool). cues_from p (entries_of i (block t b.size))) k ∙ block-cue p i b.size s.after h ∙ sym (ap (λ (t : Bool). block_cue t p) k)
+    ap (λ (x : Block). x.key) n.is ∙ sym (ap (λ (x : Block). not s.after || leb 2 x.size) n.is) in
+    ap (λ (t : Bool). cues_from p (entries_of i (block t b.size))) k ∙ block-cue p i b.size s.after (next-some n) ∙ sym (ap (λ (t : Bool). block_cue t p) k)
 
 -- ---- a turn: one block of the segment
 
@@ -238,29 +240,26 @@ pub entries-append : (i : ℕ) (ks ms : List Kind) → entries_of i (ks ++ ms) �
 entries-append i [] ms = refl
 entries-append i (k ∷ ks) ms = ap (λ (l : List ℕ). (i * 4 + code k) ∷ l) (entries-append i ks ms)
 
-pub segment-start : (d e : List ℕ) (p c i gop frames : ℕ) → CanLay d e p c (entries_of i (kinds gop frames)) → Segmenting d e p c i gop frames d e p c (standing false frames)
-segment-start d e p c i gop frames h =
-    record { fuel = frames; enough = omega arith; laying = laying-start d e p c (entries_of i (kinds gop frames)) h }
+-- what is left of a segment's blocks s₀, at s
+pub record Segmenting (d₀ e₀ : List ℕ) (p₀ c₀ i : ℕ) (s₀ : Blocks) (d e : List ℕ) (p c : ℕ) (s : Blocks) : Type 0 where
+  pub laying : Laying d₀ e₀ p₀ c₀ (entries_of i (units_left s₀)) d e p c (entries_of i (units_left s))
 
-module _ {d₀ e₀ : List ℕ} {p₀ c₀ i gop frames : ℕ} {d e : List ℕ} {p c : ℕ} {t : Standing} (s : Segmenting d₀ e₀ p₀ c₀ i gop frames d e p c t) where
-  pub segment-end : t.left ≤ 0 → Laid d₀ e₀ d e p₀ c₀ c (entries_of i (kinds gop frames))
-  segment-end h =
-      let z : t.left ≡ 0 = omega arith in
-      laying-end (entries_of i (blocks s.fuel gop t.after t.left)) s.laying
-      (ap (λ (k : ℕ). entries_of i (blocks s.fuel gop t.after k)) z ∙ ap (entries_of i) (blocks-none s.fuel gop t.after))
+module _ {d₀ e₀ : List ℕ} {p₀ c₀ i : ℕ} {s₀ : Blocks} {d e : List ℕ} {p c : ℕ} {s : Blocks} (w : Segmenting d₀ e₀ p₀ c₀ i s₀ d e p c s) where
+  pub segment-end : s.left ≡ 0 → Laid d₀ e₀ d e p₀ c₀ c (entries_of i (units_left s₀))
+  segment-end z = laying-end (entries_of i (units_left s)) w.laying (ap (entries_of i) (units_none s z))
 
-  module _ {b : Block} (some : 1 ≤ t.left) (is : b ≡ next_block gop t) where
+  module _ {b : Block} {t : Blocks} (n : IsNext s b t) where
     abbrev block_entries : List ℕ
     block_entries = entries_of i (block b.key b.size)
 
     abbrev later_entries : List ℕ
-    later_entries = entries_of i (blocks (s.fuel - 1) gop b.behind.after b.behind.left)
+    later_entries = entries_of i (units_left t)
 
-    block-split : entries_of i (blocks s.fuel gop t.after t.left) ≡ block_entries ++ later_entries
-    block-split = ap (entries_of i) (blocks_more gop t is s.fuel some s.enough) ∙ entries-append i (block b.key b.size) _
+    block-split : entries_of i (units_left s) ≡ block_entries ++ later_entries
+    block-split = ap (entries_of i) (units_more n) ∙ entries-append i (block b.key b.size) (units_left t)
 
-    block_here : Laying d₀ e₀ p₀ c₀ (entries_of i (kinds gop frames)) d e p c (block_entries ++ later_entries)
-    block_here = rw (← block-split) s.laying
+    block_here : Laying d₀ e₀ p₀ c₀ (entries_of i (units_left s₀)) d e p c (block_entries ++ later_entries)
+    block_here = rw (← block-split) w.laying
 
     block_room : CanLay d e p c block_entries
     block_room = can-front block_entries later_entries (laying-can (block_entries ++ later_entries) block_here)
@@ -271,16 +270,14 @@ module _ {d₀ e₀ : List ℕ} {p₀ c₀ i gop frames : ℕ} {d e : List ℕ} 
     pub segment-small : p + b.size < 4294967296
     segment-small = omega (arith, block_room.small, length-block-entries i b.size b.key)
 
-    pub segment-cue-room : 1 ≤ b.size → c + length (block_cue b.key p) ≤ length e
-    segment-cue-room h = omega (arith, block_room.cues, ap length (next-cue gop t p i is h))
+    pub segment-cue-room : c + length (block_cue b.key p) ≤ length e
+    segment-cue-room = omega (arith, block_room.cues, ap length (next-cue p i n))
 
-    pub segment-turn : (d' e' : List ℕ) (c' : ℕ) → 1 ≤ b.size → d' ≡ pasted d p block_entries → e' ≡ pasted e c (block_cue b.key p) → c' ≡ c + length (block_cue b.key p)
-        → Segmenting d₀ e₀ p₀ c₀ i gop frames d' e' (p + b.size) c' b.behind
-    segment-turn d' e' c' h x y k =
-        let q = next-cue gop t p i is h in
-        let w : Laid d e d' e' p c c' block_entries = record { list = x; cues = y ∙ ap (pasted e c) (sym q); next = omega (arith, k, ap length q) } in
+    pub segment-turn : (d' e' : List ℕ) (c' : ℕ) → d' ≡ pasted d p block_entries → e' ≡ pasted e c (block_cue b.key p) → c' ≡ c + length (block_cue b.key p)
+        → Segmenting d₀ e₀ p₀ c₀ i s₀ d' e' (p + b.size) c' t
+    segment-turn d' e' c' x y k =
+        let q = next-cue p i n in
+        let v : Laid d e d' e' p c c' block_entries = record { list = x; cues = y ∙ ap (pasted e c) (sym q); next = omega (arith, k, ap length q) } in
         record {
-          fuel = s.fuel - 1;
-          enough = omega (arith, s.enough, next-left gop t is);
-          laying = subst (λ (m : ℕ). Laying d₀ e₀ p₀ c₀ (entries_of i (kinds gop frames)) d' e' (p + m) c' later_entries) (length-block-entries i b.size b.key) (laying-more block_entries later_entries d' e' c' block_here w);
+          laying = subst (λ (m : ℕ). Laying d₀ e₀ p₀ c₀ (entries_of i (units_left s₀)) d' e' (p + m) c' later_entries) (length-block-entries i b.size b.key) (laying-more block_entries later_entries d' e' c' block_here v);
         }

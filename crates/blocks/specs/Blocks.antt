@@ -1,9 +1,8 @@
 -- The blocks of a segment, the unit list and the cue list (01, 'Unit list and cue list').
 use Rattle.std.specs.Prelude.{ℕ, zero, suc, ◌+◌, ◌*◌, ◌-◌, ◌%◌, min, List, [], ◌∷◌, ◌++◌, map, Bool, false, not, cond as pick, ◌||◌, replicate, leb, eqb}
-use Rattle.blocks.specs.declared.blocks.Block.{Block}
+use Rattle.blocks.specs.declared.block.Block.{Block}
 pub use Rattle.blocks.specs.declared.blocks.Kind.{Kind}
 pub use Rattle.blocks.specs.declared.blocks.Kind.TheVariants.{Key, Golden, Show}
-use Rattle.blocks.specs.declared.blocks.Standing.{Standing}
 
 -- ---- the blocks of one segment
 
@@ -13,24 +12,17 @@ block key zero = []
 block key (suc zero) = pick key Key Show ∷ []
 block key (suc (suc n)) = Key ∷ Golden ∷ replicate n Show
 
--- 01: the next block of a segment has min(frames left, gop_size) units, and starts with a key unless it is one unit after a golden
-abbrev pub next_block : ℕ → Standing → Block
-next_block gop s =
-    record {
-      size = min s.left gop;
-      key = not s.after || leb 2 (min s.left gop);
-      behind = record { left = s.left - min s.left gop; after = s.after || leb 2 (min s.left gop) };
-    }
+-- 01: the next block of a segment has min(frames left, gop_size) units, and starts with a key unless it is one unit after a golden;
+-- after: the segment has had a golden
+abbrev pub next_block : (gop left : ℕ) → Bool → Block
+next_block gop left after = record { size = min left gop; key = not after || leb 2 (min left gop) }
 
-abbrev pub standing : Bool → ℕ → Standing
-standing after left = record { left = left; after = after }
-
--- one block behind the other, k at most; after: the segment has had a golden
+-- one block behind the other, k at most
 unfoldable pub blocks : ℕ → ℕ → Bool → ℕ → List Kind
 blocks zero gop after left = []
 blocks (suc k) gop after left =
-    block (next_block gop (standing after left)).key (next_block gop (standing after left)).size
-    ++ blocks k gop (next_block gop (standing after left)).behind.after (next_block gop (standing after left)).behind.left
+    let b = next_block gop left after in
+    block b.key b.size ++ blocks k gop (after || leb 2 b.size) (left - b.size)
 
 -- the units of a segment of n frames
 abbrev pub kinds : ℕ → ℕ → List Kind

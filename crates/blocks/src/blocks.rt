@@ -2,10 +2,12 @@
 // a key, 1 for a golden, 2 for a show unit; cues count units from 1.
 ghost use Rattle.std.specs.Prelude.{◌≡◌, ◌+◌, ◌≤◌, ◌<◌, length};
 ghost use Rattle.bitio.specs.Lent.{pasted};
-ghost use Rattle.blocks.specs.Blocks.{block, next_block, kinds, list_of, cues_of, total};
+ghost use Rattle.blocks.specs.Blocks.{block, list_of, cues_of, total};
 ghost use Rattle.blocks.specs.Numbers.{frames_in};
+ghost use Rattle.blocks.specs.code.Steps.{units_left};
 ghost use Rattle.blocks.specs.code.Lay.{entries_of, cues_from, block_cue, CanLay, Laid, CanLayAll};
 
+use crate::block::{Block, Blocks};
 use crate::numbers::{frames_of, segment_count};
 
 // The kinds of a list's units, by document 01's numbers.
@@ -16,52 +18,22 @@ pub enum Kind {
     Show = 2,
 }
 
-// Where a segment stands: its frames left, and whether it has had a golden.
-#[derive(Clone, Copy)]
-struct Standing {
-    left: usize,
-    after: bool,
-}
-
-// A block: how many units it has, whether its first is a key, and where the segment stands behind it.
-#[derive(Clone, Copy)]
-struct Block {
-    size: usize,
-    key: bool,
-    behind: Standing,
-}
-
-// The next block of a segment.
-fn next_block(gop: usize, s: Standing) -> Block
-    ensures { result ≡ next_block gop s }
-{
-    let n = s.left.min(gop);
-    Block {
-        size: n,
-        key: !s.after || n >= 2,
-        behind: Standing {
-            left: s.left - n,
-            after: s.after || n >= 2,
-        },
-    }
-}
-
-// Writes the entries of a block of n units.
-fn put_block(list: &mut [u32], at: usize, segment: u32, key: bool, n: usize)
-    requires room { at + n ≤ length list.old }
-    requires units { 1 ≤ n }
+// Writes the entries of a block.
+fn put_block(list: &mut [u32], at: usize, segment: u32, b: Block)
+    requires room { at + b.size ≤ length list.old }
+    requires units { 1 ≤ b.size }
     requires small { segment < 1073741823 }
-    ensures { list.new ≡ pasted list.old at (entries_of segment (block key n)) }
+    ensures { list.new ≡ pasted list.old at (entries_of segment (block b.key b.size)) }
 {
     let first = segment * 4;
-    if n < 2 {
-        let kind = if key { Kind::Key } else { Kind::Show };
+    if b.size < 2 {
+        let kind = if b.key { Kind::Key } else { Kind::Show };
         list[at] = first + kind as u32;
         return;
     }
     list[at] = first + Kind::Key as u32;
     list[at + 1] = first + Kind::Golden as u32;
-    list[at + 2..at + n].fill(first + Kind::Show as u32);
+    list[at + 2..at + b.size].fill(first + Kind::Show as u32);
 }
 
 // Writes the cue of a block behind `at` units, if it starts with a key, and returns the place of the next cue.
@@ -85,26 +57,18 @@ fn put_segment(
     at: usize,
     c: usize,
     segment: u32,
-    gop: usize,
-    frames: usize,
+    blocks: Blocks,
 ) -> usize
-    requires room { CanLay list.old cues.old at c (entries_of segment (kinds gop frames)) }
-    requires blocks { 1 ≤ gop }
+    requires room { CanLay list.old cues.old at c (entries_of segment (units_left blocks)) }
     requires small { segment < 1073741823 }
-    ensures { Laid list.old cues.old list.new cues.new at c result (entries_of segment (kinds gop frames)) }
+    ensures { Laid list.old cues.old list.new cues.new at c result (entries_of segment (units_left blocks)) }
 {
-    let mut s = Standing {
-        left: frames,
-        after: false,
-    };
     let mut p = at;
     let mut q = c;
-    while s.left > 0 {
-        let b = next_block(gop, s);
-        put_block(list, p, segment, b.key, b.size);
+    for b in blocks {
+        put_block(list, p, segment, b);
         q = put_cue(cues, q, p, b.key);
         p += b.size;
-        s = b.behind;
     }
     q
 }
@@ -118,26 +82,20 @@ pub fn put_list(list: &mut [u32], cues: &mut [u32], gop: u64, segments: &[u64]) 
     let mut c: usize = 0;
     for i in 0..segment_count(segments) {
         let frames = frames_of(segments, i) as usize;
-        c = put_segment(list, cues, at, c, i as u32, gop as usize, frames);
+        let blocks = Blocks::new(gop as usize, frames);
+        c = put_segment(list, cues, at, c, i as u32, blocks);
         at += frames;
     }
     c
 }
 
 // How many cues a segment has, with nothing laid out.
-fn count_segment(gop: usize, frames: usize) -> usize
-    requires { 1 ≤ gop }
-    ensures { result ≡ length (cues_from 0 (entries_of 0 (kinds gop frames))) }
+fn count_segment(blocks: Blocks) -> usize
+    ensures { result ≡ length (cues_from 0 (entries_of 0 (units_left blocks))) }
 {
-    let mut s = Standing {
-        left: frames,
-        after: false,
-    };
     let mut count: usize = 0;
-    while s.left > 0 {
-        let b = next_block(gop, s);
+    for b in blocks {
         count += usize::from(b.key);
-        s = b.behind;
     }
     count
 }
@@ -151,7 +109,7 @@ pub fn count_cues(gop: u64, segments: &[u64]) -> usize
     let mut n: usize = 0;
     for i in 0..segment_count(segments) {
         let frames = frames_of(segments, i) as usize;
-        n += count_segment(gop as usize, frames);
+        n += count_segment(Blocks::new(gop as usize, frames));
     }
     n
 }

@@ -1,5 +1,6 @@
 // The list of units and its cues.
 #![tactic(auto)]
 
+mod block;
 pub mod blocks;
 pub mod numbers;

@@ -1,6 +1,7 @@
 // The flat numbers of the segments: read and written here alone. Code above goes by names, not by places.
 ghost use Rattle.std.specs.Prelude.{◌≡◌, ◌*◌, ◌<◌};
 ghost use Rattle.bitio.specs.Lent.{pasted};
+ghost use Rattle.obu.specs.Place.{part};
 ghost use Rattle.blocks.specs.Numbers.{width, record_of, head_segment, inside, head_inside, segment_count, is_whole, record_at, key_at, golden_at, frames_at};
 
 use obu::reader::payload;
@@ -60,6 +61,13 @@ fn is_inside(picture: &[u8], a: u64, e: u64) -> bool
     a <= e && e <= picture.len() as u64
 }
 
+// The picture bytes from a to e; none where those are not within them.
+fn bytes_between(picture: &[u8], a: u64, e: u64) -> &[u8]
+    ensures { result.now ≡ part picture.now a e }
+{
+    payload(picture, a as usize, e as usize)
+}
+
 // Segments in lent memory: the bytes that their units stand in, and their flat numbers.
 #[derive(Clone, Copy)]
 pub struct Segments<'a> {
@@ -73,11 +81,7 @@ impl<'a> Segments<'a> {
         ensures { result.now ≡ key_at self.entry.picture.now self.entry.numbers.now i }
     {
         let segment = segment_of(self.numbers, i);
-        payload(
-            self.picture,
-            segment.key_start as usize,
-            segment.key_end as usize,
-        )
+        bytes_between(self.picture, segment.key_start, segment.key_end)
     }
 
     pub fn golden(self, i: usize) -> &'a [u8]
@@ -85,11 +89,7 @@ impl<'a> Segments<'a> {
         ensures { result.now ≡ golden_at self.entry.picture.now self.entry.numbers.now i }
     {
         let segment = segment_of(self.numbers, i);
-        payload(
-            self.picture,
-            segment.golden_start as usize,
-            segment.golden_end as usize,
-        )
+        bytes_between(self.picture, segment.golden_start, segment.golden_end)
     }
 
     // Whether both units of segment i lie within the picture bytes.

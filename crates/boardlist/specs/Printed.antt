@@ -1,5 +1,5 @@
 -- What boardlist prints for any bytes (01, 'Unit list and cue list').
-use Rattle.std.specs.Prelude.{ℕ, ◌≤◌, ◌≡◌, List, length, take, Result}
+use Rattle.std.specs.Prelude.{ℕ, ◌≡◌, List, length, take, Result}
 use denote.Triple.Both.{Both}
 use Rattle.bitio.specs.Lent.{span, placed, lent}
 use Rattle.bitio.specs.Refusal.{says}
@@ -43,12 +43,6 @@ lent_of m = six m.list m.cues m.pictures m.ends m.shows m.header
 -- the listing of what counts tell of lent memory
 abbrev pub made_text : Counts → Lent → List ℕ
 made_text c d = listing (take c.units d.list) c.cues (take c.picture d.pictures) (take c.ends d.ends) (take c.shows d.shows)
-
-pub record CountsFit (c : Counts) (d : Lent) : Type 0 where
-  pub units : c.units ≤ length d.list
-  pub picture : c.picture ≤ length d.pictures
-  pub ends_there : c.ends ≤ length d.ends
-  pub shows_there : c.shows ≤ length d.shows
 
 -- ---- what the functions say
 

@@ -3,13 +3,14 @@ ghost use Rattle.bitio.specs.Lent.{span};
 ghost use Rattle.blocks.specs.Numbers.{first_records};
 ghost use Rattle.assemble.specs.Whole.{outcome};
 ghost use Rattle.listing.specs.File.{LayoutFits, settings_of};
-ghost use Rattle.boardlist.specs.Printed.{lent_of, made_text, CountsFit, Texted, Prints, Answers};
+ghost use Rattle.boardlist.specs.Printed.{lent_of, made_text, Texted, Prints, Answers};
 
-use assemble::multi::{Counts, assemble_multi};
+use assemble::multi::{Buffers, Counts, assemble_multi};
+use assemble::unit::UnitList;
 use bitio::refusal::Refusal;
 use blocks::numbers::WIDTH;
 use listing::file::{Layout, read_file};
-use listing::text::{Units, put_listing, put_refused, put_unread};
+use listing::text::{put_listing, put_refused, put_unread};
 
 // Room for so many units, and for as many segments: each has two ends and a show unit of five bytes.
 const COUNT: usize = 4096;
@@ -44,15 +45,10 @@ impl Memory {
 
     // The listing of what was made.
     fn put_made(&self, counts: Counts, out: &mut [u8]) -> Result<usize, Refusal>
-        requires { CountsFit counts (lent_of self.now) }
         ensures { Texted (made_text counts (lent_of self.now)) result (record { entry = out.old; exit = out.new }) }
     {
-        let units = Units {
-            pictures: &self.pictures[..counts.picture],
-            ends: &self.ends[..counts.ends],
-            shows: &self.shows[..counts.shows],
-        };
-        put_listing(out, &self.list[..counts.units], counts.cues, units)
+        let units = UnitList::made(counts, &self.list, &self.pictures, &self.ends, &self.shows);
+        put_listing(out, counts.cues, units)
     }
 
     // The text of a file's segments, whose numbers stand here, assembled or refused.
@@ -65,20 +61,23 @@ impl Memory {
         requires { LayoutFits layout file.now self.old.numbers }
         ensures { Prints (outcome (span file.now layout.start layout.end) (first_records layout.segments self.old.numbers) (settings_of layout)) result (record { entry = out.old; exit = out.new }) (record { entry = self.old; exit = self.new }) }
     {
+        let mut buffers = Buffers {
+            list: &mut self.list,
+            cues: &mut self.cues,
+            pictures: &mut self.pictures,
+            ends: &mut self.ends,
+            shows: &mut self.shows,
+            header: &mut self.header,
+        };
         let made = assemble_multi(
             layout.picture(file),
             layout.numbers(&self.numbers),
             layout.settings(),
-            &mut self.list,
-            &mut self.cues,
-            &mut self.pictures,
-            &mut self.ends,
-            &mut self.shows,
-            &mut self.header,
+            &mut buffers,
         );
         match made {
             Ok(counts) => self.put_made(counts, out),
-            Err(fault) => put_refused(out, u32::from(fault.refusal), fault.segment),
+            Err(fault) => put_refused(out, fault),
         }
     }
 

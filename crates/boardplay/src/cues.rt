@@ -1,8 +1,10 @@
 // A list played from each of its cues, in the stream and in Annex B.
 use crate::text::Page;
+use assemble::multi::Buffers;
 use pictures::fault::Fault;
 use pictures::settings::Settings;
-use playback::way::Form;
+use playback::play::Shown;
+use playback::way::{Form, WayBuffers};
 
 // What is made a list of and played.
 #[derive(Drop)]
@@ -26,7 +28,7 @@ struct Memory {
     out: [u8; 262144],
     back: [u8; 262144],
     back_ends: [u32; 4096],
-    shown: [u64; 4096],
+    shown: [Shown; 4096],
 }
 
 impl Memory {
@@ -43,7 +45,7 @@ impl Memory {
             out: [0; 262144],
             back: [0; 262144],
             back_ends: [0; 4096],
-            shown: [0; 4096],
+            shown: [Ok(None); 4096],
         }
     }
 
@@ -59,24 +61,30 @@ impl Memory {
 
     // The whole way from a cue.
     fn walk(&mut self, form: Form, boards: &Boards, cue: u32) -> Result<usize, Fault> {
+        let mut buffers = Buffers {
+            list: &mut self.list,
+            cues: &mut self.cues,
+            pictures: &mut self.pictures,
+            ends: &mut self.ends,
+            shows: &mut self.shows,
+            header: &mut self.header,
+        };
+        let mut way = WayBuffers {
+            units: &mut self.units,
+            unit_ends: &mut self.unit_ends,
+            out: &mut self.out,
+            back: &mut self.back,
+            back_ends: &mut self.back_ends,
+            shown: &mut self.shown,
+        };
         playback::walk::walk(
             form,
             boards.picture,
             boards.segments,
             boards.settings,
             cue as usize,
-            &mut self.list,
-            &mut self.cues,
-            &mut self.pictures,
-            &mut self.ends,
-            &mut self.shows,
-            &mut self.header,
-            &mut self.units,
-            &mut self.unit_ends,
-            &mut self.out,
-            &mut self.back,
-            &mut self.back_ends,
-            &mut self.shown,
+            &mut buffers,
+            &mut way,
         )
     }
 }

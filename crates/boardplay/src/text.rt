@@ -8,6 +8,7 @@ use listing::file::Unread;
 use listing::text::{put_refused, put_unread};
 use obu::writer::put_bytes;
 use pictures::fault::Fault;
+use playback::play::Shown;
 use playback::way::Form;
 
 const ROOM: usize = 65536;
@@ -50,39 +51,38 @@ impl Page {
 
     fn put_cue(&mut self, cue: u32, form: Form) {
         self.make_room();
-        let to = put_counted(&mut self.text, self.at, b"cue ", cue as u64, b' ');
+        let to = put_counted(&mut self.text, self.at, b"cue ", u64::from(cue), b' ');
         self.at = match form {
             Form::Stream => put_bytes(&mut self.text, to, b"stream\n"),
             Form::AnnexB => put_bytes(&mut self.text, to, b"annexb\n"),
         };
     }
 
-    // What a position shows, by playback's number for it: 0 for nothing, 2^64 - 1 - n for refusal n, a u32.
-    fn put_position(&mut self, position: u64, number: u64) {
+    fn put_position(&mut self, position: u64, shown: Shown) {
         self.make_room();
         let to = put_field(&mut self.text, self.at, position, b' ');
-        let refusal = u64::MAX - number;
-        self.at = if number == 0 {
-            put_bytes(&mut self.text, to, b"shows nothing\n")
-        } else if refusal <= u32::MAX as u64 {
-            put_counted(&mut self.text, to, b"refused ", refusal, b'\n')
-        } else {
-            put_counted(&mut self.text, to, b"shows ", number, b'\n')
+        self.at = match shown {
+            Ok(None) => put_bytes(&mut self.text, to, b"shows nothing\n"),
+            Ok(Some(shown)) => put_counted(&mut self.text, to, b"shows ", shown, b'\n'),
+            Err(refusal) => {
+                let number = u64::from(u32::from(refusal));
+                put_counted(&mut self.text, to, b"refused ", number, b'\n')
+            }
         };
     }
 
     // What the positions from a cue on show.
-    pub(crate) fn put_shown(&mut self, cue: u32, form: Form, shown: &[u64]) {
+    pub(crate) fn put_shown(&mut self, cue: u32, form: Form, shown: &[Shown]) {
         self.put_cue(cue, form);
         for i in 0..shown.len() {
-            self.put_position(cue as u64 + i as u64, shown[i]);
+            self.put_position(u64::from(cue) + i as u64, shown[i]);
         }
     }
 
     // Why a list is not played.
     pub(crate) fn put_fault(&mut self, fault: Fault) {
         self.flush();
-        if let Ok(end) = put_refused(&mut self.text, fault.refusal as u32, fault.segment) {
+        if let Ok(end) = put_refused(&mut self.text, fault) {
             self.at = end;
         }
     }

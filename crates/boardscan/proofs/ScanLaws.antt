@@ -6,7 +6,10 @@ use mathlib.Core.List.{List, [], ◌∷◌, ◌++◌}
 use mathlib.Core.Bool.{Bool, true, false, cond as pick}
 use lib.Dec.{leb}
 use lib.ListN.{drop}
-use Rattle.std.specs.Prelude.{Some, None}
+use Rattle.std.specs.Prelude.{Some, None, Result, Ok, Err}
+use Rattle.std.specs.Result.{result_unwrap_or}
+use Rattle.bitio.specs.Refusal.{says}
+use Rattle.bitio.specs.declared.refusal.Refusal.{Refusal}
 use Rattle.std.specs.Option.{option_or}
 use Rattle.bitio.specs.Parse.{Answer, refused, accepted, answer, and_next}
 use Rattle.obu.specs.Obu.{Obu, obus}
@@ -92,9 +95,11 @@ counted_refused p k (accepted os) e = let z : ◌≡◌ {A = ℕ} 0 1 = cc in ab
 
 -- ---- the sequence header
 
-pub counted_has : (x : Answer (List Obu)) (n : ℕ) → accepted n ≡ answer (count is_sequence) x → leb 1 n ≡ of_unit false (has is_sequence) x
-counted_has (refused k) n e = let z : ◌≡◌ {A = ℕ} 0 1 = cc in absurd (omega arith)
-counted_has (accepted os) n e = let i : n ≡ count is_sequence os = cc in ap (leb 1) i ∙ has-count is_sequence os
+pub counted_has : (r : Result ℕ Refusal) (x : Answer (List Obu)) → says r ≡ answer (count is_sequence) x → leb 1 (result_unwrap_or r 0) ≡ of_unit false (has is_sequence) x
+counted_has (Err e) (refused k) h = refl
+counted_has (Err e) (accepted os) h = let z : ◌≡◌ {A = ℕ} 0 1 = cc in absurd (omega arith)
+counted_has (Ok n) (refused k) h = let z : ◌≡◌ {A = ℕ} 0 1 = cc in absurd (omega arith)
+counted_has (Ok n) (accepted os) h = let i : n ≡ count is_sequence os = cc in ap (leb 1) i ∙ has-count is_sequence os
 
 module _ (lead : List ℕ) (slots : List RefSlot) (u : List ℕ) where
   -- scan_unit, from the unit's OBUs on

@@ -6,7 +6,7 @@ ghost use Rattle.boardscan.specs.Scans as spec;
 use bitio::refusal::Refusal;
 use geometry::size::Size;
 use geometry::slots::RefSlot;
-use obu::reader::{obu_at, payload};
+use obu::obus::Obus;
 use obu::unit::{Kind, count_obus, first_payload, is_type};
 use uheader::dpb::empty_slots;
 use uheader::scan::scan_uncompressed_header;
@@ -33,14 +33,12 @@ fn scan_frames(unit: &[u8], sequence: &[u8], slots: [RefSlot; 8]) -> Result<Left
     count_obus(unit, Kind::Any)?;
     let mut behind = slots;
     let mut first: Option<Size> = None;
-    let mut at: usize = 0;
-    while let Some(o) = obu_at(unit, at)? {
+    for found in Obus::new(unit) {
+        let o = found?;
         if is_type(Kind::Frame, o.obu_type) {
-            let frame = payload(unit, o.start, o.end);
-            let scan = scan_uncompressed_header(frame, sequence, &mut behind)?;
+            let scan = scan_uncompressed_header(o.payload(unit), sequence, &mut behind)?;
             first = first.or(Some(scan.size));
         }
-        at = o.end;
     }
     let size = first.ok_or(Refusal::NoFrame)?;
     Ok(Left {
@@ -52,10 +50,7 @@ fn scan_frames(unit: &[u8], sequence: &[u8], slots: [RefSlot; 8]) -> Result<Left
 fn has_header(unit: &[u8]) -> bool
     ensures { result ≡ spec.has_header unit.now }
 {
-    match count_obus(unit, Kind::SequenceHeader) {
-        Ok(n) => n >= 1,
-        Err(_) => false,
-    }
+    count_obus(unit, Kind::SequenceHeader).unwrap_or(0) >= 1
 }
 
 // A unit under its own first sequence header, or under that of the unit that leads it.

@@ -24,16 +24,6 @@ pub(crate) struct Page {
     ghost in_room: { end ≤ 2048 },
 }
 
-fn size_in(slot: RefSlot) -> Size {
-    Size {
-        upscaled_width: slot.upscaled_width as u64,
-        frame_width: slot.frame_width as u64,
-        frame_height: slot.frame_height as u64,
-        render_width: slot.render_width as u64,
-        render_height: slot.render_height as u64,
-    }
-}
-
 impl Page {
     pub(crate) fn new() -> Page {
         Page {
@@ -77,11 +67,11 @@ impl Page {
         requires { self.old.end + 128 ≤ 2048 }
         ensures { self.new.end ≤ self.old.end + 128 }
     {
-        self.put_number(size.frame_width, b'x');
-        self.put_number(size.frame_height, b' ');
-        self.put_named(b"upscaled ", size.upscaled_width, b' ');
-        self.put_named(b"render ", size.render_width, b'x');
-        self.put_number(size.render_height, last);
+        self.put_number(u64::from(size.frame_width), b'x');
+        self.put_number(u64::from(size.frame_height), b' ');
+        self.put_named(b"upscaled ", u64::from(size.upscaled_width), b' ');
+        self.put_named(b"render ", u64::from(size.render_width), b'x');
+        self.put_number(u64::from(size.render_height), last);
     }
 
     fn put_answer(&mut self, answer: Result<Left, Refusal>)
@@ -90,7 +80,7 @@ impl Page {
     {
         match answer {
             Ok(left) => self.put_size(left.size, b'\n'),
-            Err(refusal) => self.put_named(b"refused ", refusal as u64, b'\n'),
+            Err(refusal) => self.put_named(b"refused ", u64::from(u32::from(refusal)), b'\n'),
         }
     }
 
@@ -111,7 +101,7 @@ impl Page {
         ensures { self.new.end ≤ self.old.end + 192 }
     {
         self.put_named(b"slot ", i as u64, b' ');
-        self.put_size(size_in(slot), b' ');
+        self.put_size(slot.size, b' ');
         self.put_hint(slot);
     }
 

@@ -1,12 +1,11 @@
 // What a packaging host calls from C: numbers and byte slices only. Declared in include/magbelo.h.
 #![tactic(auto)]
 
-ghost use Rattle.std.specs.Prelude.{◌≡◌};
 ghost use Rattle.container.specs.Container.{stream, read};
 ghost use Rattle.assemble.specs.Whole.{outcome, six};
 ghost use Rattle.capi.specs.Door.{four, UnitsRead, five, Called};
 
-use assemble::multi::{assemble_multi, code_of};
+use assemble::multi::{Buffers, assemble_multi, code_of};
 use container::stream::split_obu_stream;
 use pictures::settings::Settings;
 
@@ -70,9 +69,15 @@ pub extern "C" fn magbelo_assemble(
         fps,
         den: fps_den,
     };
-    match assemble_multi(
-        picture, segments, settings, list, cues, pictures, ends, shows, header,
-    ) {
+    let mut buffers = Buffers {
+        list,
+        cues,
+        pictures,
+        ends,
+        shows,
+        header,
+    };
+    match assemble_multi(picture, segments, settings, &mut buffers) {
         Err(fault) => code_of(fault),
         Ok(c) => {
             *units = c.units;

@@ -36,11 +36,11 @@ numbers (accepted x) =
 abbrev slot_numbers : RefSlot → List ℕ
 slot_numbers x =
     x.order_hint
-    ∷ x.upscaled_width
-    ∷ x.frame_width
-    ∷ x.frame_height
-    ∷ x.render_width
-    ∷ x.render_height
+    ∷ x.size.upscaled_width
+    ∷ x.size.frame_width
+    ∷ x.size.frame_height
+    ∷ x.size.render_width
+    ∷ x.size.render_height
     ∷ bool_byte x.is_key_frame
     ∷ []
 

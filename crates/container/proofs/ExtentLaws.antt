@@ -8,7 +8,7 @@ use lib.ListN.{length}
 use Rattle.obu.specs.Obu.{Obu}
 use Rattle.obu.specs.Unit.{is_delimiter, is_frame, count}
 use Rattle.container.specs.Stream.{lead, others, either, units}
-use Rattle.container.specs.code.Extents.{last_lead, led, first_of, reopens}
+use Rattle.container.specs.code.Extents.{last_lead, led, reopens}
 use Rattle.container.proofs.LeadLaws.{join_is, join-twice}
 use Rattle.container.proofs.StreamLaws.{tick, leads, delimiter-frame, count-append, Front, units-more, units-last}
 
@@ -188,6 +188,10 @@ module _ (front : List Obu) (f : Obu) (mid : List Obu)
     first-last n =
         ap units (sym (list-is r)) ∙ units-last w g r front-is opening n
         ∙ ap (λ l. l ∷ []) (join-twice w g r ∙ ap₂ (λ x y. either x (lead r) ++ others y) led-is (list-is r))
+
+abbrev pub first_of : List Obu → List Obu
+first_of [] = []
+first_of (o ∷ os) = o ∷ []
 
 -- what opens a unit and is no frame is a delimiter
 pub first-leads : (r : List Obu) → reopens r ≡ true → count is_frame r ≡ 0 → lead r ≡ first_of r

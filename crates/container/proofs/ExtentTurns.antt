@@ -14,12 +14,12 @@ use Rattle.obu.specs.declared.unit.Kind.TheVariants.{TemporalDelimiter, Frame}
 use Rattle.obu.proofs.UnitLaws.{count_next}
 use Rattle.obu.specs.Place.{Place, no_more as ended, wrong, lies, obu_place}
 use Rattle.obu.proofs.PlaceLaws.{IsPlaced, is-placed, is-end}
-use Rattle.container.specs.Stream.{opens, lead, either, others, units, end_of}
+use Rattle.container.specs.Stream.{opens, lead, either, others, units, behind_obu}
 use Rattle.container.specs.code.Ranges.{Range, here, more}
-use Rattle.container.specs.code.Extents.{last_lead, led, first_of, reopens, Frames, ToFrame, ToNext, FirstObu, FirstUnit}
+use Rattle.container.specs.code.Extents.{last_lead, led, reopens, Frames, ToFrame, ToNext, FirstUnit}
 use Rattle.container.proofs.StreamLaws.{leads, count-append, alone, units-alone}
 use Rattle.container.proofs.RangeLaws.{range-le, range-within, range-sound, range_same, range-append, range-one, range-end, placed-step, Took, took}
-use Rattle.container.proofs.ExtentLaws.{is_none, leads-next, led-takes, led-first, led-other, first_more, first-last, first-leads}
+use Rattle.container.proofs.ExtentLaws.{is_none, first_of, leads-next, led-takes, led-first, led-other, first_more, first-last, first-leads}
 
 -- however many frames are left
 pub frames-behind : {s : List ℕ} {at : ℕ} {os : List Obu} → Range s at (length s) os → (n : ℕ) × Frames s at n
@@ -187,6 +187,12 @@ module _ {s : List ℕ} {at p : ℕ} (h : Nexting s at p) where
 
 -- ---- the first OBU
 
+-- the first OBU from `at` on, if there is one, ends at b
+pub record FirstObu (s : List ℕ) (at b : ℕ) : Type 0 where
+  pub all : List Obu
+  pub range : Range s at (length s) all
+  pub first : Range s at b (first_of all)
+
 obu-none : {s : List ℕ} {at n : ℕ} → Frames s at n → length s ≤ at → FirstObu s at at
 obu-none f k = record { all = f.all; range = f.range; first = rw (range-end f.range k) (here (range-le f.range)) }
 
@@ -195,10 +201,10 @@ obu-first f g =
     let k = took f.range g.placed.here (placed-step g.placed) in
     record { all = f.all; range = f.range; first = rw k.list (range-one (placed-step g.placed)) }
 
-pub obu-ends : {s : List ℕ} {at n x : ℕ} → Frames s at n → x ≡ end_of at (obu_place s at) → FirstObu s at x
+pub obu-ends : {s : List ℕ} {at n x : ℕ} → Frames s at n → x ≡ behind_obu at (obu_place s at) → FirstObu s at x
 obu-ends {s} {at} f e = rw e (go (obu_place s at) refl)
   where
-    go : (y : Place) → obu_place s at ≡ y → FirstObu s at (end_of at y)
+    go : (y : Place) → obu_place s at ≡ y → FirstObu s at (behind_obu at y)
     go ended q = obu-none f (is-end s at q)
     go (wrong k) q = absurd (range-sound _ f.range q)
     go (lies t x a b) q = obu-first f (is-placed s at q)

@@ -1,23 +1,29 @@
 -- Laws of lists of units in lent memory, and of the stream written from them.
-use Prim.Native.Nat.{ℕ, suc, ◌+◌, ◌-◌, ◌≤◌, ◌<◌}
+use Prim.Native.Nat.{ℕ, zero, suc, ◌+◌, ◌-◌, ◌≤◌, ◌<◌}
 use native.Mathlib.Numerals.{add-one}
 use native.Mathlib.Omega.{arith}
 use mathlib.Core.Path.{◌≡◌, refl, sym, ap, ◌∙◌}
 use mathlib.Core.List.{List, [], ◌∷◌, ◌++◌}
 use mathlib.Core.Bool.{Bool, true, false, cond as pick, ◌&&◌, and-false}
-use lib.ListN.{length, get_or, take, drop, length-drop, take-append-drop, drop_of_length-le, length-append}
-use lib.Seq.{drop-cons, drop-drop}
+use lib.ListN.{length, get_or, take, drop, length-drop, take-append-drop, length-append}
+use lib.Seq.{drop-drop}
 use lib.Dec.{leb, eqb}
-use borrow.Author.Tests.{le-leb, lt-leb, eqb-true, eqb-false, eq-eqb, ne_eqb}
+use borrow.Author.Tests.{le-leb, lt-leb, leb-true, leb-false, eqb-true, eq-eqb, ne_eqb}
+use Rattle.std.specs.List.Sorted.{IsNonDecreasing}
+use Rattle.bitio.specs.Every.{Every}
+use Rattle.bitio.specs.Every.Every.{nothing, also}
 use Rattle.bitio.specs.Parse.{Answer, refused, accepted, onto, and_next}
-use Rattle.bitio.specs.Lent.{pasted}
-use Rattle.bitio.proofs.ParseLaws.{length_none, onto-is}
+use Rattle.bitio.specs.Lent.{span, pasted}
+use Rattle.bitio.proofs.ParseLaws.{length_none, onto-is, and_both}
+use Rattle.obu.specs.Place.{part, part_in}
+use Rattle.obu.proofs.PlaceLaws.{part-short}
 use Rattle.container.specs.Stream.{flat, stream_bytes}
 use Rattle.bitio.specs.Limits.{limit}
 use Rattle.container.specs.Limits.{Room, bytes_room}
 use Rattle.container.specs.Units.{ends_of, units_from, units_at, count_of, out_after}
 use Rattle.container.specs.Container.{stream, write_at}
-use Rattle.container.specs.Lists.{accepts}
+use Rattle.container.specs.declared.lists.Units.{Units}
+use Rattle.container.specs.Lists.{listed_from, listed, unit_of, accepts}
 
 -- ---- what a list holds
 
@@ -55,32 +61,6 @@ from_bytes (x ∷ es) at s us e = go (leb at x && leb (x - at) (length s)) e (fr
 pub units-bytes : (s es : List ℕ) (us : List (List ℕ)) → units_at s es ≡ accepted us → stream_bytes us ≡ s
 units-bytes s es us e = from_bytes es 0 s us e
 
-abbrev ending : Bool → Answer (List (List ℕ))
-ending b = pick b (accepted []) (refused 36)
-
--- a list that is none is refused with 36
-from-none : (es : List ℕ) (at : ℕ) (s : List ℕ) → accepts (units_from at s es) ≡ false → units_from at s es ≡ refused 36
-unfolding units_from
-from-none [] at s e = go (eqb (length s) 0) e
-  where
-    go : (b : Bool) → accepts (ending b) ≡ false → ending b ≡ refused 36
-    go true e = let z : ◌≡◌ {A = ℕ} 0 1 = cc in absurd (omega arith)
-    go false e = refl
-from-none (x ∷ es) at s e = go (leb at x && leb (x - at) (length s)) e (from-none es x (drop (x - at) s))
-  where
-    again : (r : Answer (List (List ℕ))) → (accepts r ≡ false → r ≡ refused 36) → accepts (onto (take (x - at) s) r) ≡ false → onto (take (x - at) s) r ≡ refused 36
-    again (refused k) ih e = ap (onto (take (x - at) s)) (ih e)
-    again (accepted l) ih e = let z : ◌≡◌ {A = ℕ} 0 1 = cc in absurd (omega arith)
-
-    go : (b : Bool) → accepts (pick b (onto (take (x - at) s) (units_from x (drop (x - at) s) es)) (refused 36)) ≡ false
-        → (accepts (units_from x (drop (x - at) s) es) ≡ false → units_from x (drop (x - at) s) es ≡ refused 36)
-        → pick b (onto (take (x - at) s) (units_from x (drop (x - at) s) es)) (refused 36) ≡ refused 36
-    go true e ih = again (units_from x (drop (x - at) s) es) ih e
-    go false e ih = refl
-
-pub units-refused : (s es : List ℕ) → accepts (units_at s es) ≡ false → units_at s es ≡ refused 36
-units-refused s es e = from-none es 0 s e
-
 pub units-some : (s es : List ℕ) → accepts (units_at s es) ≡ true → (us : List (List ℕ)) × (units_at s es ≡ accepted us)
 units-some s es e = go (units_at s es) e
   where
@@ -88,61 +68,153 @@ units-some s es e = go (units_at s es) e
     go (refused k) e = let z : ◌≡◌ {A = ℕ} 0 1 = cc in absurd (omega arith)
     go (accepted us) e = (us, refl)
 
--- ---- the turns of the check
+-- ---- each unit by its index
 
-pub record Checking (s es : List ℕ) (at i : ℕ) : Type 0 where
-  pub within : at ≤ length s
-  pub same : accepts (units_at s es) ≡ accepts (units_from at (drop at s) (drop i es))
+-- ends from `at` on never fall, and the last is n
+unfoldable rising : ℕ → ℕ → List ℕ → Bool
+rising at n [] = eqb at n
+rising at n (e ∷ es) = leb at e && rising e n es
 
-pub checking-start : {s es : List ℕ} → Checking s es 0 0
-checking-start = record { within = omega arith; same = refl }
+rising-most : (at n : ℕ) (es : List ℕ) → rising at n es ≡ true → at ≤ n
+unfolding rising
+rising-most at n [] e = let k = eqb-true at n e in omega arith
+rising-most at n (x ∷ es) e = go (leb at x) refl (rising-most x n es) e
+  where
+    go : (b : Bool) → leb at x ≡ b → (rising x n es ≡ true → x ≤ n) → (b && rising x n es) ≡ true → at ≤ n
+    go true p f e = let h = f e in omega (arith, leb-true at x p)
+    go false p f e = let z : ◌≡◌ {A = ℕ} 0 1 = cc in absurd (omega arith)
 
-module _ {s es : List ℕ} {at i : ℕ} (c : Checking s es at i) where
-  pub checking-end : length es ≤ i → eqb at (length s) ≡ accepts (units_at s es)
-  unfolding units_from
-  checking-end h = sym (c.same ∙ rw (drop_of_length-le es h, length-drop) (go (eqb at (length s)) refl))
-    where
-      go : (b : Bool) → eqb at (length s) ≡ b → accepts (ending (eqb (length s - at) 0)) ≡ b
-      go true q = rw (eq-eqb (length s - at) 0 (omega (arith, eqb-true at (length s) q)))
-      go false q = rw (ne_eqb (length s - at) 0 (λ z. eqb-false at (length s) q (omega (arith, c.within))))
+abbrev given : ℕ → List ℕ → List ℕ → Answer (List (List ℕ))
+given at s es = pick (rising at (length s) es) (accepted (listed_from at s es)) (refused 36)
 
-  module _ (h : i < length es) where
-    abbrev e : ℕ
-    e = get_or es i 0
+onto-given : (u : List ℕ) (b : Bool) (l : List (List ℕ)) → onto u (pick b (accepted l) (refused 36)) ≡ pick b (accepted (u ∷ l)) (refused 36)
+onto-given u true l = refl
+onto-given u false l = refl
 
-    abbrev left : Answer (List (List ℕ))
-    left = units_from e (drop (e - at) (drop at s)) (drop (suc i) es)
+-- the units that ends give, or 36
+units-given : (at : ℕ) (s es : List ℕ) → at ≤ length s → units_from at (drop at s) es ≡ given at s es
+unfolding units_from rising listed_from part span
+units-given at s [] h = go (eqb at (length s)) refl
+  where
+    go : (b : Bool) → eqb at (length s) ≡ b → ◌≡◌ {A = Answer (List (List ℕ))} (pick (eqb (length (drop at s)) 0) (accepted []) (refused 36)) (pick b (accepted []) (refused 36))
+    go true e = let k = eqb-true at (length s) e in rw (eq-eqb (length (drop at s)) 0 (omega (arith, length-drop at s)))
+    go false e =
+        rw (ne_eqb (length (drop at s)) 0 (λ z. let y : ◌≡◌ {A = Bool} true false = sym (eq-eqb at (length s) (omega (arith, length-drop at s))) ∙ e in let w : ◌≡◌ {A = ℕ} 0 1 = cc in omega arith))
+units-given at s (e ∷ es) h = go (leb at e) (leb e (length s)) refl refl (units-given e s es)
+  where
+    d : length (drop at s) ≡ length s - at
+    d = length-drop at s
 
-    -- the end that comes next
-    turn : (b : Bool) → (leb at e && leb (e - at) (length (drop at s))) ≡ b → accepts (units_at s es) ≡ pick b (accepts left) false
-    unfolding units_from
-    turn b q = c.same ∙ rw (drop-cons es i 0 h, q) (go b left)
-      where
-        onto-accepts : (x : Answer (List (List ℕ))) → accepts (onto (take (e - at) (drop at s)) x) ≡ accepts x
-        onto-accepts (refused k) = refl
-        onto-accepts (accepted l) = refl
-
-        go : (b : Bool) (x : Answer (List (List ℕ))) → accepts (pick b (onto (take (e - at) (drop at s)) x) (refused 36)) ≡ pick b (accepts x) false
-        go true x = onto-accepts x
-        go false x = refl
-
-    -- an end that falls, and one behind the bytes
-    pub checking-fall : e < at → false ≡ accepts (units_at s es)
-    checking-fall l = sym (turn false (rw (lt-leb at e l)))
-
-    pub checking-over : length s < e → false ≡ accepts (units_at s es)
-    checking-over l =
-        let m : length (drop at s) < e - at = omega (arith, c.within, length-drop at s) in
-        sym (turn false (rw (lt-leb (e - at) (length (drop at s)) m) (and-false (leb at e))))
-
-    pub checking-next : at ≤ e → e ≤ length s → Checking s es e (i + 1)
-    checking-next p q =
-        let l : e - at ≤ length (drop at s) = omega (arith, length-drop at s) in
+    go : (a b : Bool) → leb at e ≡ a → leb e (length s) ≡ b → (e ≤ length s → units_from e (drop e s) es ≡ given e s es)
+        → pick (a && leb (e - at) (length (drop at s))) (onto (take (e - at) (drop at s)) (units_from e (drop (e - at) (drop at s)) es)) (refused 36)
+        ≡ pick (a && rising e (length s) es) (accepted (pick a (pick b (take (e - at) (drop at s)) []) [] ∷ listed_from e s es)) (refused 36)
+    go false b p q f = refl
+    go true true p q f =
+        let x = leb-true at e p in
+        let y = leb-true e (length s) q in
         let k : at + (e - at) ≡ e = omega arith in
-        record {
-          within = q;
-          same = turn true (rw (le-leb at e p, le-leb (e - at) (length (drop at s)) l)) ∙ rw (drop-drop, k, add-one);
-        }
+        rw (le-leb (e - at) (length (drop at s)) (omega (arith, d)), drop-drop (e - at) at s, k, f y) (onto-given (take (e - at) (drop at s)) (rising e (length s) es) (listed_from e s es))
+    go true false p q f =
+        let x = leb-true at e p in
+        let y = leb-false e (length s) q in
+        rw (lt-leb (e - at) (length (drop at s)) (omega (arith, d))) (sym (never (rising e (length s) es) refl))
+      where
+        never : (r : Bool) → rising e (length s) es ≡ r → pick r (accepted ([] ∷ listed_from e s es)) (refused 36) ≡ refused 36
+        never true w = let m = rising-most e (length s) es w in absurd (omega (arith, leb-false e (length s) q))
+        never false w = refl
+
+-- a list's units
+pub units-listed : (s es : List ℕ) → accepts (units_at s es) ≡ true → units_at s es ≡ accepted (listed s es)
+units-listed s es e = let g = units-given 0 s es (omega arith) in g ∙ go (rising 0 (length s) es) (sym (ap accepts g) ∙ e)
+  where
+    go : (b : Bool) → accepts (pick b (accepted (listed s es)) (refused 36)) ≡ true → pick b (accepted (listed s es)) (refused 36) ≡ accepted (listed s es)
+    go true q = refl
+    go false q = let z : ◌≡◌ {A = ℕ} 0 1 = cc in absurd (omega arith)
+
+pub listed-length : (at : ℕ) (s es : List ℕ) → length (listed_from at s es) ≡ length es
+unfolding listed_from
+listed-length at s [] = refl
+listed-length at s (e ∷ es) = ap suc (listed-length e s es)
+
+part-zero : (s : List ℕ) (a : ℕ) → part s a 0 ≡ []
+unfolding part span
+part-zero s a = go (leb a 0)
+  where
+    go : (b : Bool) → pick b (pick (leb 0 (length s)) (take (0 - a) (drop a s)) []) [] ≡ []
+    go true = let k : 0 - a ≡ 0 = omega arith in rw (k, le-leb 0 (length s) (omega arith))
+    go false = refl
+
+nothing-at : {A : Type 0} (i : ℕ) (d : A) → get_or [] i d ≡ d
+nothing-at zero d = refl
+nothing-at (suc i) d = refl
+
+-- a unit is the bytes from where it starts to where it ends
+listed-part-from : (at : ℕ) (s es : List ℕ) (i : ℕ) → part s (get_or (at ∷ es) i 0) (get_or es i 0) ≡ get_or (listed_from at s es) i []
+unfolding listed_from
+listed-part-from at s [] i = rw (nothing-at {A = ℕ} i 0) (part-zero s (get_or (at ∷ []) i 0)) ∙ sym (nothing-at i [])
+listed-part-from at s (e ∷ es) zero = refl
+listed-part-from at s (e ∷ es) (suc i) = listed-part-from e s es i
+
+pub listed-part : (s es : List ℕ) (i : ℕ) → part_in s es i ≡ unit_of s es i
+listed-part s es i = listed-part-from 0 s es i
+
+-- no unit is longer than all bytes
+pub unit-short : (s es : List ℕ) (i : ℕ) → length (unit_of s es i) ≤ length s
+unit-short s es i = rw (← listed-part s es i) (part-short s (get_or (0 ∷ es) i 0) (get_or es i 0))
+
+pub listed-short : (at : ℕ) (s es : List ℕ) → Every (λ u. length u ≤ length s) (listed_from at s es)
+unfolding listed_from
+listed-short at s [] = nothing
+listed-short at s (e ∷ es) = also (part-short s at e) (listed-short e s es)
+
+-- ---- the check
+
+-- ends that do not fall, from one that is no more than the first
+rising-up : (at n : ℕ) (es : List ℕ) → IsNonDecreasing es → (0 < length es → at ≤ get_or es 0 0) → get_or (at ∷ es) (length es) 0 ≡ n → rising at n es ≡ true
+unfolding rising
+rising-up at n [] f h l = eq-eqb at n l
+rising-up at n (e ∷ es) f h l =
+    rw (le-leb at e (h (omega arith))) (rising-up e n es (λ i j d a b. f (suc i) (suc j) d (omega arith) (omega arith)) (λ b. f 0 1 0 (omega arith) (omega arith)) l)
+
+-- an end that falls
+rising-falls : (at n : ℕ) (es : List ℕ) (k : ℕ) → suc k < length es → get_or es (suc k) 0 < get_or es k 0 → rising at n es ≡ false
+unfolding rising
+rising-falls at n [] k b l = absurd (omega arith)
+rising-falls at n (e ∷ []) k b l = absurd (omega arith)
+rising-falls at n (e ∷ (x ∷ es)) zero b l = rw (lt-leb e x l) (and-false (leb at e))
+rising-falls at n (e ∷ (x ∷ es)) (suc k) b l = rw (rising-falls e n (x ∷ es) k (omega arith) l) (and-false (leb at e))
+
+rising-last : (at n : ℕ) (es : List ℕ) → rising at n es ≡ true → get_or (at ∷ es) (length es) 0 ≡ n
+unfolding rising
+rising-last at n [] e = eqb-true at n e
+rising-last at n (x ∷ es) e = rising-last x n es (and_both (leb at x) (rising x n es) e).1
+
+module _ (s es : List ℕ) where
+  there : units_at s es ≡ given 0 s es
+  there = units-given 0 s es (omega arith)
+
+  pub list-good : IsNonDecreasing es → get_or (0 ∷ es) (length es) 0 ≡ length s → accepts (units_at s es) ≡ true
+  list-good f l = rw (there, rising-up 0 (length s) es f (λ b. omega arith) l)
+
+  not-rising : rising 0 (length s) es ≡ false → units_at s es ≡ refused 36
+  not-rising e = there ∙ rw e
+
+  pub list-falls : (k : ℕ) → k + 1 < length es → get_or es (k + 1) 0 < get_or es k 0 → units_at s es ≡ refused 36
+  list-falls k b l = not-rising (rising-falls 0 (length s) es k (omega arith) (rw add-one at l))
+
+  pub list-other : (get_or (0 ∷ es) (length es) 0 ≡ length s → ⊥) → units_at s es ≡ refused 36
+  list-other n = not-rising (go (rising 0 (length s) es) refl)
+    where
+      go : (b : Bool) → rising 0 (length s) es ≡ b → b ≡ false
+      go true e = absurd (n (rising-last 0 (length s) es e))
+      go false e = refl
+
+-- and what they are where a list was made of them
+pub list-listed : (x : Units) → units_at x.bytes.now x.ends.now ≡ accepted (listed x.bytes.now x.ends.now)
+list-listed x = units-listed x.bytes.now x.ends.now x.is_list
+
+pub list-is : {s es : List ℕ} (x : Units) → (x.bytes.now ≡ s) × (x.ends.now ≡ es) → accepts (units_at s es) ≡ true
+list-is x (p, q) = rw (p, q) at x.is_list
 
 -- ---- the stream written
 
@@ -159,14 +231,14 @@ module _ (s es d : List ℕ) where
   refuses : {k : ℕ} → result ≡ refused k → WriteRefuses k
   refuses q = (sym (ap (λ x. count_of x) q), sym (ap (λ x. out_after x d) q))
 
-  pub write-long : limit < length s → WriteRefuses 34
+  pub write-long : {k : ℕ} → (limit < length s) × (k ≡ 34) → WriteRefuses k
   unfolding write_at and_next
-  write-long l = refuses (rw (lt-leb (length s) limit l))
+  write-long (l, q) = refuses (rw (lt-leb (length s) limit l, q))
 
   module _ (short : length s ≤ limit) where
-    pub write-none : accepts (units_at s es) ≡ false → WriteRefuses 36
+    pub write-none : {k : ℕ} → units_at s es ≡ refused k → WriteRefuses k
     unfolding write_at and_next
-    write-none n = refuses (rw (le-leb (length s) limit short, units-refused s es n))
+    write-none n = refuses (rw (le-leb (length s) limit short, n))
 
     module _ (is : accepts (units_at s es) ≡ true) where
       pub write-full : length d < length s → WriteRefuses 35

@@ -1,5 +1,5 @@
 -- Laws of OBUs from one position to another, measured and written.
-use Prim.Native.Nat.{ℕ, zero, suc, ◌+◌, ◌-◌, ◌*◌, ◌^◌, ◌≤◌, ◌<◌}
+use Prim.Native.Nat.{ℕ, zero, suc, ◌+◌, ◌-◌, ◌*◌, ◌^◌, ◌≤◌, ◌<◌, min}
 use native.Mathlib.Nat.{eq-or-lt_of_le}
 use native.Mathlib.Omega.{arith}
 use mathlib.Core.Path.{◌≡◌, refl, sym, ap, ap₂, ◌∙◌}
@@ -8,13 +8,16 @@ use mathlib.Core.Option.{Option}
 use mathlib.Core.Bool.{Bool, true, false, cond as pick, not}
 use mathlib.Core.Logic.{⊎_elim}
 use lib.ListN.{length, drop, length-append, length-drop, drop_of_length-le}
-use borrow.Author.Tests.{lt-ltb}
+use lib.Dec.{ltb}
+use borrow.Author.Tests.{lt-ltb, ltb-true, ltb-false}
 use Rattle.bitio.specs.Parse.{accepted, Head, stop, item}
 use Rattle.bitio.specs.Lent.{pasted, Wrote}
 use Rattle.bitio.proofs.LebLaws.{bytes-length}
 use Rattle.bitio.proofs.LentLaws.{pasted-nil, pasted-more, pasted_length}
 use Rattle.obu.specs.Obu.{Obu, passes, head_obu, obus, obu_bytes, unit_bytes}
-use Rattle.obu.specs.Place.{wrong, place_of, obu_place, obu_says, part}
+use Rattle.obu.specs.Place.{Place, no_more, wrong, lies, extension_says, place_of, obu_place, part}
+use Rattle.obu.specs.Walk.{Walks, GivesObu}
+use Rattle.obu.specs.declared.obus.Obus.{Obus}
 use Rattle.obu.specs.declared.reader.Obu.{Obu as Found}
 use Rattle.std.specs.Prelude.{Result, Ok, Err, Option as Optional, Some, None}
 use Rattle.bitio.specs.Refusal.{number}
@@ -107,12 +110,6 @@ module _ {s : List ℕ} {b : ℕ} where
   pub range-found : {at : ℕ} {os : List Obu} (k : ℕ) → Range s at b os → at < b → obu_place s at ≡ wrong k → ⊥
   range-found k r h q = found k r refl h q
 
-  -- and that is what the code answers
-  pub range-holds : {at : ℕ} {os : List Obu} → Range s at b os → at < b → (x : Result (Optional Found) Refusal) → obu_says x ≡ obu_place s at → (o : Found) × (x ≡ Ok (Some o))
-  range-holds r h (Ok (Some o)) e = (o, refl)
-  range-holds {at} r h (Ok None) e = absurd (omega (arith, is-end s at (sym e), range-within r))
-  range-holds r h (Err k) e = absurd (range-found (number k) r h (sym e))
-
 -- what reaches the end of the bytes is not refused
 pub range-sound : {s : List ℕ} {at : ℕ} {os : List Obu} (k : ℕ) → Range s at (length s) os → obu_place s at ≡ wrong k → ⊥
 range-sound {s} {at} k r q = range-found k r (is-wrong s at k q).0 q
@@ -157,6 +154,48 @@ module _ (s : List ℕ) where
 
   pub range-whole : {os : List Obu} → obus s ≡ accepted os → Range s 0 (length s) os
   range-whole e = range-from (omega arith) e
+
+-- ---- the walk over a range
+
+-- it goes up to b
+pub record Within (s : List ℕ) (b : ℕ) (it : Obus) : Type 0 where
+  pub bytes : it.bytes.now ≡ s
+  pub end : it.end ≡ b
+
+pub within-start : {s : List ℕ} {a b : ℕ} {os : List Obu} {it : Obus} → Range s a b os → Walks it s a (min b (length s)) → Within s b it
+within-start r w = let l = range-within r in record { bytes = w.0; end = omega (arith, w.2) }
+
+module _ {s : List ℕ} {b : ℕ} {it : Obus} (w : Within s b it) (new : Obus) where
+  pub within-next : (x : Optional (Result Found Refusal)) → GivesObu it x new → Within s b new
+  within-next x g = record { bytes = g.1.0 ∙ w.bytes; end = g.1.2 ∙ w.end }
+
+  stands : {p : Place} → p ≡ obu_place it.bytes.now it.at → obu_place s it.at ≡ p
+  stands q = ap (λ l. obu_place l it.at) (sym w.bytes) ∙ sym q
+
+  -- an OBU that is given lies in the range
+  pub within-one : (o : Found) → GivesObu it (Some (Ok o)) new → (it.at < b) × IsPlaced s it.at o.obu_type (extension_says o.extension) o.start o.end
+  within-one o g = go (ltb it.at it.end) refl g.0
+    where
+      go : (x : Bool) → ltb it.at it.end ≡ x → lies o.obu_type (extension_says o.extension) o.start o.end ≡ pick x (obu_place it.bytes.now it.at) no_more
+          → (it.at < b) × IsPlaced s it.at o.obu_type (extension_says o.extension) o.start o.end
+      go true l q = (omega (arith, ltb-true it.at it.end l, w.end), is-placed s it.at (stands q))
+      go false l q = let z : ◌≡◌ {A = ℕ} 0 1 = cc in absurd (omega arith)
+
+  module _ {os : List Obu} (r : Range s it.at b os) where
+    pub within-end : GivesObu it None new → b ≤ it.at
+    within-end g = go (ltb it.at it.end) refl g.0
+      where
+        go : (x : Bool) → ltb it.at it.end ≡ x → no_more ≡ pick x (obu_place it.bytes.now it.at) no_more → b ≤ it.at
+        go true l q = omega (arith, is-end s it.at (stands q), range-within r)
+        go false l q = omega (arith, ltb-false it.at it.end l, w.end)
+
+    -- and nothing in it is refused
+    pub within-sound : (e : Refusal) → GivesObu it (Some (Err e)) new → ⊥
+    within-sound e g = go (ltb it.at it.end) refl g.0
+      where
+        go : (x : Bool) → ltb it.at it.end ≡ x → wrong (number e) ≡ pick x (obu_place it.bytes.now it.at) no_more → ⊥
+        go true l q = range-found (number e) r (omega (arith, ltb-true it.at it.end l, w.end)) (stands q)
+        go false l q = let z : ◌≡◌ {A = ℕ} 0 1 = cc in omega arith
 
 -- ---- what is kept
 

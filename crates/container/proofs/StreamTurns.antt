@@ -315,9 +315,9 @@ module _ (s d e : List ℕ) where
   refuses : {k : ℕ} → result ≡ refused k → ReadRefuses k
   refuses q = (sym (ap (λ x. sizes_of x) q), (sym (ap (λ x. bytes_after x d) q), sym (ap (λ x. ends_after x e) q)))
 
-  pub read-long : limit < length s → ReadRefuses 34
+  pub read-long : {k : ℕ} → (limit < length s) × (k ≡ 34) → ReadRefuses k
   unfolding read
-  read-long l = refuses (rw (lt-leb (length s) limit l))
+  read-long (l, q) = refuses (rw (lt-leb (length s) limit l, q))
 
   module _ (short : length s ≤ limit) where
     read_short : {x : Answer (List (List ℕ))} → stream_units s ≡ x → (y : Answer (List (List ℕ))) → fit_units room x ≡ y → result ≡ y

@@ -4,5 +4,6 @@ pub mod SizeBit
 pub mod Limits
 pub mod Units
 pub mod Lists
+pub mod Listed
 pub mod Container
 pub mod code

@@ -85,7 +85,7 @@ unfoldable pub stream_bytes : List (List ℕ) → List ℕ
 stream_bytes us = flat us
 
 -- where the OBU ends that stands at `at`, or `at` if there is none
-abbrev pub end_of : ℕ → Place → ℕ
-end_of at no_more = at
-end_of at (wrong k) = at
-end_of at (lies t e a b) = b
+abbrev pub behind_obu : ℕ → Place → ℕ
+behind_obu at no_more = at
+behind_obu at (wrong k) = at
+behind_obu at (lies t e a b) = b

@@ -36,9 +36,9 @@ ends_after (accepted us) d = pasted d 0 (ends_of 0 us)
 
 -- ---- what a writer answers, and what lent memory holds afterwards
 
-abbrev pub count_of : Answer (List ℕ) → Answer ℕ
+abbrev pub count_of : {A : Type 0} → Answer (List A) → Answer ℕ
 count_of x = answer length x
 
-abbrev pub out_after : Answer (List ℕ) → List ℕ → List ℕ
+abbrev pub out_after : {A : Type 0} → Answer (List A) → List A → List A
 out_after (refused k) d = d
 out_after (accepted bs) d = pasted d 0 bs

@@ -1,3 +1,4 @@
 pub mod Ranges
 pub mod Extents
 pub mod Survey
+pub mod Walk

@@ -1,7 +1,7 @@
 // Where the units of a stream lie in its bytes.
 ghost use Rattle.std.specs.Prelude.{◌≡◌, ℕ, ◌+◌, ◌<◌, length};
 ghost use Rattle.obu.specs.Place.{obu_place};
-ghost use Rattle.container.specs.Stream.{end_of};
+ghost use Rattle.container.specs.Stream.{behind_obu};
 ghost use Rattle.container.specs.code.Extents.{Frames, ToFrame, ToNext, FirstUnit};
 
 use obu::reader::obu_at;
@@ -16,6 +16,7 @@ pub(crate) struct Extent {
 }
 
 // The delimiter that leads the unit, and the end of the next frame.
+// kept: a cursor, as the answer and the test of the first OBU say where an OBU begins, which the walk over OBUs does not give
 fn to_frame(s: &[u8], at: usize) -> (Range<usize>, usize)
     requires { (n : ℕ) × Frames s.now at (n + 1) }
     ensures { ToFrame s.now at result.0.start result.0.end result.1 }
@@ -37,6 +38,7 @@ fn to_frame(s: &[u8], at: usize) -> (Range<usize>, usize)
 }
 
 // Where the next unit opens, behind a frame.
+// kept: as above
 fn to_next(s: &[u8], at: usize) -> usize
     requires { (n : ℕ) × Frames s.now at n }
     ensures { ToNext s.now at result }
@@ -53,7 +55,7 @@ fn to_next(s: &[u8], at: usize) -> usize
 
 // Where the OBU at `at` ends, or `at` if there is none.
 pub fn obu_end(s: &[u8], at: usize) -> usize
-    ensures { result ≡ end_of at (obu_place s.now at) }
+    ensures { result ≡ behind_obu at (obu_place s.now at) }
 {
     match obu_at(s, at) {
         Ok(Some(o)) => o.end,
@@ -62,7 +64,7 @@ pub fn obu_end(s: &[u8], at: usize) -> usize
 }
 
 // The extent of the unit that begins at `at`, `left` frames being left.
-pub(crate) fn next_unit(s: &[u8], at: usize, left: usize) -> Extent
+fn next_unit(s: &[u8], at: usize, left: usize) -> Extent
     requires { (at < length s.now) × Frames s.now at left }
     ensures { FirstUnit s.now at left result.lead.start result.lead.end result.obus.start result.obus.end }
 {
@@ -90,5 +92,51 @@ pub(crate) fn next_unit(s: &[u8], at: usize, left: usize) -> Extent
     Extent {
         lead: next..obu_end(s, next),
         obus: at..len,
+    }
+}
+
+// The units of a stream from `at` on, by where they lie.
+#[derive(Clone, Copy)]
+pub(crate) struct Extents<'a> {
+    bytes: &'a [u8],
+    at: usize,
+    // how many frames are left
+    frames: usize,
+}
+
+impl<'a> Extents<'a> {
+    ghost use Rattle.container.specs.code.Walk.{Walks};
+
+    // All units of a stream that has so many frames.
+    pub(crate) fn new(bytes: &'a [u8], frames: usize) -> Extents<'a>
+        ensures { Walks result bytes.now 0 frames }
+    {
+        Extents {
+            bytes,
+            at: 0,
+            frames,
+        }
+    }
+}
+
+impl<'a> Iterator for Extents<'a> {
+    ghost use Rattle.container.specs.code.Walk.{CanGive, GivesExtent, bytes_left};
+
+    type Item = Extent;
+
+    ghost can_next = { CanGive };
+
+    ghost next_gives = { GivesExtent };
+
+    ghost remaining = { bytes_left };
+
+    fn next(&mut self) -> Option<Extent> {
+        if self.at >= self.bytes.len() {
+            return None;
+        }
+        let x = next_unit(self.bytes, self.at, self.frames);
+        self.at = x.obus.end;
+        self.frames = self.frames.saturating_sub(1);
+        Some(x)
     }
 }

@@ -7,7 +7,8 @@ ghost use Rattle.bitio.specs.Limits.{limit};
 ghost use Rattle.bitio.specs.Lent.{Wrote};
 ghost use Rattle.container.specs.code.Ranges.{is_kept, kept_one, Ranged, Measured, Roomy, WroteKept};
 
-use obu::reader::{Obu, obu_at, payload};
+use obu::obus::Obus;
+use obu::reader::Obu;
 use obu::unit::{Kind, is_type};
 use obu::writer::{obu_len, put_measured};
 use std::ops::Range;
@@ -26,7 +27,7 @@ pub fn kept_len(o: Obu, keep: bool) -> usize
     ensures { result ≡ pick (is_kept keep o.obu_type) (obu_length (extension_says o.extension) (o.end - o.start)) 0 }
 {
     if is_kept(o.obu_type, keep) {
-        obu_len(o.extension, o.end - o.start)
+        obu_len(o.extension, o.size())
     } else {
         0
     }
@@ -37,13 +38,10 @@ pub fn written_len(s: &[u8], range: Range<usize>, keep: bool) -> usize
     requires { Ranged s.now range.start range.end }
     ensures { Measured s.now range.start range.end keep result }
 {
-    let mut at = range.start;
     let mut n: usize = 0;
-    while at < range.end
-        && let Ok(Some(o)) = obu_at(s, at)
-    {
+    for found in Obus::within(s, range) {
+        let Ok(o) = found else { return n };
         n += kept_len(o, keep);
-        at = o.end;
     }
     n
 }
@@ -56,7 +54,7 @@ fn put_kept(s: &[u8], o: Obu, keep: bool, out: &mut [u8], to: usize) -> usize
     if !is_kept(o.obu_type, keep) {
         return to;
     }
-    put_measured(out, to, o.obu_type, o.extension, payload(s, o.start, o.end))
+    put_measured(out, to, o.obu_type, o.extension, o.payload(s))
 }
 
 // Writes the OBUs in a range at `to`, where their room is known.
@@ -64,13 +62,10 @@ pub fn put_written(s: &[u8], range: Range<usize>, keep: bool, out: &mut [u8], to
     requires { Roomy s.now range.start range.end keep out.old to }
     ensures { WroteKept s.now range.start range.end keep out.old to result out.new }
 {
-    let mut at = range.start;
     let mut w = to;
-    while at < range.end
-        && let Ok(Some(o)) = obu_at(s, at)
-    {
+    for found in Obus::within(s, range) {
+        let Ok(o) = found else { return w };
         w = put_kept(s, o, keep, out, w);
-        at = o.end;
     }
     w
 }

@@ -9,12 +9,12 @@ ghost use Rattle.container.specs.Container.{stream, read, write_at};
 ghost use Rattle.container.specs.code.Survey.{Surveyed, sizes_fit};
 ghost use Rattle.container.specs.code.Extents.{UnitRanges, UnitLength, UnitRoom, UnitWrote, StreamFrames, StreamRoom};
 
-use crate::extents::{Extent, next_unit};
-use crate::lists::check_ends;
+use crate::extents::{Extent, Extents};
+use crate::lists::Units;
 use crate::ranges::{put_written, written_len};
 use crate::survey::{Tally, survey};
 use crate::units::Sizes;
-use bitio::limits::LIMIT;
+use bitio::limits::check_limit;
 use bitio::refusal::Refusal;
 use obu::writer::put_bytes;
 
@@ -41,14 +41,9 @@ fn measure(s: &[u8], frames: usize) -> Sizes
     requires { StreamFrames s.now frames }
     ensures { sizes_of (stream_units s.now) ≡ accepted result }
 {
-    let mut at: usize = 0;
-    let mut left = frames;
     let mut bytes: usize = 0;
     let mut units: usize = 0;
-    while at < s.len() {
-        let x = next_unit(s, at, left);
-        left = left.saturating_sub(1);
-        at = x.obus.end;
+    for x in Extents::new(s, frames) {
         bytes += unit_len(s, x);
         units += 1;
     }
@@ -74,14 +69,9 @@ fn write(s: &[u8], frames: usize, out: &mut [u8], ends: &mut [u32]) -> Sizes
     ensures out_after { out.new ≡ bytes_after (stream_units s.now) out.old }
     ensures ends_after { ends.new ≡ ends_after (stream_units s.now) ends.old }
 {
-    let mut at: usize = 0;
-    let mut left = frames;
     let mut w: usize = 0;
     let mut u: usize = 0;
-    while at < s.len() {
-        let x = next_unit(s, at, left);
-        left = left.saturating_sub(1);
-        at = x.obus.end;
+    for x in Extents::new(s, frames) {
         w = put_unit(s, x, out, w);
         ends[u] = w as u32;
         u += 1;
@@ -95,9 +85,7 @@ pub fn split_obu_stream(data: &[u8], out: &mut [u8], ends: &mut [u32]) -> Result
     ensures out_after { out.new ≡ bytes_after (read stream (room_in out.old ends.old) «data».now) out.old }
     ensures ends_after { ends.new ≡ ends_after (read stream (room_in out.old ends.old) «data».now) ends.old }
 {
-    if data.len() > LIMIT {
-        return Err(Refusal::InputTooLong);
-    }
+    check_limit(data)?;
     let tally = survey(data)?;
     if !is_roomy(data, tally, out, ends) {
         return Err(Refusal::NoRoom);
@@ -110,14 +98,10 @@ pub fn write_obu_stream(units: &[u8], unit_ends: &[u32], out: &mut [u8]) -> Resu
     ensures result_value { says result ≡ count_of (write_at stream (bytes_room (length out.old)) units.now unit_ends.now) }
     ensures out_after { out.new ≡ out_after (write_at stream (bytes_room (length out.old)) units.now unit_ends.now) out.old }
 {
-    if units.len() > LIMIT {
-        return Err(Refusal::InputTooLong);
-    }
-    if !check_ends(units, unit_ends) {
-        return Err(Refusal::NotAList);
-    }
-    if units.len() > out.len() {
+    check_limit(units)?;
+    let listed = Units::new(units, unit_ends)?;
+    if listed.bytes.len() > out.len() {
         return Err(Refusal::NoRoom);
     }
-    Ok(put_bytes(out, 0, units))
+    Ok(put_bytes(out, 0, listed.bytes))
 }

@@ -8,7 +8,7 @@ ghost use Rattle.container.specs.code.Survey.{tally_of};
 
 use crate::ranges::kept_len;
 use bitio::refusal::Refusal;
-use obu::reader::obu_at;
+use obu::obus::Obus;
 use obu::unit::{Kind, is_type};
 
 // How many frames there are, and how many bytes all OBUs have, written.
@@ -23,15 +23,14 @@ pub(crate) fn survey(s: &[u8]) -> Result<Tally, Refusal>
     requires { length s.now ≤ limit }
     ensures { says result ≡ answer tally_of (obus s.now) }
 {
-    let mut at: usize = 0;
     let mut frames: usize = 0;
     let mut bytes: usize = 0;
-    while let Some(o) = obu_at(s, at)? {
+    for found in Obus::new(s) {
+        let o = found?;
         if is_type(Kind::Frame, o.obu_type) {
             frames += 1;
         }
         bytes += kept_len(o, true);
-        at = o.end;
     }
     Ok(Tally { frames, bytes })
 }

@@ -1,9 +1,9 @@
--- Calls of the running player, as its contract gives them, are a course, and answer what demand 3 claims; so do the numbers that the running code hands out.
+-- Calls of the running player, as its contract gives them, are a course, and answer what demand 3 claims; so do the answers that the running code hands out.
 use Prim.Native.Nat.{ℕ, zero, suc, ◌+◌, ◌-◌, ◌≤◌, ◌<◌}
 use native.Mathlib.Omega.{arith}
 use mathlib.Core.Path.{◌≡◌, refl, sym, ap, subst, ◌∙◌}
 use mathlib.Core.List.{List, [], ◌∷◌, Memᴰ}
-use mathlib.Core.Option.{some}
+use mathlib.Core.Option.{Option, none, some}
 use lib.ListN.{length, get_or, drop, length-drop}
 use lib.Seq.{get_or-drop}
 use Rattle.std.specs.Prelude.{Option as Optional, Some, None, Result, Ok, Err}
@@ -21,7 +21,7 @@ use Rattle.player.proofs.StepLaws.{leaves-so}
 use Rattle.demand.specs.Kinds.{unit_at}
 use Rattle.demand.specs.Courses.{Course, done, plays, noise, Throughout}
 use Rattle.demand.specs.Demand.{Given, PlaysRight, ReadBack, Demand}
-use Rattle.playback.specs.Shown.{shown_number, shown_from, shown_by}
+use Rattle.playback.specs.Shown.{shown_of, shown_from, shown_by}
 use Rattle.playback.proofs.ShownLaws.{shown-length}
 
 -- the player's answer: the position shown, if any, or a refusal
@@ -121,22 +121,23 @@ throughout-at P st p (u ∷ us) t (suc k) h =
     let n : p + suc k ≡ suc p + k = omega arith in
     rw n (throughout-at P (state_after st p u) (suc p) us t.1 k (omega arith))
 
-number_at : (st : State) (p : ℕ) (us : List (List ℕ)) (k : ℕ) → k < length us → get_or (shown_from st p us) k 0 ≡ shown_number (play (state_at st p us k) (p + k) (get_or us k []))
+shown_at : (st : State) (p : ℕ) (us : List (List ℕ)) (k : ℕ) → k < length us
+    → get_or (shown_from st p us) k (accepted none) ≡ shown_of (play (state_at st p us k) (p + k) (get_or us k []))
 unfolding shown_from state_at
-number_at st p [] k h = absurd (omega arith)
-number_at st p (u ∷ us) zero h = let n : p + 0 ≡ p = omega arith in rw n
-number_at st p (u ∷ us) (suc k) h =
+shown_at st p [] k h = absurd (omega arith)
+shown_at st p (u ∷ us) zero h = let n : p + 0 ≡ p = omega arith in rw n
+shown_at st p (u ∷ us) (suc k) h =
     let n : p + suc k ≡ suc p + k = omega arith in
-    rw n (number_at (state_after st p u) (suc p) us k (omega arith))
+    rw n (shown_at (state_after st p u) (suc p) us k (omega arith))
 
-right-number : {set : Settings} {q : Sequence} {xs : List Segment} {us : List (List ℕ)} {c p : ℕ} {st : State} {n : ℕ} (w : PlaysRight set q xs us c p st)
-    → n ≡ shown_number (play st p (unit_at us p)) → n ≡ w.shown
-right-number w e = e ∙ ap shown_number w.answer
+right-shown : {set : Settings} {q : Sequence} {xs : List Segment} {us : List (List ℕ)} {c p : ℕ} {st : State} {a : Answer (Option ℕ)} (w : PlaysRight set q xs us c p st)
+    → a ≡ shown_of (play st p (unit_at us p)) → a ≡ accepted (some w.shown)
+right-shown w e = e ∙ ap shown_of w.answer
 
--- The number handed out for the position p, from the cue on, is what that position has to show.
+-- What is handed out for the position p, from the cue on, is what that position has to show.
 pub record ShownRight (set : Settings) (q : Sequence) (xs : List Segment) (us : List (List ℕ)) (cue p : ℕ) : Type 0 where
   pub right : PlaysRight set q xs us cue p (state_at start cue (drop (cue - 1) us) (p - cue))
-  pub number : get_or (shown_by cue us) (p - cue) 0 ≡ right.shown
+  pub shown : get_or (shown_by cue us) (p - cue) (accepted none) ≡ accepted (some right.shown)
 
 module _ {set : Settings} {xs : List Segment} {es : List Entry} {n : ℕ} {g : Given} (d : Demand set xs es n g) (us : List (List ℕ)) (w : ReadBack g.units us)
     (cue : ℕ) (m : Memᴰ cue g.cues) where
@@ -146,7 +147,7 @@ module _ {set : Settings} {xs : List Segment} {es : List Entry} {n : ℕ} {g : G
   length_back : length us ≡ n
   length_back = ap length (d.back us w) ∙ d.count
 
-  -- there is a number for each position from the cue to the last
+  -- there is an answer for each position from the cue to the last
   pub shown-count : length (shown_by cue us) ≡ n + 1 - cue
   unfolding shown_by
   shown-count = let (lo, hi) = among in shown-length (drop (cue - 1) us) start cue ∙ length-drop (cue - 1) us ∙ omega (arith, length_back)
@@ -163,5 +164,5 @@ module _ {set : Settings} {xs : List Segment} {es : List Entry} {n : ℕ} {g : G
       let u : get_or vs (p - cue) [] ≡ unit_at us p = get_or-drop (cue - 1) us (p - cue) [] ∙ ap (λ (i : ℕ). get_or us i []) j in
       record {
         right = t;
-        number = right-number t (rw (k, u) at (number_at start cue vs (p - cue) h));
+        shown = right-shown t (rw (k, u) at (shown_at start cue vs (p - cue) h));
       }

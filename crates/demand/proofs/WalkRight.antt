@@ -2,6 +2,7 @@
 use Prim.Native.Nat.{ℕ, ◌+◌, ◌-◌, ◌≤◌}
 use mathlib.Core.Path.{◌≡◌, sym, ap, subst, ◌∙◌}
 use mathlib.Core.List.{List, Memᴰ}
+use mathlib.Core.Option.{none, some}
 use mathlib.Core.Bool.{Bool, true, false, cond as pick, ◌&&◌}
 use lib.ListN.{length, get_or, take, drop}
 use lib.Dec.{leb}
@@ -26,7 +27,7 @@ use Rattle.demand.specs.Premises.{Formed, InFields}
 use Rattle.demand.specs.Demand.{PlaysRight, ReadBack, Demand3}
 use Rattle.playback.specs.Lent.{store_room}
 use Rattle.playback.specs.Gather.{gathered}
-use Rattle.playback.specs.Shown.{shown_by, from_cue}
+use Rattle.playback.specs.Shown.{Shows, shown_by, from_cue}
 use Rattle.playback.specs.Way.{PlayLent, written, carried_units, shown}
 use Rattle.playback.specs.Walk.{walk, Walks}
 use Rattle.demand.proofs.AssembleLaws.{link-made}
@@ -41,15 +42,15 @@ gathered-same : (vs : List (List ℕ)) (room : Room) (us : List (List ℕ)) → 
 unfolding gathered
 gathered-same vs room us w = picked (fits (length (stream_bytes vs)) (length vs) room) vs us 35 w
 
-from_is : (room cue : ℕ) (us : List (List ℕ)) (ls : List ℕ) → from_cue room cue us ≡ accepted ls → shown_by cue us ≡ ls
+from_is : (room cue : ℕ) (us : List (List ℕ)) (ls : Shows) → from_cue room cue us ≡ accepted ls → shown_by cue us ≡ ls
 from_is room cue us ls e = go (leb 1 cue && leb cue (length us)) e
   where
     go : (t : Bool) → pick t (pick (leb (length (shown_by cue us)) room) (accepted (shown_by cue us)) (refused 35)) (refused 36) ≡ accepted ls → shown_by cue us ≡ ls
     go true e = picked (leb (length (shown_by cue us)) room) (shown_by cue us) ls 35 e
     go false e = cc
 
--- the numbers are those of the units read back
-way-is : (c : Container) (vs : List (List ℕ)) (cue : ℕ) (d : PlayLent) (ls : List ℕ) → shown c vs cue d ≡ accepted ls → (us : List (List ℕ)) × (ReadBack vs us) × (shown_by cue us ≡ ls)
+-- the answers are those of the units read back
+way-is : (c : Container) (vs : List (List ℕ)) (cue : ℕ) (d : PlayLent) (ls : Shows) → shown c vs cue d ≡ accepted ls → (us : List (List ℕ)) × (ReadBack vs us) × (shown_by cue us ≡ ls)
 unfolding shown carried_units written
 way-is c vs cue d ls w =
     link _ _ ls w (λ us w₁ w. link _ _ us w₁ (λ bs w₂ w₃. link _ _ bs w₂ (λ gs w₄ w₅. (
@@ -70,18 +71,18 @@ unfolding overall
 of-overall (accepted x) a e = let z : x ≡ a = cc in rw z
 of-overall (refused n) a e = cc
 
--- what was handed out, and the numbers ls
-pub record WalksRight (set : Settings) (xs : List Segment) (x : Outcome Output) (cue : ℕ) (ls : List ℕ) : Type 0 where
+-- what was handed out, and the answers ls
+pub record WalksRight (set : Settings) (xs : List Segment) (x : Outcome Output) (cue : ℕ) (ls : Shows) : Type 0 where
   pub output : Output
   pub is : x ≡ made output
   pub demanded : Demand3 set xs output
   pub count : Memᴰ cue output.cues → length ls ≡ total (frames_of xs) + 1 - cue
-  -- each position from a cue on shows what it has to, in the state that the plays before it leave, and that is its number
+  -- each position from a cue on shows what it has to, in the state that the plays before it leave, and that is its answer
   pub right : Memᴰ cue output.cues → (p : ℕ) → cue ≤ p → p ≤ total (frames_of xs)
-      → (w : PlaysRight set demanded.header xs (units_of output) cue p (state_at start cue (drop (cue - 1) (units_of output)) (p - cue))) × (get_or ls (p - cue) 0 ≡ w.shown)
+      → (w : PlaysRight set demanded.header xs (units_of output) cue p (state_at start cue (drop (cue - 1) (units_of output)) (p - cue))) × (get_or ls (p - cue) (accepted none) ≡ accepted (some w.shown))
 
 module _ (c : Container) (room : OutputRoom) (set : Settings) (picture numbers : List ℕ) (xs : List Segment) (fields : InFields set) (segments : segments_of picture numbers ≡ accepted xs)
-    (formed : Formed xs) (cue : ℕ) (d : PlayLent) (ls : List ℕ) where
+    (formed : Formed xs) (cue : ℕ) (d : PlayLent) (ls : Shows) where
   walk-right : walk c cue (assemble room set picture numbers) d ≡ made ls → WalksRight set xs (assemble room set picture numbers) cue ls
   unfolding walk
   walk-right e =
@@ -95,8 +96,8 @@ module _ (c : Container) (room : OutputRoom) (set : Settings) (picture numbers :
         count = λ m. ap length (sym n) ∙ shown-count dem us w cue m;
         right = λ m p from to.
             let r = shown-right dem us w cue m p from to in
-            subst (λ (vs : List (List ℕ)). (w : PlaysRight set dem.header xs vs cue p (state_at start cue (drop (cue - 1) vs) (p - cue))) × (get_or ls (p - cue) 0 ≡ w.shown)) (dem.back us w)
-            (r.right, ap (λ (l : List ℕ). get_or l (p - cue) 0) (sym n) ∙ r.number);
+            subst (λ (vs : List (List ℕ)). (w : PlaysRight set dem.header xs vs cue p (state_at start cue (drop (cue - 1) vs) (p - cue))) × (get_or ls (p - cue) (accepted none) ≡ accepted (some w.shown))) (dem.back us w)
+            (r.right, ap (λ (l : Shows). get_or l (p - cue) (accepted none)) (sym n) ∙ r.shown);
       })
 
 -- ---- by the contract of the code
@@ -104,7 +105,7 @@ module _ (c : Container) (room : OutputRoom) (set : Settings) (picture numbers :
 same-made : {A : Type 0} (x y : A) → made x ≡ made y → x ≡ y
 same-made x y e = cc
 
--- Where the running `walk` answers Ok n, the first n numbers in its last lent slice are right.
+-- Where the running `walk` answers Ok n, the first n answers in its last lent slice are right.
 pub walked-right : (c : Container) (cue : ℕ) (picture numbers : List ℕ) (set : Settings) (r : Result ℕ Fault) (l : Both Lent Lent) (d : Both PlayLent PlayLent)
     → Walks c cue (outcome picture numbers set) r l d → (xs : List Segment) → InFields set → segments_of picture numbers ≡ accepted xs → Formed xs → (n : ℕ) → r ≡ Ok n
     → WalksRight set xs (outcome picture numbers set l.entry) cue (take n d.exit.shown)
@@ -114,5 +115,5 @@ walked-right c cue picture numbers set r l d w xs fields segments formed n is =
     link-made _ _ ls e (λ o e₂ e₃.
     let m : d.exit.shown ≡ pasted d.entry.shown 0 ls = ap (λ (y : PlayLent). y.shown) w.way ∙ rw (e₂, of-overall _ ls e₃) in
     let h : take n d.exit.shown ≡ ls = ap (take n) m ∙ pasted-front d.entry.shown ls n (sym (same-made (length ls) n e₁)) in
-    subst (λ (ns : List ℕ). WalksRight set xs (outcome picture numbers set l.entry) cue ns) (sym h)
+    subst (λ (ns : Shows). WalksRight set xs (outcome picture numbers set l.entry) cue ns) (sym h)
     (walk-right c _ set picture numbers xs fields segments formed cue d.entry ls e)))

@@ -70,7 +70,7 @@ emittable-puts q g =
 -- ---- trailing bits
 
 -- whole bytes
-pub length-trailed : (l : List ℕ) → length (trailed l) ≡ length l + (8 - length l % 8)
+length-trailed : (l : List ℕ) → length (trailed l) ≡ length l + (8 - length l % 8)
 unfolding trailed
 length-trailed l = length-append l (bits_of (trailing_width (length l)) (trailing_bits (length l))) ∙ ap (λ n. length l + n) (length-bits (trailing_width (length l)) (trailing_bits (length l)))
 

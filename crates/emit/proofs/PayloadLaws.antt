@@ -1,5 +1,5 @@
 -- A payload that was written field by field is the one that the fields have.
-use mathlib.Core.Path.{◌≡◌, refl, sym, ap, ◌∙◌}
+use mathlib.Core.Path.{◌≡◌, sym, ap, ◌∙◌}
 use Prim.Native.Nat.{ℕ, zero, suc, ◌+◌, ◌*◌, ◌-◌, ◌/◌, ◌%◌, ◌^◌, ◌≤◌, ◌<◌}
 use native.Mathlib.Omega.{arith}
 use native.Mathlib.Decide.{dec_lt}
@@ -11,21 +11,21 @@ use lib.Seq.{get_or-take, length-take-le, take_at}
 use borrow.Author.Tests.{ltb-true, eqb-true}
 use Rattle.bitio.specs.Bits.{Bytes}
 use Rattle.bitio.specs.Write.{bits_of, unpack, trailing_width, trailing_bits}
-use Rattle.bitio.proofs.UnpackLaws.{length-unpack, unpack-append}
+use Rattle.bitio.proofs.UnpackLaws.{length-bits, length-unpack, unpack-append}
 use Rattle.emittable.specs.PutFields.{put, flag_fits_or, uvlc_fits_or}
 use Rattle.emittable.specs.PutSequence.{put_opening, put_points, put_coding, put_sequence}
 use Rattle.header.specs.SequencePoints.{delay_bits, point_count}
 use Rattle.header.specs.Sequence.{Sequence}
 use Rattle.emittable.specs.Emittable.{timing_fits, opening_fits, emittable}
 use Rattle.emit.specs.Emit.{pack, trailed, sequence_bytes}
-use Rattle.emit.specs.code.WroteBits.{WroteBits}
+use Rattle.emit.specs.code.WroteBits.{Added, WroteBits}
 use Rattle.header.specs.declared.seq_header.TimingInfo.{TimingInfo}
 use Rattle.header.specs.declared.seq_header.Opening.{Opening}
 use Rattle.bitio.proofs.ParseLaws.{and_both}
 use Rattle.emittable.proofs.BackSequence.{opening_delay, opening_count}
-use Rattle.emit.proofs.EmitLaws.{size-widths, coding-size, length-trailed}
+use Rattle.emit.proofs.EmitLaws.{size-widths, coding-size, emittable-puts}
 use Rattle.emit.proofs.PackLaws.{pack-unpack}
-use Rattle.emit.proofs.WroteLaws.{wrote_then, wrote_as}
+use Rattle.emit.proofs.WroteLaws.{wrote_then}
 
 -- ---- widths of emittable fields
 
@@ -101,48 +101,52 @@ take-bytes n s b i =
           omega arith
     ]
 
-module _ (q : Sequence) {d e f : List ℕ} {p r : ℕ} (room : length d ≡ 400) (a : WroteBits d 0 e p 3141 (put_sequence q))
-    (b : WroteBits e p f r 8 (put (trailing_width p) (trailing_bits p))) (zeros : Bytes d) where
-  fields_bits : take p (unpack e) ≡ put_sequence q []
-  fields_bits = sym (append-nil (take p (unpack e))) ∙ a.adds []
+module _ (q : Sequence) (g : emittable q ≡ true) {d e f : List ℕ} {p r : ℕ} (size : length d ≡ 400) (a : WroteBits d 0 e p (put_sequence q))
+    (b : WroteBits e p f r (put (trailing_width p) (trailing_bits p))) (zeros : Bytes d) where
+  fields : Added d 0 e p (put_sequence q [])
+  fields = a.added (omega (arith, (emittable-puts q g).most))
 
-  fields-length : length (put_sequence q []) ≡ p
-  fields-length =
-      let n = length-unpack e in
-      sym (ap length fields_bits) ∙ length-take-le p (unpack e) (omega (arith, a.near, a.len))
+  trailing : put (trailing_width p) (trailing_bits p) [] ≡ bits_of (trailing_width p) (trailing_bits p)
+  unfolding put
+  trailing = append-nil (bits_of (trailing_width p) (trailing_bits p))
+
+  -- the place behind the fields
+  fields-end : p ≡ length (put_sequence q [])
+  fields-end = omega (arith, fields.place)
+
+  both : Added e p f r (bits_of (trailing_width p) (trailing_bits p))
+  both =
+      let n = length-bits (trailing_width p) (trailing_bits p) in
+      rw trailing at (b.added (rw trailing (omega (arith, (emittable-puts q g).most, fields-end, fields.len))))
 
   all-bits : take r (unpack f) ≡ trailed (put_sequence q [])
-  unfolding put trailed
+  unfolding trailed
   all-bits =
-      sym (append-nil (take r (unpack f))) ∙ b.adds [] ∙ ap (λ x. x ++ (bits_of (trailing_width p) (trailing_bits p) ++ [])) fields_bits
-      ∙ ap (λ x. put_sequence q [] ++ x) (append-nil (bits_of (trailing_width p) (trailing_bits p)))
-      ∙ ap (λ j. put_sequence q [] ++ bits_of (trailing_width j) (trailing_bits j)) (sym fields-length)
+      both.adds ∙ ap (λ x. x ++ bits_of (trailing_width p) (trailing_bits p)) fields.adds
+      ∙ ap (λ j. put_sequence q [] ++ bits_of (trailing_width j) (trailing_bits j)) fields-end
 
   all-length : r ≡ p + (8 - p % 8)
-  all-length =
-      let n = length-unpack f in
-      sym (length-take-le r (unpack f) (omega (arith, a.near, a.len, b.near, b.len))) ∙ ap length all-bits ∙ length-trailed (put_sequence q [])
-      ∙ ap (λ j. j + (8 - j % 8)) fields-length
+  all-length = both.place ∙ ap (λ n. p + n) (length-bits (trailing_width p) (trailing_bits p))
 
   -- in whole bytes
   whole : r ≡ 8 * (r / 8)
   whole = let n = all-length in omega arith
 
   within : r / 8 ≤ length f
-  within = omega (arith, a.near, a.len, b.near, b.len)
+  within = omega (arith, (emittable-puts q g).most, fields-end, fields.len, both.len, all-length)
 
   -- the payload that the fields have stands at the start
   pub payload-front : take (r / 8) f ≡ sequence_bytes q
   unfolding sequence_bytes
   payload-front =
-      sym (pack-unpack (take (r / 8) f) (take-bytes (r / 8) f (b.bytes (a.bytes zeros))))
+      sym (pack-unpack (take (r / 8) f) (take-bytes (r / 8) f (both.bytes (fields.bytes zeros))))
       ∙ ap pack (sym (take-unpack (r / 8) f within) ∙ ap (λ j. take j (unpack f)) (sym whole) ∙ all-bits)
 
   pub payload-size : r / 8 ≡ length (sequence_bytes q)
   payload-size = sym (length-take-le (r / 8) f within) ∙ ap length payload-front
 
 -- the sections, one after the other
-pub sections : (q : Sequence) {d e f g : List ℕ} {p₁ p₂ p₃ : ℕ} → WroteBits d 0 e p₁ 190 (put_opening q.header.opening) → WroteBits e p₁ f p₂ 2848 (put_points q.header.opening q.points)
-    → WroteBits f p₂ g p₃ 103 (put_coding q.header.opening.seq_profile (not q.header.opening.reduced_still_picture_header) q.header.coding) → WroteBits d 0 g p₃ 3141 (put_sequence q)
+pub sections : (q : Sequence) {d e f g : List ℕ} {p₁ p₂ p₃ : ℕ} → WroteBits d 0 e p₁ (put_opening q.header.opening) → WroteBits e p₁ f p₂ (put_points q.header.opening q.points)
+    → WroteBits f p₂ g p₃ (put_coding q.header.opening.seq_profile (not q.header.opening.reduced_still_picture_header) q.header.coding) → WroteBits d 0 g p₃ (put_sequence q)
 unfolding put_sequence
-sections q a b c = wrote_as 3141 (omega arith) (λ l. refl) (wrote_then (wrote_then a b) c)
+sections q a b c = wrote_then (wrote_then a b) c

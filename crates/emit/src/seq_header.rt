@@ -1,5 +1,5 @@
 // Emitting a sequence header.
 pub mod emit;
-pub mod emit_coding;
-pub mod emit_opening;
-pub mod payload;
+mod emit_coding;
+mod emit_opening;
+mod payload;

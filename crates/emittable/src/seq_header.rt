@@ -1,3 +1,3 @@
 // Whether a payload reads as the fields of a sequence header.
 pub mod emit_fits;
-pub mod emit_fits_coding;
+mod emit_fits_coding;

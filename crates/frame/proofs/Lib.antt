@@ -1,3 +1,4 @@
+pub mod FlagLaws
 pub mod RemovalLaws
 pub mod RefreshLaws
 pub mod FrameLaws

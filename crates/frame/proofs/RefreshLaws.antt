@@ -1,10 +1,12 @@
 -- Laws of refreshed slots: a loop that refreshes them, and how many there are.
-use Prim.Native.Nat.{ℕ, zero, suc, ◌+◌, ◌/◌, ◌%◌, ◌≤◌, ◌<◌}
+use Prim.Native.Nat.{ℕ, zero, suc, ◌+◌, ◌/◌, ◌%◌, ◌^◌, ◌≤◌, ◌<◌}
 use native.Mathlib.Omega.{arith}
 use native.Mathlib.Numerals.{add-one}
-use mathlib.Core.Path.{◌≡◌, refl, ap}
+use mathlib.Core.Path.{◌≡◌, refl, sym, ap, ◌∙◌}
 use mathlib.Core.List.{List, [], ◌∷◌}
 use lib.ListN.{length, set}
+use native.Mathlib.Nat.{pow-suc}
+use Rattle.std.proofs.Math.Nat.{div-div-eq-div-mul}
 use borrow.Author.Tests.{ne_eqb}
 use Rattle.frame.specs.Refresh.{refresh}
 
@@ -33,13 +35,17 @@ sweep-skip' i r n [] h e = absurd (omega arith)
 sweep-skip' zero r n (x ∷ l) h e = rw (ne_eqb (r % 2) 1 e)
 sweep-skip' (suc i) r n (x ∷ l) h e = ap (λ y. x ∷ y) (sweep-skip' i r n l (omega arith) e)
 
--- a slot refreshed, and one passed over
-module _ {A : Type 0} (i r : ℕ) (n : A) (l : List A) (h : i < length l) where
-  pub sweep-set : r % 2 ≡ 1 → sweep i r n l ≡ sweep (i + 1) (r / 2) n (set l i n)
-  sweep-set e = rw (add-one i) (sweep-set' i r n l h e)
+-- one bit further
+halved : (f i : ℕ) → f / 2 ^ i / 2 ≡ f / 2 ^ suc i
+halved f i = div-div-eq-div-mul f (2 ^ i) 2 ∙ ap (λ d. f / d) (sym (pow-suc 2 i))
 
-  pub sweep-skip : (r % 2 ≡ 1 → ⊥) → sweep i r n l ≡ sweep (i + 1) (r / 2) n l
-  sweep-skip e = rw (add-one i) (sweep-skip' i r n l h e)
+-- a slot refreshed, and one passed over
+module _ {A : Type 0} (i f : ℕ) (n : A) (l : List A) (h : i < length l) where
+  pub sweep-set : f / 2 ^ i % 2 ≡ 1 → sweep (i + 1) (f / 2 ^ (i + 1)) n (set l i n) ≡ sweep i (f / 2 ^ i) n l
+  sweep-set e = rw (add-one i) (sym (sweep-set' i (f / 2 ^ i) n l h e ∙ ap (λ r. sweep (suc i) r n (set l i n)) (halved f i)))
+
+  pub sweep-skip : (f / 2 ^ i % 2 ≡ 1 → ⊥) → sweep (i + 1) (f / 2 ^ (i + 1)) n l ≡ sweep i (f / 2 ^ i) n l
+  sweep-skip e = rw (add-one i) (sym (sweep-skip' i (f / 2 ^ i) n l h e ∙ ap (λ r. sweep (suc i) r n l) (halved f i)))
 
 -- as many as before
 pub length-refresh : {A : Type 0} (flags : ℕ) (new : A) (ss : List A) → length (refresh flags new ss) ≡ length ss

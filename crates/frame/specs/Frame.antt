@@ -7,13 +7,14 @@ use Rattle.syntax.specs.Syntax.{Syntax, done, field, refuse, branch, sub, read_o
 use Rattle.syntax.specs.Repeat.{times}
 use Rattle.bitio.specs.Fields.{answer_of}
 use Rattle.header.specs.SequenceCoding.{select}
-use Rattle.header.specs.Sequence.{Sequence, parse_sequence}
+use Rattle.header.specs.Sequence.{Sequence, parse_sequence, sequence_in}
 use Rattle.header.specs.Support.{has_point_info}
 use Rattle.header.specs.declared.seq_header.OperatingPoint.{OperatingPoint}
 use Rattle.header.specs.declared.seq_header.DecoderModelInfo.{DecoderModelInfo}
 use Rattle.header.specs.declared.seq_header.Opening.{Opening}
 use Rattle.header.specs.declared.seq_header.Coding.{Coding}
 use Rattle.header.specs.declared.seq_header.SequenceHeader.{SequenceHeader}
+use Rattle.header.specs.declared.seq_header.SequenceObu.{SequenceObu}
 use Rattle.frame.specs.declared.frame_header.FrameStart.{FrameStart}
 use Rattle.frame.specs.declared.frame_header.FrameModes.{FrameModes}
 use Rattle.frame.specs.declared.frame_header.FrameFront.{FrameFront}
@@ -45,6 +46,10 @@ layered temporal spatial x =
 -- how many removal times a frame header has: AV1 reads one for each such point, and nothing is kept of them here
 abbrev pub removals : (OperatingPoint → Bool) → Sequence → ℕ
 removals has q = count has q.points
+
+-- the same by the Rust's, of a header that was read
+abbrev pub removals_in : SequenceObu → ℕ
+removals_in x = removals modelled (sequence_in x)
 
 -- ---- the sections
 
@@ -78,9 +83,11 @@ frame_start strict o =
     ((eqb shown 1 && not (is_key (frame_type_of type))) || eqb showable 1)
     (all_slots (frame_type_of type) (eqb shown 1) || eqb resilient 1))))))))
 
--- the sequence header's word, or the frame's own bit where it leaves that to each frame
-abbrev pub chosen : ℕ → ℕ → Bool
-chosen force v = eqb force 1 || eqb v 1
+-- where on: the sequence header's word, or the frame's own bit where it leaves that to each frame
+abbrev pub chosen : Bool → ℕ → Syntax Bool
+chosen on force =
+    field (on && eqb force select) 1 (λ v.
+    done (on && (eqb force 1 || eqb v 1)))
 
 abbrev pub modes_of : Bool → Bool → Bool → Bool → ℕ → ℕ → FrameModes
 modes_of disable tools integer over hint primary =
@@ -97,15 +104,15 @@ modes_of disable tools integer over hint primary =
 unfoldable pub frame_modes : Coding → FrameStart → Syntax FrameModes
 frame_modes c f =
     field true 1 (λ disable.
-    field (eqb c.screen.seq_force_screen_content_tools select) 1 (λ tools.
-    field (chosen c.screen.seq_force_screen_content_tools tools && eqb c.screen.seq_force_integer_mv select) 1 (λ mv.
+    sub (chosen true c.screen.seq_force_screen_content_tools) (λ tools.
+    sub (chosen tools c.screen.seq_force_integer_mv) (λ mv.
     field (not (is_switch f.frame_type)) 1 (λ over.
     field c.tools.enable_order_hint (c.screen.order_hint_bits_minus_1 + 1) (λ hint.
     field (not (is_intra f.frame_type) && not f.error_resilient_mode) 3 (λ primary.
     done (modes_of
     (eqb disable 1)
-    (chosen c.screen.seq_force_screen_content_tools tools)
-    (is_intra f.frame_type || (chosen c.screen.seq_force_screen_content_tools tools && chosen c.screen.seq_force_integer_mv mv))
+    tools
+    (is_intra f.frame_type || mv)
     (is_switch f.frame_type || eqb over 1)
     hint
     (pick (not (is_intra f.frame_type) && not f.error_resilient_mode) primary primary_none))))))))

@@ -1,6 +1,6 @@
 // The frame header (AV1 5.9.2), up to refresh_frame_flags.
-ghost use Rattle.std.specs.Prelude.{◌≡◌, ◌<◌};
-ghost use Rattle.frame.specs.FrameType.{frame_type_of, type_number, is_key, is_intra, is_switch};
+ghost use Rattle.std.specs.Prelude.{◌≡◌};
+ghost use Rattle.frame.specs.FrameType.{frame_type_of, type_number, is_intra};
 
 pub mod read;
 pub mod sections;
@@ -8,7 +8,7 @@ pub mod sections;
 pub const PRIMARY_REF_NONE: u64 = 7;
 
 // frame_type (AV1 6.8.2).
-#[derive(Clone, Copy)]
+#[derive(Clone, Copy, PartialEq, Eq)]
 pub enum FrameType {
     Key = 0,
     Inter = 1,
@@ -17,34 +17,24 @@ pub enum FrameType {
 }
 
 impl FrameType {
-    // That of two bits.
-    pub fn of_bits(bits: u64) -> FrameType
-        ensures { result ≡ frame_type_of bits }
+    pub fn is_intra(self) -> bool
+        ensures { result ≡ is_intra self }
     {
+        matches!(self, FrameType::Key | FrameType::IntraOnly)
+    }
+}
+
+// That of two bits.
+impl From<u64> for FrameType {
+    ghost from_gives = { λ bits t. t ≡ frame_type_of bits };
+
+    fn from(bits: u64) -> FrameType {
         match bits {
             0 => FrameType::Key,
             1 => FrameType::Inter,
             2 => FrameType::IntraOnly,
             _ => FrameType::Switch,
         }
-    }
-
-    pub fn is_key(self) -> bool
-        ensures { result ≡ is_key self }
-    {
-        matches!(self, FrameType::Key)
-    }
-
-    pub fn is_switch(self) -> bool
-        ensures { result ≡ is_switch self }
-    {
-        matches!(self, FrameType::Switch)
-    }
-
-    pub fn is_intra(self) -> bool
-        ensures { result ≡ is_intra self }
-    {
-        matches!(self, FrameType::Key | FrameType::IntraOnly)
     }
 }
 

@@ -6,11 +6,10 @@ ghost use Rattle.frame.specs.Refresh.{refresh};
 pub fn refresh<T: Copy>(slots: &mut [T; 8], flags: u64, new: T)
     ensures { slots.new ≡ refresh flags new slots.old }
 {
-    let mut rest = flags;
-    for i in 0..8 {
-        if rest % 2 == 1 {
-            slots[i] = new;
+    for (i, slot) in slots.iter_mut().enumerate() {
+        let bit = (flags >> i) % 2;
+        if bit == 1 {
+            *slot = new;
         }
-        rest /= 2;
     }
 }

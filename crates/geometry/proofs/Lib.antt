@@ -1,1 +1,2 @@
 mod TileLaws
+mod IncrementLaws

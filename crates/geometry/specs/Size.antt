@@ -42,7 +42,7 @@ size_read rules over w h =
 
 -- AV1 5.9.7: what is taken of a reference
 abbrev pub slot_size : RefSlot → Size
-slot_size slot = rendered_at slot.render_width slot.render_height (plain_size slot.upscaled_width slot.frame_height)
+slot_size slot = rendered_at slot.size.render_width slot.size.render_height (plain_size slot.size.upscaled_width slot.size.frame_height)
 
 -- AV1 5.9.8 superres_params; SUPERRES_DENOM_MIN is 9
 unfoldable pub superres_params : Bool → Size → Syntax Size

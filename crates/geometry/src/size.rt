@@ -1,10 +1,10 @@
 // The size of a frame (AV1 5.9.5 to 5.9.8).
-ghost use Rattle.std.specs.Prelude.{◌≡◌, IfOk, None};
+ghost use Rattle.std.specs.Prelude.{◌≡◌, None};
 ghost use Rattle.bitio.specs.Read.{reading};
 ghost use Rattle.syntax.specs.Syntax.{run};
 ghost use Rattle.syntax.specs.Repeat.{repeat};
 ghost use Rattle.geometry.specs.Size as spec;
-ghost use Rattle.geometry.specs.code.Sizes.{SizesWithin, SizeFits};
+ghost use Rattle.geometry.specs.code.Sizes.{SizesWithin};
 
 use crate::slots;
 use crate::slots::RefSlot;
@@ -18,43 +18,50 @@ pub struct SizeRules {
     pub enable_superres: bool,
 }
 
-#[derive(Clone, Copy)]
+// 32 bits each, so that any value of the type can be scaled. The default is that of no frame.
+#[derive(Clone, Copy, Default)]
 pub struct Size {
-    pub upscaled_width: u64,
-    pub frame_width: u64,
-    pub frame_height: u64,
-    pub render_width: u64,
-    pub render_height: u64,
+    pub upscaled_width: u32,
+    pub frame_width: u32,
+    pub frame_height: u32,
+    pub render_width: u32,
+    pub render_height: u32,
+}
+
+// How a frame's size is read.
+#[derive(Clone, Copy)]
+struct Sizing {
+    rules: SizeRules,
+    // frame_size_override_flag
+    over: bool,
+    ghost within: { SizesWithin rules.largest },
 }
 
 // z: not scaled yet.
-#[tactic(auto, unfolding(syntax::specs::Syntax::run, crate::specs::Size::superres_params))]
+#[tactic(auto, unfolding(syntax::specs::Syntax::run, bitio::specs::Fields::read_flag, bitio::specs::Fields::flag_or, crate::specs::Size::superres_params))]
 fn superres_params(r: BitReader, s: &[u8], enabled: bool, z: Size) -> Read<Size>
-    requires { SizeFits z }
-    ensures read { reading result ≡ run (spec.superres_params enabled z) s.now r.pos }
-    ensures fits { IfOk result (λ x. SizeFits x.0) }
+    ensures { reading result ≡ run (spec.superres_params enabled z) s.now r.pos }
 {
-    let (scaled, r) = r.f_if(s, enabled, 1)?;
-    let (coded, r) = r.f_if(s, scaled == 1, 3)?;
-    let denom = if scaled == 1 { coded + 9 } else { 8 };
+    let (scaled, r) = r.flag_or(s, enabled, false)?;
+    let (coded, r) = r.f_if(s, scaled, 3)?;
+    let denom = if scaled { coded + 9 } else { 8 };
     let size = Size {
-        frame_width: (z.upscaled_width * 8 + denom / 2) / denom,
+        frame_width: ((u64::from(z.upscaled_width) * 8 + denom / 2) / denom) as u32,
         ..z
     };
     Ok((size, r))
 }
 
 #[tactic(auto, unfolding(syntax::specs::Syntax::run, crate::specs::Size::frame_size))]
-fn frame_size(r: BitReader, s: &[u8], rules: SizeRules, over: bool) -> Read<Size>
-    requires { SizesWithin rules.largest }
-    ensures read { reading result ≡ run (spec.frame_size rules over) s.now r.pos }
-    ensures fits { IfOk result (λ x. SizeFits x.0) }
+fn frame_size(r: BitReader, s: &[u8], sizing: Sizing) -> Read<Size>
+    ensures { reading result ≡ run (spec.frame_size sizing.rules sizing.over) s.now r.pos }
 {
-    let l = rules.largest;
+    let over = sizing.over;
+    let l = sizing.rules.largest;
     let (w, r) = r.f_if(s, over, l.frame_width_bits_minus_1 as usize + 1)?;
     let (h, r) = r.f_if(s, over, l.frame_height_bits_minus_1 as usize + 1)?;
-    let width = if over { w } else { l.max_frame_width_minus_1 } + 1;
-    let height = if over { h } else { l.max_frame_height_minus_1 } + 1;
+    let width = if over { w } else { l.max_frame_width_minus_1 } as u32 + 1;
+    let height = if over { h } else { l.max_frame_height_minus_1 } as u32 + 1;
     let z = Size {
         upscaled_width: width,
         frame_width: width,
@@ -62,37 +69,37 @@ fn frame_size(r: BitReader, s: &[u8], rules: SizeRules, over: bool) -> Read<Size
         render_width: width,
         render_height: height,
     };
-    superres_params(r, s, rules.enable_superres, z)
+    superres_params(r, s, sizing.rules.enable_superres, z)
 }
 
-#[tactic(auto, unfolding(syntax::specs::Syntax::run, crate::specs::Size::render_size))]
+#[tactic(auto, unfolding(syntax::specs::Syntax::run, bitio::specs::Fields::read_flag, bitio::specs::Fields::flag_or, crate::specs::Size::render_size))]
 fn render_size(r: BitReader, s: &[u8], z: Size) -> Read<Size>
-    requires { SizeFits z }
-    ensures read { reading result ≡ run (spec.render_size z) s.now r.pos }
-    ensures fits { IfOk result (λ x. SizeFits x.0) }
+    ensures { reading result ≡ run (spec.render_size z) s.now r.pos }
 {
-    let (differs, r) = r.f(s, 1)?;
-    let (w, r) = r.f_if(s, differs == 1, 16)?;
-    let (h, r) = r.f_if(s, differs == 1, 16)?;
+    let (differs, r) = r.flag(s)?;
+    let (w, r) = r.f_if(s, differs, 16)?;
+    let (h, r) = r.f_if(s, differs, 16)?;
     let size = Size {
-        render_width: if differs == 1 {
-            w + 1
+        render_width: if differs {
+            w as u32 + 1
         } else {
             z.upscaled_width
         },
-        render_height: if differs == 1 { h + 1 } else { z.frame_height },
+        render_height: if differs {
+            h as u32 + 1
+        } else {
+            z.frame_height
+        },
         ..z
     };
     Ok((size, r))
 }
 
 #[tactic(auto, unfolding(syntax::specs::Syntax::run, crate::specs::Size::frame_and_render_size))]
-fn frame_and_render_size(r: BitReader, s: &[u8], rules: SizeRules, over: bool) -> Read<Size>
-    requires { SizesWithin rules.largest }
-    ensures read { reading result ≡ run (spec.frame_and_render_size rules over) s.now r.pos }
-    ensures fits { IfOk result (λ x. SizeFits x.0) }
+fn frame_and_render_size(r: BitReader, s: &[u8], sizing: Sizing) -> Read<Size>
+    ensures { reading result ≡ run (spec.frame_and_render_size sizing.rules sizing.over) s.now r.pos }
 {
-    let (z, r) = frame_size(r, s, rules, over)?;
+    let (z, r) = frame_size(r, s, sizing)?;
     render_size(r, s, z)
 }
 
@@ -102,8 +109,8 @@ fn found_ref(r: BitReader, s: &[u8], refs: [u64; 7]) -> Read<Option<u64>>
 {
     let mut reader = r;
     for slot in refs {
-        let (found, r) = reader.f(s, 1)?;
-        if found == 1 {
+        let (found, r) = reader.flag(s)?;
+        if found {
             return Ok((Some(slot), r));
         }
         reader = r;
@@ -112,15 +119,11 @@ fn found_ref(r: BitReader, s: &[u8], refs: [u64; 7]) -> Read<Option<u64>>
 }
 
 fn slot_size(slot: RefSlot) -> Size
-    ensures gives { result ≡ spec.slot_size slot }
-    ensures fits { SizeFits result }
+    ensures { result ≡ spec.slot_size slot }
 {
     Size {
-        upscaled_width: slot.upscaled_width as u64,
-        frame_width: slot.upscaled_width as u64,
-        frame_height: slot.frame_height as u64,
-        render_width: slot.render_width as u64,
-        render_height: slot.render_height as u64,
+        frame_width: slot.size.upscaled_width,
+        ..slot.size
     }
 }
 
@@ -128,22 +131,19 @@ fn slot_size(slot: RefSlot) -> Size
 fn frame_size_with_refs(
     r: BitReader,
     s: &[u8],
-    rules: SizeRules,
-    over: bool,
+    sizing: Sizing,
     refs: [u64; 7],
     slots: &[RefSlot; 8],
 ) -> Read<Size>
-    requires { SizesWithin rules.largest }
-    ensures read { reading result ≡ run (spec.frame_size_with_refs rules over refs slots.now) s.now r.pos }
-    ensures fits { IfOk result (λ x. SizeFits x.0) }
+    ensures { reading result ≡ run (spec.frame_size_with_refs sizing.rules sizing.over refs slots.now) s.now r.pos }
 {
     let (found, r) = found_ref(r, s, refs)?;
     match found {
         Some(slot) => {
             let z = slot_size(slots::slot_at(slots, slot));
-            superres_params(r, s, rules.enable_superres, z)
+            superres_params(r, s, sizing.rules.enable_superres, z)
         }
-        None => frame_and_render_size(r, s, rules, over),
+        None => frame_and_render_size(r, s, sizing),
     }
 }
 
@@ -159,12 +159,12 @@ pub fn frame_geometry(
     slots: &[RefSlot; 8],
 ) -> Read<Size>
     requires { SizesWithin rules.largest }
-    ensures read { reading result ≡ run (spec.frame_geometry rules over by_refs refs slots.now) s.now r.pos }
-    ensures fits { IfOk result (λ x. SizeFits x.0) }
+    ensures { reading result ≡ run (spec.frame_geometry rules over by_refs refs slots.now) s.now r.pos }
 {
+    let sizing = Sizing { rules, over };
     if by_refs {
-        frame_size_with_refs(r, s, rules, over, refs, slots)
+        frame_size_with_refs(r, s, sizing, refs, slots)
     } else {
-        frame_and_render_size(r, s, rules, over)
+        frame_and_render_size(r, s, sizing)
     }
 }

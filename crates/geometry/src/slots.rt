@@ -2,15 +2,13 @@
 ghost use Rattle.std.specs.Prelude.{◌≡◌, get_or};
 ghost use Rattle.geometry.specs.Slots as spec;
 
-// 32 bits, so that any value of the type can be scaled. The default is a slot that holds no frame.
+use crate::size::Size;
+
+// The default is a slot that holds no frame.
 #[derive(Clone, Copy, Default)]
 pub struct RefSlot {
     pub order_hint: u64,
-    pub upscaled_width: u32,
-    pub frame_width: u32,
-    pub frame_height: u32,
-    pub render_width: u32,
-    pub render_height: u32,
+    pub size: Size,
     pub is_key_frame: bool,
 }
 

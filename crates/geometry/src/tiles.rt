@@ -1,10 +1,8 @@
 // tile_info (AV1 5.9.15), of which nothing is kept.
-ghost use Rattle.std.specs.Prelude.{◌≡◌, ◌≤◌, ◌^◌, ◌/◌, max, IfOk};
+ghost use Rattle.std.specs.Prelude.{◌≡◌, ◌≤◌, ◌^◌, IfOk};
 ghost use Rattle.bitio.specs.Read.{reading};
 ghost use Rattle.syntax.specs.Syntax.{run};
 ghost use Rattle.geometry.specs.Tiles as spec;
-ghost use Rattle.geometry.specs.code.Sizes.{SizeFits};
-ghost use Rattle.geometry.specs.code.Tiles.{LimitsFit, LogsFit};
 
 use crate::size::Size;
 use crate::tile_limits;
@@ -23,27 +21,26 @@ pub struct Tiles {
 
 #[derive(Clone, Copy)]
 pub struct TileLogs {
-    pub cols_log2: u64,
-    pub rows_log2: u64,
+    pub cols_log2: u32,
+    pub rows_log2: u32,
 }
 
-fn increments(r: BitReader, s: &[u8], least: u64, most: u64) -> Read<u64>
-    requires { (least ≤ 52) × (most ≤ 52) }
-    ensures read { reading result ≡ run (spec.increments least most) s.now r.pos }
-    ensures few { IfOk result (λ x. x.0 ≤ 104) }
+fn increments(r: BitReader, s: &[u8], least: u32, most: u32) -> Read<u32>
+    ensures { reading result ≡ run (spec.increments least most) s.now r.pos }
 {
     let mut reader = r;
-    let mut log2 = least;
-    for i in 0..most.saturating_sub(least) {
-        let (b, r) = reader.f_if(s, log2 == least + i, 1)?;
-        log2 += b;
+    for log2 in least..most {
+        let (more, r) = reader.flag(s)?;
+        if !more {
+            return Ok((log2, r));
+        }
         reader = r;
     }
-    Ok((log2, reader))
+    Ok((least.max(most), reader))
 }
 
-fn tile_sizes(r: BitReader, s: &[u8], sbs: u64, most: u64) -> Read<Tiles>
-    requires { (sbs ≤ 2 ^ 26) × (1 ≤ most) }
+fn tile_sizes(r: BitReader, s: &[u8], sbs: u32, most: u64) -> Read<Tiles>
+    requires { 1 ≤ most }
     ensures read { reading result ≡ run (spec.tile_sizes sbs most) s.now r.pos }
     ensures few { IfOk result (λ x. x.0.count ≤ sbs) }
 {
@@ -53,14 +50,14 @@ fn tile_sizes(r: BitReader, s: &[u8], sbs: u64, most: u64) -> Read<Tiles>
         widest_sb: 0,
         count: 0,
     };
-    while t.start_sb < sbs {
-        let (size_minus_1, r) = near::ns(reader, s, (sbs - t.start_sb).min(most))?;
+    let end = sbs as u64;
+    // kept: AV1's own loop, which goes on by what was read
+    while t.start_sb < end {
+        let (size_minus_1, r) = near::ns(reader, s, (end - t.start_sb).min(most))?;
         let size_sb = size_minus_1 + 1;
-        t = Tiles {
-            start_sb: t.start_sb + size_sb,
-            widest_sb: t.widest_sb.max(size_sb),
-            count: t.count + 1,
-        };
+        t.start_sb += size_sb;
+        t.widest_sb = t.widest_sb.max(size_sb);
+        t.count += 1;
         reader = r;
     }
     Ok((t, reader))
@@ -68,9 +65,7 @@ fn tile_sizes(r: BitReader, s: &[u8], sbs: u64, most: u64) -> Read<Tiles>
 
 #[tactic(auto, unfolding(syntax::specs::Syntax::run, crate::specs::Tiles::uniform_tiles))]
 fn uniform_tiles(r: BitReader, s: &[u8], l: TileLimits) -> Read<TileLogs>
-    requires { LimitsFit l }
-    ensures read { reading result ≡ run (spec.uniform_tiles l) s.now r.pos }
-    ensures fits { IfOk result (λ x. LogsFit x.0) }
+    ensures { reading result ≡ run (spec.uniform_tiles l) s.now r.pos }
 {
     let (cols_log2, r) = increments(r, s, l.min_log2_tile_cols, l.max_log2_tile_cols)?;
     let least = l.min_log2_tiles.saturating_sub(cols_log2);
@@ -86,9 +81,8 @@ fn uniform_tiles(r: BitReader, s: &[u8], l: TileLimits) -> Read<TileLogs>
 
 #[tactic(auto, unfolding(syntax::specs::Syntax::run, crate::specs::Tiles::explicit_tiles))]
 fn explicit_tiles(r: BitReader, s: &[u8], l: TileLimits) -> Read<TileLogs>
-    requires { LimitsFit l }
-    ensures read { reading result ≡ run (spec.explicit_tiles l) s.now r.pos }
-    ensures fits { IfOk result (λ x. LogsFit x.0) }
+    requires { 1 ≤ l.max_tile_width_sb }
+    ensures { reading result ≡ run (spec.explicit_tiles l) s.now r.pos }
 {
     let (cols, r) = tile_sizes(r, s, l.sb_cols, l.max_tile_width_sb)?;
     if cols.widest_sb == 0 {
@@ -105,9 +99,8 @@ fn explicit_tiles(r: BitReader, s: &[u8], l: TileLimits) -> Read<TileLogs>
 
 #[tactic(auto, unfolding(syntax::specs::Syntax::run, crate::specs::Tiles::tile_logs))]
 fn tile_logs(r: BitReader, s: &[u8], uniform: bool, l: TileLimits) -> Read<TileLogs>
-    requires { LimitsFit l }
-    ensures read { reading result ≡ run (spec.tile_logs uniform l) s.now r.pos }
-    ensures fits { IfOk result (λ x. LogsFit x.0) }
+    requires { 1 ≤ l.max_tile_width_sb }
+    ensures { reading result ≡ run (spec.tile_logs uniform l) s.now r.pos }
 {
     if uniform {
         uniform_tiles(r, s, l)
@@ -116,16 +109,19 @@ fn tile_logs(r: BitReader, s: &[u8], uniform: bool, l: TileLimits) -> Read<TileL
     }
 }
 
-#[tactic(auto, unfolding(syntax::specs::Syntax::run, crate::specs::Tiles::tile_info))]
+#[tactic(auto, unfolding(syntax::specs::Syntax::run, bitio::specs::Fields::read_flag, bitio::specs::Fields::flag_or, crate::specs::Tiles::tile_info))]
 pub fn tile_info(r: BitReader, s: &[u8], z: Size, use_128x128: bool) -> Read<()>
-    requires { SizeFits z }
     ensures { reading result ≡ run (spec.tile_info z use_128x128) s.now r.pos }
 {
     let l = tile_limits::tile_limits(z, use_128x128);
-    let (uniform, r) = r.f(s, 1)?;
-    let (logs, r) = tile_logs(r, s, uniform == 1, l)?;
+    let (uniform, r) = r.flag(s)?;
+    let (logs, r) = tile_logs(r, s, uniform, l)?;
     let several = logs.cols_log2 > 0 || logs.rows_log2 > 0;
-    let (_id, r) = r.f_if(s, several, (logs.cols_log2 + logs.rows_log2) as usize)?;
+    let (_id, r) = r.f_if(
+        s,
+        several,
+        logs.cols_log2 as usize + logs.rows_log2 as usize,
+    )?;
     let (_bytes, r) = r.f_if(s, several, 2)?;
     Ok(((), r))
 }

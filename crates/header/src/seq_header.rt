@@ -3,14 +3,16 @@
 // emit can have any, which are refused (36) where no payload reads so; an Option could not hold them
 ghost use Rattle.std.specs.Prelude.{◌≡◌, take, min, length};
 ghost use Rattle.header.specs.SequencePoints.{point_count};
+ghost use Rattle.header.specs.SequenceCoding.{srgb, range_coded, sampled, sampling_coded};
 
+pub mod bounded;
 pub mod check;
 pub mod read;
-pub mod read_coding;
-pub mod read_color;
-pub mod read_opening;
-pub mod read_points;
-pub mod read_tools;
+mod read_coding;
+mod read_color;
+mod read_opening;
+mod read_points;
+mod read_tools;
 pub mod timing;
 
 // timing_info (AV1 5.5.3), and whether it is there.
@@ -118,6 +120,38 @@ pub struct ColorDescription {
     pub color_primaries: u64,
     pub transfer_characteristics: u64,
     pub matrix_coefficients: u64,
+}
+
+impl ColorDescription {
+    // CP_BT_709, TC_SRGB and MC_IDENTITY, for which later syntax has cases of its own.
+    pub fn is_srgb(self) -> bool
+        ensures { result ≡ srgb self }
+    {
+        self.color_primaries == 1
+            && self.transfer_characteristics == 13
+            && self.matrix_coefficients == 0
+    }
+
+    // color_range is in the bits.
+    pub fn is_range_coded(self) -> bool
+        ensures { result ≡ range_coded self }
+    {
+        self.mono_chrome || !self.is_srgb()
+    }
+
+    // Subsampling goes by the profile.
+    pub fn is_sampled(self) -> bool
+        ensures { result ≡ sampled self }
+    {
+        !self.mono_chrome && !self.is_srgb()
+    }
+
+    // Subsampling is in the bits.
+    pub fn is_sampling_coded(self, profile: u64) -> bool
+        ensures { result ≡ sampling_coded profile self }
+    {
+        self.is_sampled() && profile == 2 && self.twelve_bit
+    }
 }
 
 // color_config (AV1 5.5.2), from color_range on. sRGB implies a full color_range.

@@ -11,9 +11,10 @@ use lib.Dec.{leb}
 use borrow.Author.Tests.{le-leb, lt-leb}
 use Rattle.bitio.specs.Lent.{pasted, Wrote}
 use Rattle.bitio.proofs.LentLaws.{pasted-nil, pasted-more, wrote-length, wrote-more}
+use Rattle.assemble.specs.Listed.{unit_in}
+use Rattle.assemble.specs.declared.unit.UnitList.{UnitList}
 use Rattle.listing.specs.Decimal.{decimal, field, counted}
-use Rattle.listing.specs.Text.{letter, slot_field, line, lines, units_word, cues_word, refused_word, segment_word, refused_text, refused_in_text, listing, unit_in, line_in, lines_in, listing_in}
-use Rattle.listing.specs.declared.text.Units.{Units}
+use Rattle.listing.specs.Text.{letter, slot_field, line, lines, units_word, cues_word, refused_word, segment_word, refused_text, refused_in_text, listing, line_in, lines_in, listing_in}
 
 -- ---- lengths
 
@@ -23,7 +24,7 @@ length_field n last = length-append (decimal n) (last ∷ [])
 pub length_counted : (word : List ℕ) (n last : ℕ) → length (counted word n last) ≡ length word + (length (decimal n) + 1)
 length_counted word n last = length-append word (field n last) ∙ ap (λ (k : ℕ). length word + k) (length_field n last)
 
-module _ (u : Units) (p n : ℕ) where
+module _ (u : UnitList) (p n : ℕ) where
   abbrev unit_length : ℕ
   unit_length = length (unit_in u n)
 
@@ -58,99 +59,99 @@ module _ (u : Units) (p n : ℕ) where
 
 -- ---- all lines
 
-module _ (u : Units) (list : List ℕ) where
+module _ (u : UnitList) where
   -- the lines of the units from i on, the first unit being 0
   abbrev pub lines_behind : ℕ → List ℕ
-  lines_behind i = lines u.pictures.now u.ends.now u.shows.now (suc i) (drop i list)
+  lines_behind i = lines u.pictures.now u.ends.now u.shows.now (suc i) (drop i u.list.now)
 
   abbrev pub line_of : ℕ → List ℕ
-  line_of i = line_in u (i + 1) (get_or list i 0)
+  line_of i = line_in u (i + 1) (get_or u.list.now i 0)
 
-  behind_more : (i : ℕ) → i < length list → lines_behind i ≡ line_of i ++ lines_behind (i + 1)
+  behind_more : (i : ℕ) → i < length u.list.now → lines_behind i ≡ line_of i ++ lines_behind (i + 1)
   unfolding lines
-  behind_more i h = rw (drop-cons list i 0 h, add-one i)
+  behind_more i h = rw (drop-cons u.list.now i 0 h, add-one i)
 
-  behind_length : (i : ℕ) → i < length list → length (lines_behind i) ≡ length (line_of i) + length (lines_behind (i + 1))
+  behind_length : (i : ℕ) → i < length u.list.now → length (lines_behind i) ≡ length (line_of i) + length (lines_behind (i + 1))
   behind_length i h = ap length (behind_more i h) ∙ length-append (line_of i) (lines_behind (i + 1))
 
-  behind_none : (i : ℕ) → length list ≤ i → lines_behind i ≡ []
+  behind_none : (i : ℕ) → length u.list.now ≤ i → lines_behind i ≡ []
   unfolding lines
-  behind_none i h = rw (drop_of_length-le list h)
+  behind_none i h = rw (drop_of_length-le u.list.now h)
 
   -- i lines fit, and so much room is left
   pub record Fitting (room i left : ℕ) : Type 0 where
-    pub within : i ≤ length list
+    pub within : i ≤ length u.list.now
     pub over : left + length (lines_behind 0) ≡ room + length (lines_behind i)
 
   -- i lines are written: what stands there, with what is left, is the whole
   pub record Lining (d₀ : List ℕ) (at : ℕ) (d : List ℕ) (i to : ℕ) : Type 0 where
-    pub within : i ≤ length list
+    pub within : i ≤ length u.list.now
     pub kept : length d ≡ length d₀
     pub place : to + length (lines_behind i) ≡ at + length (lines_behind 0)
     pub same : pasted d to (lines_behind i) ≡ pasted d₀ at (lines_behind 0)
 
-module _ {u : Units} {list : List ℕ} {room i left : ℕ} (f : Fitting u list room i left) where
+module _ {u : UnitList} {room i left : ℕ} (f : Fitting u room i left) where
   abbrev whole_text : ℕ
-  whole_text = length (lines_behind u list 0)
+  whole_text = length (lines_behind u 0)
 
-  pub fit_end : length list ≤ i → true ≡ leb whole_text room
+  pub fit_end : length u.list.now ≤ i → true ≡ leb whole_text room
   fit_end h =
-      let z = ap length (behind_none u list i h) in
+      let z = ap length (behind_none u i h) in
       sym (le-leb whole_text room (omega (arith, f.over, z)))
 
-  module _ (n : ℕ) (h : i < length list) (e : n ≡ length (line_of u list i)) where
+  module _ (n : ℕ) (h : i < length u.list.now) (e : n ≡ length (line_of u i)) where
     pub fit_over : left < n → false ≡ leb whole_text room
-    fit_over k = sym (lt-leb whole_text room (omega (arith, f.over, behind_length u list i h)))
+    fit_over k = sym (lt-leb whole_text room (omega (arith, f.over, behind_length u i h)))
 
-    pub fit_turn : n ≤ left → Fitting u list room (i + 1) (left - n)
-    fit_turn k = record { within = omega arith; over = omega (arith, f.over, behind_length u list i h) }
+    pub fit_turn : n ≤ left → Fitting u room (i + 1) (left - n)
+    fit_turn k = record { within = omega arith; over = omega (arith, f.over, behind_length u i h) }
 
-module _ {u : Units} {list d₀ : List ℕ} {at : ℕ} {d : List ℕ} {i to : ℕ} (l : Lining u list d₀ at d i to) where
+module _ {u : UnitList} {d₀ : List ℕ} {at : ℕ} {d : List ℕ} {i to : ℕ} (l : Lining u d₀ at d i to) where
   abbrev all : List ℕ
-  all = lines_behind u list 0
+  all = lines_behind u 0
 
   abbrev rest : List ℕ
-  rest = lines_behind u list (i + 1)
+  rest = lines_behind u (i + 1)
 
   abbrev here : List ℕ
-  here = line_of u list i
+  here = line_of u i
 
-  pub lining_end : length list ≤ i → Wrote d₀ at all to d
+  pub lining_end : length u.list.now ≤ i → Wrote d₀ at all to d
   lining_end h =
-      let z = behind_none u list i h in
+      let z = behind_none u i h in
       record { next = omega (arith, l.place, ap length z); out = sym (pasted-nil d to) ∙ ap (pasted d to) (sym z) ∙ l.same }
 
-  module _ (h : i < length list) (room : at + length all ≤ length d₀) where
+  module _ (h : i < length u.list.now) (room : at + length all ≤ length d₀) where
     pub lining_room : to + length here ≤ length d
-    lining_room = omega (arith, l.place, l.kept, behind_length u list i h)
+    lining_room = omega (arith, l.place, l.kept, behind_length u i h)
 
-    pub lining_turn : {d' : List ℕ} {t : ℕ} → Wrote d to here t d' → Lining u list d₀ at d' (i + 1) t
+    pub lining_turn : {d' : List ℕ} {t : ℕ} → Wrote d to here t d' → Lining u d₀ at d' (i + 1) t
     lining_turn {d'} {t} w =
         record {
           within = omega arith;
           kept = wrote-length w lining_room ∙ l.kept;
-          place = omega (arith, l.place, w.next, behind_length u list i h);
+          place = omega (arith, l.place, w.next, behind_length u i h);
           same =
               ap₂ (λ (m : List ℕ) (k : ℕ). pasted m k rest) w.out w.next ∙ pasted-more d to here (omega (arith, lining_room)) rest
-              ∙ ap (pasted d to) (sym (behind_more u list i h)) ∙ l.same;
+              ∙ ap (pasted d to) (sym (behind_more u i h)) ∙ l.same;
         }
 
 -- ---- the listing
 
-module _ (list : List ℕ) (cues : ℕ) (u : Units) where
-  pub listing_length : length (listing_in list cues u) ≡ length (decimal (length list)) + length (decimal cues) + 13 + length (lines_in u list)
+module _ (cues : ℕ) (u : UnitList) where
+  pub listing_length : length (listing_in cues u) ≡ length (decimal (length u.list.now)) + length (decimal cues) + 13 + length (lines_in u)
   unfolding listing
   listing_length =
       let b = counted cues_word cues 10 in
-      let l = lines_in u list in
-      omega (arith, length-append (counted units_word (length list) 10) (b ++ l), length-append b l, length_counted units_word (length list) 10, length_counted cues_word cues 10)
+      let l = lines_in u in
+      omega (arith, length-append (counted units_word (length u.list.now) 10) (b ++ l), length-append b l, length_counted units_word (length u.list.now) 10, length_counted cues_word cues 10)
 
-  pub listing_wrote : {d d₁ d₂ d₃ : List ℕ} {m₁ m₂ r : ℕ} → length (listing_in list cues u) ≤ length d → Wrote d 0 (counted units_word (length list) 10) m₁ d₁
-      → Wrote d₁ m₁ (counted cues_word cues 10) m₂ d₂ → Wrote d₂ m₂ (lines_in u list) r d₃ → Wrote d 0 (listing_in list cues u) r d₃
+  pub listing_wrote : {d d₁ d₂ d₃ : List ℕ} {m₁ m₂ r : ℕ} → length (listing_in cues u) ≤ length d → Wrote d 0 (counted units_word (length u.list.now) 10) m₁ d₁
+      → Wrote d₁ m₁ (counted cues_word cues 10) m₂ d₂ → Wrote d₂ m₂ (lines_in u) r d₃ → Wrote d 0 (listing_in cues u) r d₃
   unfolding listing
   listing_wrote {d} {d₁} room w₁ w₂ w₃ =
       let a = listing_length in
-      let u₁ = length_counted units_word (length list) 10 in
+      let u₁ = length_counted units_word (length u.list.now) 10 in
       let k₁ : length d₁ ≡ length d = wrote-length w₁ (omega arith) in
       wrote-more w₁ (omega arith) (wrote-more w₂ (omega (arith, w₁.next)) w₃)
 

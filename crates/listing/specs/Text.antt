@@ -1,11 +1,14 @@
 -- The text that boardlist prints (01, 'Unit list and cue list'), in ASCII codes.
 use Rattle.std.specs.Prelude.{ℕ, suc, ◌+◌, ◌*◌, ◌/◌, ◌%◌, List, [], ◌∷◌, ◌++◌, cond as pick, length, get_or, eqb}
 use Rattle.std.proofs.Math.Option.{Option, none, some}
+use Rattle.bitio.specs.Refusal.{number}
 use Rattle.pictures.specs.Assemble.{named}
+use Rattle.pictures.specs.Says.{segment_says}
+use Rattle.pictures.specs.declared.fault.Fault.{Fault}
+use Rattle.assemble.specs.declared.unit.UnitList.{UnitList}
 use Rattle.listing.specs.Decimal.{field, counted}
 use Rattle.listing.specs.declared.file.Unread.{Unread}
 use Rattle.listing.specs.declared.file.Unread.TheVariants.{Bad, Full}
-use Rattle.listing.specs.declared.text.Units.{Units}
 
 -- ---- a unit's line
 
@@ -73,21 +76,22 @@ abbrev pub stopped_text : ℕ → Option ℕ → List ℕ
 stopped_text k none = refused_text k
 stopped_text k (some i) = refused_in_text k i
 
+-- the same of why assembly refuses
+abbrev pub fault_text : Fault → List ℕ
+fault_text f = stopped_text (number f.refusal) (segment_says f.segment)
+
 -- why a file was not read; 35: no room for its segments
 abbrev pub unread_text : Unread → List ℕ
 unread_text Bad = bad_file
 unread_text Full = refused_text 35
 
--- ---- the same of all units' bytes in one struct
+-- ---- the same of a list's units
 
-abbrev pub unit_in : Units → ℕ → List ℕ
-unit_in u n = named u.pictures.now u.ends.now u.shows.now n
-
-abbrev pub line_in : Units → ℕ → ℕ → List ℕ
+abbrev pub line_in : UnitList → ℕ → ℕ → List ℕ
 line_in u p n = line u.pictures.now u.ends.now u.shows.now p n
 
-abbrev pub lines_in : Units → List ℕ → List ℕ
-lines_in u list = lines u.pictures.now u.ends.now u.shows.now 1 list
+abbrev pub lines_in : UnitList → List ℕ
+lines_in u = lines u.pictures.now u.ends.now u.shows.now 1 u.list.now
 
-abbrev pub listing_in : List ℕ → ℕ → Units → List ℕ
-listing_in list cues u = listing list cues u.pictures.now u.ends.now u.shows.now
+abbrev pub listing_in : ℕ → UnitList → List ℕ
+listing_in cues u = listing u.list.now cues u.pictures.now u.ends.now u.shows.now

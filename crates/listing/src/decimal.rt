@@ -1,4 +1,7 @@
 // Decimal numbers as text, put into lent memory whose room is known.
+// kept: each function answers the place behind what it puts. The new form is no plainer: tried with a page that holds the lent
+// slice and the place, its methods, each around a function here, and what they promise are 50 lines, for the places that the
+// bodies of put_slot, put_line, put_lines and put_listing no longer hand on; and put_line then has to answer its room piece by piece
 ghost use Rattle.std.specs.Prelude.{◌≡◌, ◌+◌, ◌≤◌, length};
 ghost use Rattle.bitio.specs.Lent.{Wrote};
 ghost use Rattle.listing.specs.Decimal.{decimal, field, counted};

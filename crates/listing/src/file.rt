@@ -93,7 +93,7 @@ fn units_len(file: &[u8], from: usize, count: usize) -> u64
     let mut sum: u64 = 0;
     for i in 0..count {
         let at = from + 16 * i;
-        sum += read_u32(file, at) as u64 + read_u32(file, at + 4) as u64;
+        sum += u64::from(read_u32(file, at)) + u64::from(read_u32(file, at + 4));
     }
     sum
 }
@@ -144,8 +144,8 @@ fn put_segment(numbers: &mut [u64], i: usize, file: &[u8], from: usize, start: u
     ensures value { (result ≡ segment_end file.now from start) × (result < start + 2 ^ 33) }
     ensures numbers_after { numbers.new ≡ pasted numbers.old (width * i) (segment_numbers file.now from start) }
 {
-    let key = start + read_u32(file, from) as u64;
-    let golden = key + read_u32(file, from + 4) as u64;
+    let key = start + u64::from(read_u32(file, from));
+    let golden = key + u64::from(read_u32(file, from + 4));
     let frames = read_u64(file, from + 8);
     put_record(
         numbers,

@@ -1,4 +1,5 @@
 pub mod Obu
 pub mod Place
 pub mod Unit
+pub mod Walk
 pub mod Write

@@ -1,8 +1,9 @@
 // The OBU at a position of lent bytes (AV1 5.3.1 to 5.3.3).
-ghost use Rattle.std.specs.Prelude.{◌≡◌, ◌≤◌, length, drop};
+ghost use Rattle.std.specs.Prelude.{◌≡◌, ◌-◌, ◌≤◌, length, drop};
 ghost use Rattle.obu.specs.Obu.{passes, sized_body};
-ghost use Rattle.obu.specs.Place.{extension_says, place_of, obu_place, found_says, obu_says, part};
+ghost use Rattle.obu.specs.Place.{extension_says, place_of, obu_place, found_says, obu_says, part, part_in};
 
+use bitio::ends::{end_of, start_of};
 use bitio::refusal::Refusal;
 
 #[derive(Clone, Copy)]
@@ -15,6 +16,22 @@ pub struct Obu {
     pub start: usize,
     // where it ends, and the next OBU starts
     pub end: usize,
+}
+
+impl Obu {
+    // Its payload, of the bytes that it was read from.
+    pub fn payload(self, s: &[u8]) -> &[u8]
+        ensures { result.now ≡ part s.now self.start self.end }
+    {
+        payload(s, self.start, self.end)
+    }
+
+    // How many bytes the payload has.
+    pub fn size(self) -> usize
+        ensures { result ≡ self.end - self.start }
+    {
+        self.end.saturating_sub(self.start)
+    }
 }
 
 // 01: the types 0 to 8 and 15.
@@ -90,4 +107,11 @@ pub fn payload(s: &[u8], start: usize, end: usize) -> &[u8]
     } else {
         &s[..0]
     }
+}
+
+// Part i of bytes whose parts lie one behind the other, each with its end in `ends`.
+pub fn part_in<'a>(s: &'a [u8], ends: &[u32], i: usize) -> &'a [u8]
+    ensures { result.now ≡ part_in s.now ends.now i }
+{
+    payload(s, start_of(ends, i), end_of(ends, i))
 }

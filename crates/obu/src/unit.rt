@@ -5,7 +5,8 @@ ghost use Rattle.bitio.specs.Refusal.{says};
 ghost use Rattle.obu.specs.Obu.{obus};
 ghost use Rattle.obu.specs.Unit.{is_type, is_kind, count, first_payload, last_payload, located_obus, sought, sought_says, payload_found, stray_in, of_unit};
 
-use crate::reader::{Obu, obu_at, payload};
+use crate::obus::Obus;
+use crate::reader::{Obu, obu_at};
 use bitio::refusal::Refusal;
 
 #[derive(Clone, Copy)]
@@ -34,13 +35,11 @@ pub fn is_type(k: Kind, t: u8) -> bool
 pub fn count_obus(s: &[u8], k: Kind) -> Result<usize, Refusal>
     ensures { says result ≡ answer (count (is_kind k)) (obus s.now) }
 {
-    let mut at: usize = 0;
     let mut n: usize = 0;
-    while let Some(o) = obu_at(s, at)? {
-        if is_type(k, o.obu_type) {
+    for found in Obus::new(s) {
+        if is_type(k, found?.obu_type) {
             n += 1;
         }
-        at = o.end;
     }
     Ok(n)
 }
@@ -49,13 +48,12 @@ pub fn count_obus(s: &[u8], k: Kind) -> Result<usize, Refusal>
 pub fn find_obu(s: &[u8], k: Kind, last: bool) -> Result<Option<Obu>, Refusal>
     ensures { sought_says s.now result ≡ answer (sought last (λ o. is_kind k o.obu)) (located_obus s.now) }
 {
-    let mut at: usize = 0;
     let mut kept: Option<Obu> = None;
-    while let Some(o) = obu_at(s, at)? {
+    for found in Obus::new(s) {
+        let o = found?;
         if (last | kept.is_none()) & is_type(k, o.obu_type) {
             kept = Some(o);
         }
-        at = o.end;
     }
     Ok(kept)
 }
@@ -65,7 +63,7 @@ fn payload_of(s: &[u8], found: Result<Option<Obu>, Refusal>) -> &[u8]
     ensures { result.now ≡ payload_found (sought_says s.now found) }
 {
     match found {
-        Ok(Some(o)) => payload(s, o.start, o.end),
+        Ok(Some(o)) => o.payload(s),
         _ => &s[..0],
     }
 }

@@ -15,7 +15,7 @@ use Rattle.obu.specs.Unit.{stray_in, of_unit}
 use Rattle.obu.proofs.ObuLaws.{obus-item}
 use Rattle.obu.specs.Place.{Place, no_more, wrong, lies, obu_place}
 use Rattle.obu.proofs.PlaceLaws.{Placed, is-placed, walk_start, walk_end, walk-stop}
-use Rattle.container.specs.Stream.{others, end_of}
+use Rattle.container.specs.Stream.{others, behind_obu}
 use Rattle.packets.specs.Packets.{canonical, canonical_of}
 use Rattle.bitio.specs.Limits.{limit, capped}
 use Rattle.container.specs.Limits.{bytes_room, fits}
@@ -43,13 +43,13 @@ split_at {s} {o} {a} {b} p x os q = go (obus (drop b s)) refl (sym (obus-item s 
         (rw (← i) (range-one (placed-step p)), range-from s p.within (e ∙ ap accepted j))
 
 -- a unit that parses and has an OBU has one at its start
-pub split-first : (s : List ℕ) → Split s (end_of 0 (obu_place s 0))
+pub split-first : (s : List ℕ) → Split s (behind_obu 0 (obu_place s 0))
 split-first s = go (obu_place s 0) refl
   where
     none : (x : Answer (List Obu)) → obus s ≡ x → ((o : Obu) (os : List Obu) → x ≡ accepted (o ∷ os) → ⊥) → Split s 0
     none x e n o os q = absurd (n o os (sym e ∙ q))
 
-    go : (x : Place) → obu_place s 0 ≡ x → Split s (end_of 0 x)
+    go : (x : Place) → obu_place s 0 ≡ x → Split s (behind_obu 0 x)
     go no_more e = none (accepted []) (walk_end (walk_start s) e) (λ o os q. let z : ◌≡◌ {A = ℕ} 0 1 = cc in omega arith)
     go (wrong k) e = none (refused k) (walk-stop (walk_start s) k e) (λ o os q. let z : ◌≡◌ {A = ℕ} 0 1 = cc in omega arith)
     go (lies t x a b) e = split_at (is-placed s 0 e).placed
@@ -86,7 +86,7 @@ pub record Parted (u : List ℕ) (mid : ℕ) : Type 0 where
   pub front : Range u 0 mid (it.o ∷ [])
   pub back : Range u mid (length u) it.os
 
-pub parted : (u : List ℕ) {mid : ℕ} → of_unit false stray_in (obus u) ≡ true → mid ≡ end_of 0 (obu_place u 0) → Parted u mid
+pub parted : (u : List ℕ) {mid : ℕ} → of_unit false stray_in (obus u) ≡ true → mid ≡ behind_obu 0 (obu_place u 0) → Parted u mid
 parted u e m =
     let t = stray u e in
     let r = split-first u t.o t.os t.reads in
@@ -134,9 +134,9 @@ module _ {u : List ℕ} {mid : ℕ} (p : Parted u mid) where
 -- ---- the outcomes
 
 module _ (u d : List ℕ) where
-  pub canon-long : limit < length u → (refused 34 ≡ count_of (canonical_at (bytes_room (length d)) u)) × (d ≡ out_after (canonical_at (bytes_room (length d)) u) d)
+  pub canon-long : {k : ℕ} → (limit < length u) × (k ≡ 34) → (refused k ≡ count_of (canonical_at (bytes_room (length d)) u)) × (d ≡ out_after (canonical_at (bytes_room (length d)) u) d)
   unfolding canonical_at
-  canon-long l = let e = lt-leb (length u) limit l in (rw e, rw e)
+  canon-long (l, q) = let e = lt-leb (length u) limit l in (rw (e, q), rw e)
 
   module _ (short : length u ≤ limit) (bs : List ℕ) (same : canonical u ≡ bs) where
     pub canon-roomless : fits (length bs) 0 (bytes_room (length d)) ≡ false → (refused 35 ≡ count_of (canonical_at (bytes_room (length d)) u)) × (d ≡ out_after (canonical_at (bytes_room (length d)) u) d)

@@ -19,8 +19,10 @@ use Rattle.packets.specs.Packets.{Packet, alone, merge_packets}
 use Rattle.container.specs.Units.{ends_of}
 use Rattle.packets.specs.PacketLists.{bytes_of, times_of}
 use Rattle.bitio.specs.Every.{Every}
-use Rattle.packets.specs.code.PacketRuns.{listed, piece, Parses, Waits, Next, Piece, PieceRoom, packets_of, merged_of, Totals, Closing, MergeRoom, Ready, WroteMerged}
-use Rattle.packets.proofs.PacketListLaws.{listed-length, packets-bytes, packets-times, packets-short}
+use Rattle.container.specs.Lists.{listed}
+use Rattle.packets.specs.code.PacketRuns.{piece, Parses, Waits, Next, Piece, PieceRoom, packets_of, merged_of, Totals, Closing, MergeRoom, Ready, WroteMerged}
+use Rattle.container.proofs.ListLaws.{listed-length}
+use Rattle.packets.proofs.PacketListLaws.{packets-bytes, packets-times, packets-short}
 use Rattle.packets.proofs.PacketSteps.{length-bytes_of, step-more, step-last}
 
 -- ---- lists of packets, one more
@@ -156,9 +158,6 @@ module _ {s es ts : List ℕ} {first at : ℕ} {done : List Packet} (m : Done s 
   module _ (l : first < length ts) where
     now-next : Next (listed s es) first at × (at < length es)
     now-next = m.next (omega (arith, m.match))
-
-    pub done_at : at < length es
-    done_at = now-next.1
 
     module _ {d b : ℕ} (n : Next (listed s es) (at + 1) d) (e : b ≡ pick (ltb d (length ts)) (at + 1) (length ts)) where
       t : Turn s es ts first at d b

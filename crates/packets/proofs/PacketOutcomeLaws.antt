@@ -12,7 +12,6 @@ use Rattle.bitio.proofs.LentLaws.{pasted-nil, pasted-one}
 use Rattle.bitio.proofs.ParseLaws.{and_both}
 use Rattle.obu.specs.Obu.{unit_bytes}
 use Rattle.bitio.specs.Limits.{limit, capped}
-use Rattle.container.specs.Lists.{accepts}
 use Rattle.container.specs.Stream.{flat, stream_bytes}
 use Rattle.packets.specs.Packets.{Packet}
 use Rattle.bitio.specs.Lent.{Wrote}
@@ -20,13 +19,15 @@ use Rattle.container.specs.Units.{units_at, ends_of, sizes_of, bytes_after, ends
 use Rattle.std.specs.Prelude.{Result, Ok, Err}
 use Rattle.bitio.specs.Refusal.{number, says}
 use Rattle.bitio.specs.declared.refusal.Refusal.{Refusal}
-use Rattle.bitio.specs.declared.refusal.Refusal.TheVariants.{InputTooLong, NoRoom, NotAList}
+use Rattle.bitio.specs.declared.refusal.Refusal.TheVariants.{NoRoom, NotAList}
 use Rattle.container.specs.declared.units.Sizes.{Sizes}
 use Rattle.packets.specs.PacketLists.{packets_at, bytes_of, times_of, PacketRoom, lent_room, fits_packets, fit_packets, merged_at, times_after}
-use Rattle.packets.specs.code.PacketRuns.{listed, all_parsed, Next, Full, Run, RunRoom, packets_of, merged_of, Totals, Closing, MergeRoom, WroteMerged, Given, NoneCloses, OneCloses, Outcome}
+use Rattle.container.specs.Lists.{listed}
+use Rattle.packets.specs.code.PacketRuns.{all_parsed, Next, Full, Run, RunRoom, packets_of, merged_of, Totals, Closing, MergeRoom, WroteMerged, Given, NoneCloses, OneCloses, Outcome}
 use Rattle.packets.proofs.RoomLaws.{fits-capped}
 use Rattle.packets.proofs.SliceLaws.{slice-rest}
-use Rattle.packets.proofs.PacketListLaws.{listed-length, packets-bytes, packets-times, packets-unmatched, packets-wrong, packets-there}
+use Rattle.container.proofs.ListLaws.{listed-length}
+use Rattle.packets.proofs.PacketListLaws.{packets-bytes, packets-times, packets-unmatched, packets-wrong, packets-there}
 use Rattle.packets.proofs.PacketSteps.{length-bytes_of, alone-some, alone-none}
 use Rattle.packets.proofs.PacketRunLaws.{run_bytes}
 use Rattle.packets.proofs.PacketMergeLaws.{all-parse}
@@ -60,22 +61,22 @@ module _ (s es ts o e t : List ℕ) where
   refuse : (r : Refusal) → merged_at (lent_room o e t) s es ts ≡ refused (number r) → Outcome s es ts o e t (Err r) o e t
   refuse r q = record { answers = rw q; bytes = rw q; ends = rw q; times = rw q }
 
-  at_long : limit < length s → merged_at (lent_room o e t) s es ts ≡ refused 34
+  at_long : {k : ℕ} → (limit < length s) × (k ≡ 34) → merged_at (lent_room o e t) s es ts ≡ refused k
   unfolding merged_at and_next
-  at_long l = rw (lt-leb (length s) limit l)
+  at_long (l, q) = rw (lt-leb (length s) limit l, q)
 
-  at-36 : length s ≤ limit → packets_at s es ts ≡ refused 36 → merged_at (lent_room o e t) s es ts ≡ refused 36
+  at_none : {k : ℕ} → length s ≤ limit → packets_at s es ts ≡ refused k → merged_at (lent_room o e t) s es ts ≡ refused k
   unfolding merged_at and_next
-  at-36 l q = rw (le-leb (length s) limit l, q)
+  at_none l q = rw (le-leb (length s) limit l, q)
 
-  pub out-long : limit < length s → Outcome s es ts o e t (Err InputTooLong) o e t
-  out-long l = refuse InputTooLong (at_long l)
+  pub out-long : (r : Refusal) → (limit < length s) × (number r ≡ 34) → Outcome s es ts o e t (Err r) o e t
+  out-long r l = refuse r (at_long l)
 
   pub out-unmatched : length s ≤ limit → (length es ≡ length ts → ⊥) → Outcome s es ts o e t (Err NotAList) o e t
-  out-unmatched l n = refuse NotAList (at-36 l (packets-unmatched s es ts n))
+  out-unmatched l n = refuse NotAList (at_none l (packets-unmatched s es ts n))
 
-  pub out-wrong : length s ≤ limit → length es ≡ length ts → accepts (units_at s es) ≡ false → Outcome s es ts o e t (Err NotAList) o e t
-  out-wrong l m r = refuse NotAList (at-36 l (packets-wrong s es ts m r))
+  pub out-wrong : (r : Refusal) → length s ≤ limit → length es ≡ length ts → units_at s es ≡ refused (number r) → Outcome s es ts o e t (Err r) o e t
+  out-wrong r l m q = refuse r (at_none l (packets-wrong s es ts m q))
 
   module _ (g : Given s es ts) where
     at-fit : merged_at (lent_room o e t) s es ts ≡ fit_packets (lent_room o e t) (merged_of s es ts)

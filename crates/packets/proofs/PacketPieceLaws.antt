@@ -19,9 +19,10 @@ use Rattle.container.specs.Stream.{lead, others, either}
 use Rattle.container.specs.code.Ranges.{Range, here, more, kept_bytes}
 use Rattle.container.proofs.StreamLaws.{bytes-append}
 use Rattle.container.proofs.RangeLaws.{range-end}
-use Rattle.packets.specs.code.PacketRuns.{listed, unit_of, all_parsed, parsed, lead_of, piece, Parses, Full, Run, RunRoom, HeadAt, found, missing, LeadAt, waiting, closing, behind, parses_unit, Piece, Joins}
+use Rattle.container.specs.Lists.{listed, unit_of}
+use Rattle.packets.specs.code.PacketRuns.{all_parsed, parsed, lead_of, piece, Parses, Full, Run, RunRoom, HeadAt, found, missing, LeadAt, waiting, closing, behind, parses_unit, Piece, Joins}
 use Rattle.packets.proofs.SliceLaws.{slice_at, every-or}
-use Rattle.packets.proofs.PacketListLaws.{listed-length, listed-short}
+use Rattle.container.proofs.ListLaws.{listed-length, listed-short}
 use Rattle.packets.proofs.PacketSteps.{first-obu, lead-found, lead-missing}
 use Rattle.packets.proofs.PacketRunLaws.{lead-empty, run_bytes, parsed-append}
 

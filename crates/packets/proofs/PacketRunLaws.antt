@@ -19,10 +19,11 @@ use Rattle.container.specs.Stream.{others}
 use Rattle.container.specs.code.Ranges.{Range, here, kept_bytes, Ranged, Measured, Roomy, WroteKept}
 use Rattle.container.proofs.StreamLaws.{bytes-append}
 use Rattle.container.proofs.RangeLaws.{placed-step, range-one, range-whole, kept-nil}
-use Rattle.packets.specs.code.PacketRuns.{listed, unit_of, all_parsed, parsed, lead_at, lead_of, Parses, Run}
+use Rattle.container.specs.Lists.{listed, unit_of}
+use Rattle.packets.specs.code.PacketRuns.{all_parsed, parsed, lead_at, lead_of, Parses, Run}
 use Rattle.packets.proofs.SliceLaws.{slice-more, slice-join, slice_at, every-at, every-seam}
 use Rattle.container.proofs.LeadLaws.{others-append}
-use Rattle.packets.proofs.PacketListLaws.{listed-length, listed-short}
+use Rattle.container.proofs.ListLaws.{listed-length, listed-short}
 
 -- ---- the delimiter at the head
 

@@ -1,2 +1,3 @@
 pub mod Canonical
 pub mod PacketRuns
+pub mod Walk

@@ -10,9 +10,9 @@ ghost use Rattle.packets.specs.PacketLists.{bytes_of, lent_room, merged_at, time
 use crate::packets::canonical::{clean_unit, copy_unit};
 use crate::packets::lists::Packets;
 use crate::packets::merge::{merge_none, merge_some};
-use bitio::limits::LIMIT;
+use bitio::limits::check_limit;
 use bitio::refusal::Refusal;
-use container::lists::check_ends;
+use container::lists::Units;
 use container::units::Sizes;
 use obu::unit::has_stray_delimiter;
 
@@ -21,6 +21,7 @@ mod lists;
 mod merge;
 mod pieces;
 mod runs;
+mod walk;
 
 // Joins packets without a frame to their neighbours: the bytes to out, the end of each packet to out_ends, its time to
 // out_times. A refusal changes nothing.
@@ -37,17 +38,12 @@ pub fn merge_frameless_packets(
     ensures ends { out_ends.new ≡ ends_after (answer bytes_of (merged_at (lent_room out.old out_ends.old out_times.old) packets.now packet_ends.now times.now)) out_ends.old }
     ensures times { out_times.new ≡ times_after (merged_at (lent_room out.old out_ends.old out_times.old) packets.now packet_ends.now times.now) out_times.old }
 {
-    if packets.len() > LIMIT {
-        return Err(Refusal::InputTooLong);
-    }
-    if packet_ends.len() != times.len() || !check_ends(packets, packet_ends) {
+    check_limit(packets)?;
+    if packet_ends.len() != times.len() {
         return Err(Refusal::NotAList);
     }
-    let all = Packets {
-        bytes: packets,
-        ends: packet_ends,
-        times,
-    };
+    let units = Units::new(packets, packet_ends)?;
+    let all = Packets { units, times };
     let c = all.next_close(0);
     if c >= times.len() {
         return merge_none(all, out, out_ends, out_times);
@@ -57,13 +53,12 @@ pub fn merge_frameless_packets(
 
 // A unit without the delimiters behind its first place: written anew if there is one, else copied, as is a unit that
 // does not parse. A refusal changes nothing.
+#[tactic(auto, using(bitio::proofs::LimitLaws::limit_kept))]
 pub fn canonicalize_tu(unit: &[u8], out: &mut [u8]) -> Result<usize, Refusal>
     ensures answer { says result ≡ count_of (canonical_at (bytes_room (length out.old)) unit.now) }
     ensures out { out.new ≡ out_after (canonical_at (bytes_room (length out.old)) unit.now) out.old }
 {
-    if unit.len() > LIMIT {
-        return Err(Refusal::InputTooLong);
-    }
+    check_limit(unit)?;
     if has_stray_delimiter(unit) {
         return clean_unit(unit, out);
     }

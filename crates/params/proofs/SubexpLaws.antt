@@ -9,8 +9,10 @@ use lib.Dec.{eqb}
 use lib.Pow.{pow_mono}
 use borrow.Author.Tests.{eqb-true, le-leb, lt-leb}
 use Rattle.bitio.specs.Bits.{Reading, fails, reads, and_then, read_bits}
+use Rattle.bitio.specs.Fields.{read_flag}
 use Rattle.syntax.specs.Syntax.{run}
 use Rattle.syntax.specs.Near.{ns}
+use Rattle.syntax.proofs.FlagLaws.{flag_then}
 use Rattle.params.specs.Motion.{subexp_bits, decode_subexp}
 
 -- the number behind a width of bits
@@ -19,7 +21,7 @@ plus mk x = and_then x (λ v q. reads (v + mk) q)
 
 -- a turn that is not the last: one more, or the rest of so many bits
 abbrev pub turned : List ℕ → ℕ → ℕ → (ℕ → Reading ℕ) → ℕ → Reading ℕ
-turned s b mk more p = and_then (read_bits s p 1) (λ x q. pick (eqb x 1) (more q) (plus mk (read_bits s q b)))
+turned s b mk more p = and_then (read_flag s p) (λ goes_on q. pick goes_on (more q) (plus mk (read_bits s q b)))
 
 as_is : (x : Reading ℕ) → and_then x (λ v q. reads v q) ≡ x
 as_is (fails k) = refl
@@ -40,8 +42,9 @@ module _ (s : List ℕ) (n i mk p k : ℕ) where
       → turned s (subexp_bits i) mk (λ q. run (decode_subexp k n (i + 1) (mk + 2 ^ subexp_bits i)) s q) p ≡ run (decode_subexp (suc k) n i mk) s p
   unfolding run decode_subexp
   one_turn h =
-      rw (lt-leb _ _ h)
-      (sym (flat (λ x q. pick (eqb x 1) (run (decode_subexp k n (i + 1) (mk + 2 ^ subexp_bits i)) s q) (plus mk (read_bits s q (subexp_bits i)))) (read_bits s p 1)))
+      let then : Bool → ℕ → Reading ℕ =
+      λ more q. pick more (run (decode_subexp k n (i + 1) (mk + 2 ^ subexp_bits i)) s q) (plus mk (read_bits s q (subexp_bits i))) in
+      flag_then s p then ∙ rw (lt-leb _ _ h) (sym (flat (λ v q. then (eqb v 1) q) (read_bits s p 1)))
 
 bits_up : (i : ℕ) → i + 2 ≤ subexp_bits i
 bits_up i = by-test (eqb i 0) refl
@@ -84,11 +87,11 @@ module _ {s : List ℕ} {n p₀ i mk p : ℕ} (t : Turn s n p₀ i mk p) {b : �
 module _ {n : ℕ} (most : n ≤ 16384) (s : List ℕ) where
   -- a turn, if those behind it come to the same
   same_turn : (b mk p : ℕ) {f g : ℕ → Reading ℕ} → ((q : ℕ) → f q ≡ g q) → turned s b mk f p ≡ turned s b mk g p
-  same_turn b mk p {f} {g} e = by-reading (read_bits s p 1)
+  same_turn b mk p {f} {g} e = by-reading (read_flag s p)
     where
-      by-reading : (x : Reading ℕ) → and_then x (λ x q. pick (eqb x 1) (f q) (plus mk (read_bits s q b))) ≡ and_then x (λ x q. pick (eqb x 1) (g q) (plus mk (read_bits s q b)))
+      by-reading : (x : Reading Bool) → and_then x (λ more q. pick more (f q) (plus mk (read_bits s q b))) ≡ and_then x (λ more q. pick more (g q) (plus mk (read_bits s q b)))
       by-reading (fails j) = refl
-      by-reading (reads v q) = ap (λ (w : Reading ℕ). pick (eqb v 1) w (plus mk (read_bits s q b))) (e q)
+      by-reading (reads more q) = ap (λ (w : Reading ℕ). pick more w (plus mk (read_bits s q b))) (e q)
 
   -- one more turn, where it changes nothing behind this one
   more_behind : (k i mk p : ℕ)

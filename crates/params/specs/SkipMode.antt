@@ -1,5 +1,5 @@
 -- AV1 5.9.22 skip_mode_params.
-use Rattle.std.specs.Prelude.{ℕ, ◌+◌, ◌-◌, ◌%◌, ◌^◌, List, Bool, true, false, ◌&&◌, ◌||◌, cond as pick, leb, ltb, Option, Some, None}
+use Rattle.std.specs.Prelude.{ℕ, eqb, ◌+◌, ◌-◌, ◌%◌, ◌^◌, List, Bool, true, false, ◌&&◌, ◌||◌, cond as pick, leb, ltb, Option, Some, None}
 use Rattle.std.specs.List.{fold, list_any}
 use Rattle.syntax.specs.Syntax.{Syntax, done, field}
 use Rattle.params.specs.declared.skip.OrderHints.{OrderHints}
@@ -40,8 +40,12 @@ has_second bits frame refs (Some nearest) =
 unfoldable pub skip_mode_allowed : ℕ → ℕ → List ℕ → Bool
 skip_mode_allowed bits frame refs = has_second bits frame refs (forward bits frame refs)
 
--- AV1 5.9.22. on: an inter frame with reference_select, and order hints. order_hint_bits_minus_1 has three bits
-unfoldable pub skip_mode_params : Bool → OrderHints → Syntax ℕ
+-- OrderHintBits; order_hint_bits_minus_1 has three bits
+abbrev pub hint_bits : OrderHints → ℕ
+hint_bits o = o.order_hint_bits_minus_1 % 8 + 1
+
+-- AV1 5.9.22. on: an inter frame with reference_select, and order hints
+unfoldable pub skip_mode_params : Bool → OrderHints → Syntax Bool
 skip_mode_params on o =
-    field (on && skip_mode_allowed (o.order_hint_bits_minus_1 % 8 + 1) o.order_hint o.refs) 1 (λ present.
-    done present)
+    field (on && skip_mode_allowed (hint_bits o) o.order_hint o.refs) 1 (λ present.
+    done (eqb present 1))

@@ -2,10 +2,10 @@
 ghost use Rattle.std.specs.Prelude.{◌≡◌};
 ghost use Rattle.bitio.specs.Read.{reading};
 ghost use Rattle.syntax.specs.Syntax.{run};
-ghost use Rattle.syntax.specs.Repeat.{times};
 ghost use Rattle.params.specs.Cdef as spec;
 
 use bitio::reader::{BitReader, Read};
+use syntax::turns::times;
 
 #[tactic(auto, unfolding(syntax::specs::Syntax::run, crate::specs::Cdef::strengths))]
 fn strengths(r: BitReader, s: &[u8], color: bool) -> Read<()>
@@ -18,16 +18,6 @@ fn strengths(r: BitReader, s: &[u8], color: bool) -> Read<()>
     Ok(((), r))
 }
 
-fn all_strengths(r: BitReader, s: &[u8], color: bool, n: usize) -> Read<()>
-    ensures { reading result ≡ run (times n (spec.strengths color)) s.now r.pos }
-{
-    let mut reader = r;
-    for _ in 0..n {
-        (_, reader) = strengths(reader, s, color)?;
-    }
-    Ok(((), reader))
-}
-
 // on: neither lossless nor intra block copy, and enable_cdef; color: more than one plane.
 #[tactic(auto, unfolding(syntax::specs::Syntax::run, crate::specs::Cdef::cdef_params))]
 pub fn cdef_params(r: BitReader, s: &[u8], on: bool, color: bool) -> Read<()>
@@ -36,5 +26,5 @@ pub fn cdef_params(r: BitReader, s: &[u8], on: bool, color: bool) -> Read<()>
     let (_damping, r) = r.f_if(s, on, 2)?;
     let (bits, r) = r.f_if(s, on, 2)?;
     let n = if on { 1usize << bits } else { 0 };
-    all_strengths(r, s, color, n)
+    times(r, n, |r| strengths(r, s, color))
 }

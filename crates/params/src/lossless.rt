@@ -10,9 +10,10 @@ fn index_is_zero(base_q_idx: u64, alt_q: u64) -> bool
     ensures { result ≡ eqb (spec.qindex sign_magnitude base_q_idx alt_q) 0 }
 {
     if alt_q < 256 {
-        return base_q_idx == 0 && alt_q == 0;
+        base_q_idx == 0 && alt_q == 0
+    } else {
+        base_q_idx <= alt_q - 256
     }
-    base_q_idx <= alt_q - 256
 }
 
 // Zero has two forms of seven bits.

@@ -2,11 +2,11 @@
 ghost use Rattle.std.specs.Prelude.{◌≡◌, ◌≤◌, ◌+◌};
 ghost use Rattle.bitio.specs.Read.{reading};
 ghost use Rattle.syntax.specs.Syntax.{run};
-ghost use Rattle.syntax.specs.Repeat.{times};
 ghost use Rattle.params.specs.Motion as spec;
 
 use bitio::reader::{BitReader, Read};
 use syntax::near;
+use syntax::turns::times;
 
 // How many numbers lie from - 2^bits to 2^bits: GM_ABS_ALPHA_BITS and GM_ABS_TRANS_BITS are 12, GM_ABS_TRANS_ONLY_BITS is 9,
 // one less without allow_high_precision_mv.
@@ -41,8 +41,8 @@ fn decode_subexp(r: BitReader, s: &[u8], n: u64) -> Read<u64>
             let (v, r) = near::ns(reader, s, n - mk)?;
             return Ok((v + mk, r));
         }
-        let (more, r) = reader.f(s, 1)?;
-        if more != 1 {
+        let (more, r) = reader.flag(s)?;
+        if !more {
             let (v, r) = r.f(s, b2)?;
             return Ok((v + mk, r));
         }
@@ -66,14 +66,12 @@ fn read_global_param(r: BitReader, s: &[u8], on: bool, n: u64) -> Read<u64>
 }
 
 // The parameters of a reference that has motion. fine: allow_high_precision_mv.
-#[tactic(auto, unfolding(syntax::specs::Syntax::run, crate::specs::Motion::gm_params))]
+#[tactic(auto, unfolding(syntax::specs::Syntax::run, bitio::specs::Fields::read_flag, bitio::specs::Fields::flag_or, crate::specs::Motion::gm_params))]
 fn gm_params(r: BitReader, s: &[u8], fine: bool) -> Read<()>
     ensures { reading result ≡ run (spec.gm_params fine) s.now r.pos }
 {
-    let (rot_zoom, r) = r.f(s, 1)?;
-    let is_rot_zoom = rot_zoom == 1;
-    let (translation, r) = r.f_if(s, !is_rot_zoom, 1)?;
-    let is_translation = translation == 1;
+    let (is_rot_zoom, r) = r.flag(s)?;
+    let (is_translation, r) = r.flag_or(s, !is_rot_zoom, false)?;
     let (_p2, r) = read_global_param(r, s, !is_translation, NUMBERS_12)?;
     let (_p3, r) = read_global_param(r, s, !is_translation, NUMBERS_12)?;
     let is_affine = !(is_rot_zoom || is_translation);
@@ -90,27 +88,16 @@ fn gm_params(r: BitReader, s: &[u8], fine: bool) -> Read<()>
 }
 
 // One reference.
-#[tactic(auto, unfolding(syntax::specs::Syntax::run, crate::specs::Motion::motion))]
+#[tactic(auto, unfolding(syntax::specs::Syntax::run, bitio::specs::Fields::read_flag, bitio::specs::Fields::flag_or, crate::specs::Motion::motion))]
 fn motion(r: BitReader, s: &[u8], fine: bool) -> Read<()>
     ensures { reading result ≡ run (spec.motion fine) s.now r.pos }
 {
-    let (global, r) = r.f(s, 1)?;
-    if global == 1 {
+    let (is_global, r) = r.flag(s)?;
+    if is_global {
         gm_params(r, s, fine)
     } else {
         Ok(((), r))
     }
-}
-
-// Those of the first n references.
-fn motions(r: BitReader, s: &[u8], fine: bool, n: usize) -> Read<()>
-    ensures { reading result ≡ run (times n (spec.motion fine)) s.now r.pos }
-{
-    let mut reader = r;
-    for _ in 0..n {
-        (_, reader) = motion(reader, s, fine)?;
-    }
-    Ok(((), reader))
 }
 
 // on: the frame is no intra frame.
@@ -118,5 +105,6 @@ fn motions(r: BitReader, s: &[u8], fine: bool, n: usize) -> Read<()>
 pub fn global_motion_params(r: BitReader, s: &[u8], on: bool, fine: bool) -> Read<()>
     ensures { reading result ≡ run (spec.global_motion_params on fine) s.now r.pos }
 {
-    motions(r, s, fine, if on { 7 } else { 0 })
+    let n = if on { 7 } else { 0 };
+    times(r, n, |r| motion(r, s, fine))
 }

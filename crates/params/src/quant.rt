@@ -18,39 +18,39 @@ pub struct Quantizer {
 }
 
 // read_delta_q (AV1 5.9.13) where on.
-#[tactic(auto, unfolding(syntax::specs::Syntax::run, crate::specs::Quantization::read_delta_q))]
+#[tactic(auto, unfolding(syntax::specs::Syntax::run, bitio::specs::Fields::read_flag, bitio::specs::Fields::flag_or, crate::specs::Quantization::read_delta_q))]
 pub(crate) fn read_delta_q(r: BitReader, s: &[u8], on: bool) -> Read<u64>
     ensures read { reading result ≡ run (spec.read_delta_q on) s.now r.pos }
     ensures fits { IfOk result (λ x. x.0 < 128) }
 {
-    let (coded, r) = r.f_if(s, on, 1)?;
-    r.f_if(s, coded == 1, 7)
+    let (coded, r) = r.flag_or(s, on, false)?;
+    r.f_if(s, coded, 7)
 }
 
 // color: more than one plane; apart: separate_uv_delta_q.
-#[tactic(auto, unfolding(syntax::specs::Syntax::run, crate::specs::Quantization::quantization_params))]
+#[tactic(auto, unfolding(syntax::specs::Syntax::run, bitio::specs::Fields::read_flag, bitio::specs::Fields::flag_or, crate::specs::Quantization::quantization_params))]
 pub fn quantization_params(r: BitReader, s: &[u8], color: bool, apart: bool) -> Read<Quantizer>
     ensures read { reading result ≡ run (spec.quantization_params color apart) s.now r.pos }
     ensures fits { IfOk result (λ x. spec.Ranged x.0) }
 {
     let (base_q_idx, r) = r.f(s, 8)?;
     let (delta_q_y_dc, r) = read_delta_q(r, s, true)?;
-    let (diff, r) = r.f_if(s, color && apart, 1)?;
+    let (diff, r) = r.flag_or(s, color && apart, false)?;
     let (delta_q_u_dc, r) = read_delta_q(r, s, color)?;
     let (delta_q_u_ac, r) = read_delta_q(r, s, color)?;
-    let (v_dc, r) = read_delta_q(r, s, diff == 1)?;
-    let (v_ac, r) = read_delta_q(r, s, diff == 1)?;
-    let (matrix, r) = r.f(s, 1)?;
-    let (_qm_y, r) = r.f_if(s, matrix == 1, 4)?;
-    let (_qm_u, r) = r.f_if(s, matrix == 1, 4)?;
-    let (_qm_v, r) = r.f_if(s, matrix == 1 && apart, 4)?;
+    let (v_dc, r) = read_delta_q(r, s, diff)?;
+    let (v_ac, r) = read_delta_q(r, s, diff)?;
+    let (matrix, r) = r.flag(s)?;
+    let (_qm_y, r) = r.f_if(s, matrix, 4)?;
+    let (_qm_u, r) = r.f_if(s, matrix, 4)?;
+    let (_qm_v, r) = r.f_if(s, matrix && apart, 4)?;
     let q = Quantizer {
         base_q_idx,
         delta_q_y_dc,
         delta_q_u_dc,
         delta_q_u_ac,
-        delta_q_v_dc: if diff == 1 { v_dc } else { delta_q_u_dc },
-        delta_q_v_ac: if diff == 1 { v_ac } else { delta_q_u_ac },
+        delta_q_v_dc: if diff { v_dc } else { delta_q_u_dc },
+        delta_q_v_ac: if diff { v_ac } else { delta_q_u_ac },
     };
     Ok((q, r))
 }

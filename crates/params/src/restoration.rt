@@ -18,7 +18,7 @@ pub struct Restoration {
     pub subsampled: bool,
 }
 
-#[tactic(auto, unfolding(syntax::specs::Syntax::run, crate::specs::Restoration::lr_params))]
+#[tactic(auto, unfolding(syntax::specs::Syntax::run, bitio::specs::Fields::read_flag, bitio::specs::Fields::flag_or, crate::specs::Restoration::lr_params))]
 pub fn lr_params(r: BitReader, s: &[u8], x: Restoration) -> Read<()>
     ensures { reading result ≡ run (spec.lr_params x) s.now r.pos }
 {
@@ -27,8 +27,8 @@ pub fn lr_params(r: BitReader, s: &[u8], x: Restoration) -> Read<()>
     let (v, r) = r.f_if(s, x.on && x.color, 2)?;
     let uses_chroma_lr = !(u == 0 && v == 0);
     let uses_lr = y != 0 || uses_chroma_lr;
-    let (shift, r) = r.f_if(s, uses_lr, 1)?;
-    let (_extra, r) = r.f_if(s, shift == 1 && !x.use_128x128_superblock, 1)?;
-    let (_uv_shift, r) = r.f_if(s, x.subsampled && uses_chroma_lr, 1)?;
+    let (shift, r) = r.flag_or(s, uses_lr, false)?;
+    let (_extra, r) = r.flag_or(s, shift && !x.use_128x128_superblock, false)?;
+    let (_uv_shift, r) = r.flag_or(s, x.subsampled && uses_chroma_lr, false)?;
     Ok(((), r))
 }

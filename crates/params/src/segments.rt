@@ -1,17 +1,18 @@
 // segmentation_params (AV1 5.9.14), of which SEG_LVL_ALT_Q of each segment is kept, as its nine bits stand; 0 where it is not enabled.
-ghost use Rattle.std.specs.Prelude.{◌≡◌, ◌≤◌};
+ghost use Rattle.std.specs.Prelude.{◌≡◌};
 ghost use Rattle.bitio.specs.Read.{reading};
 ghost use Rattle.syntax.specs.Syntax.{run};
 ghost use Rattle.params.specs.Segmentation as spec;
 
 use bitio::reader::{BitReader, Read};
+use syntax::turns::array_if;
 
-#[tactic(auto, unfolding(syntax::specs::Syntax::run, crate::specs::Segmentation::feature))]
+#[tactic(auto, unfolding(syntax::specs::Syntax::run, bitio::specs::Fields::read_flag, bitio::specs::Fields::flag_or, crate::specs::Segmentation::feature))]
 fn feature(r: BitReader, s: &[u8], bits: usize) -> Read<u64>
     ensures { reading result ≡ run (spec.feature bits) s.now r.pos }
 {
-    let (enabled, r) = r.f(s, 1)?;
-    r.f_if(s, enabled == 1, bits)
+    let (enabled, r) = r.flag(s)?;
+    r.f_if(s, enabled, bits)
 }
 
 // The eight features of a segment, of which SEG_LVL_ALT_Q is kept.
@@ -30,32 +31,15 @@ fn segment(r: BitReader, s: &[u8]) -> Read<u64>
     Ok((alt_q, r))
 }
 
-fn segments(r: BitReader, s: &[u8], n: usize) -> Read<[u64; 8]>
-    requires { n ≤ 8 }
-    ensures { reading result ≡ run (spec.segments n) s.now r.pos }
-{
-    let mut reader = r;
-    let mut alt_q = [0u64; 8];
-    for i in 0..n {
-        (alt_q[i], reader) = segment(reader, s)?;
-    }
-    Ok((alt_q, reader))
-}
-
 // none: primary_ref_frame is PRIMARY_REF_NONE.
-#[tactic(auto, unfolding(syntax::specs::Syntax::run, crate::specs::Segmentation::segmentation_params))]
+#[tactic(auto, unfolding(syntax::specs::Syntax::run, bitio::specs::Fields::read_flag, bitio::specs::Fields::flag_or, crate::specs::Segmentation::segmentation_params))]
 pub fn segmentation_params(r: BitReader, s: &[u8], none: bool) -> Read<[u64; 8]>
     ensures { reading result ≡ run (spec.segmentation_params none) s.now r.pos }
 {
-    let (enabled, r) = r.f(s, 1)?;
-    let told = enabled == 1 && !none;
-    let (map, r) = r.f_if(s, told, 1)?;
-    let (_temporal, r) = r.f_if(s, map == 1, 1)?;
-    let (data, r) = r.f_if(s, told, 1)?;
-    let n = if enabled == 1 && (none || data == 1) {
-        8
-    } else {
-        0
-    };
-    segments(r, s, n)
+    let (enabled, r) = r.flag(s)?;
+    let told = enabled && !none;
+    let (map, r) = r.flag_or(s, told, false)?;
+    let (_temporal, r) = r.flag_or(s, map, false)?;
+    let (data, r) = r.flag_or(s, told, false)?;
+    array_if(r, enabled && (none || data), 0, |r| segment(r, s))
 }

@@ -1,9 +1,9 @@
 -- Laws of the segments' ranges, judged one segment after the other.
-use Prim.Native.Nat.{ℕ, suc, ◌+◌, ◌-◌, ◌≤◌, ◌<◌}
-use native.Mathlib.Omega.{arith}
+use Prim.Native.Nat.{ℕ, zero, suc, ◌+◌}
 use mathlib.Core.Path.{◌≡◌, refl, sym, ap, ◌∙◌}
 use mathlib.Core.List.{List}
-use mathlib.Core.Bool.{true, false}
+use mathlib.Core.Bool.{Bool, true, false, cond as pick, ◌&&◌}
+use Rattle.std.specs.List.{list_all, range_with_len}
 use Rattle.bitio.specs.Parse.{Answer, refused, accepted, and_next, onto}
 use Rattle.blocks.specs.Numbers.{head_inside, rest, segment_count, is_whole, record_at}
 use Rattle.blocks.proofs.NumberLaws.{rest_at}
@@ -28,41 +28,27 @@ from-none : (s rs : List ℕ) → verdict (segments_from s 0 rs) ≡ accepted tt
 unfolding segments_from
 from-none s rs = refl
 
+-- all segments from i on lie within s, up to k of them
+abbrev pub all_inside : (s rs : List ℕ) → (i k : ℕ) → Bool
+all_inside s rs i k = list_all (λ j. head_inside s (record_at rs j)) (range_with_len i k)
+
+-- 36 where the test fails
+abbrev pub fits : Bool → Answer Unit
+fits t = pick t (accepted tt) (refused 36)
+
+fits-from : (s rs : List ℕ) (k i : ℕ) → verdict (segments_from s k (record_at rs i)) ≡ fits (all_inside s rs i k)
+fits-from s rs zero i = from-none s (record_at rs i)
+fits-from s rs (suc k) i = go (fits-from s rs k (i + 1)) (head_inside s (record_at rs i)) refl
+  where
+    go : verdict (segments_from s k (record_at rs (i + 1))) ≡ fits (all_inside s rs (i + 1) k) → (t : Bool) → head_inside s (record_at rs i) ≡ t
+        → verdict (segments_from s (suc k) (record_at rs i)) ≡ fits (t && all_inside s rs (i + 1) k)
+    go more true e = from-fit s (record_at rs i) k e ∙ ap (λ (l : List ℕ). verdict (segments_from s k l)) (rest_at rs i) ∙ more
+    go more false e = from-unfit s (record_at rs i) k e
+
+pub fits-all : (s rs : List ℕ) → is_whole rs ≡ true → (t : Bool) → all_inside s rs 0 (segment_count rs) ≡ t → fits t ≡ verdict (segments_of s rs)
+unfolding segments_of
+fits-all s rs h t e = sym (rw h (fits-from s rs (segment_count rs) 0 ∙ ap fits e))
+
 pub not-whole : (s rs : List ℕ) → is_whole rs ≡ false → refused 36 ≡ verdict (segments_of s rs)
 unfolding segments_of
 not-whole s rs h = rw h
-
--- i segments lie within s
-pub record Ranging (s rs : List ℕ) (i : ℕ) : Type 0 where
-  pub within : i ≤ segment_count rs
-  pub same : verdict (segments_of s rs) ≡ verdict (segments_from s (segment_count rs - i) (record_at rs i))
-
-pub range-start : (s rs : List ℕ) → is_whole rs ≡ true → Ranging s rs 0
-unfolding segments_of
-range-start s rs h =
-    let z : segment_count rs ≡ segment_count rs - 0 = omega arith in
-    record { within = omega arith; same = rw h (ap (λ (k : ℕ). verdict (segments_from s k rs)) z) }
-
-module _ {s rs : List ℕ} {i : ℕ} (r : Ranging s rs i) where
-  pub range-end : segment_count rs ≤ i → accepted tt ≡ verdict (segments_of s rs)
-  range-end h =
-      let z : segment_count rs - i ≡ 0 = omega arith in
-      sym (r.same ∙ ap (λ (k : ℕ). verdict (segments_from s k (record_at rs i))) z ∙ from-none s (record_at rs i))
-
-  module _ (h : i < segment_count rs) where
-    range-here : verdict (segments_of s rs) ≡ verdict (segments_from s (suc (segment_count rs - (i + 1))) (record_at rs i))
-    range-here =
-        let z : segment_count rs - i ≡ suc (segment_count rs - (i + 1)) = omega arith in
-        r.same ∙ ap (λ (k : ℕ). verdict (segments_from s k (record_at rs i))) z
-
-    pub range-unfit : head_inside s (record_at rs i) ≡ false → refused 36 ≡ verdict (segments_of s rs)
-    range-unfit e = sym (range-here ∙ from-unfit s (record_at rs i) (segment_count rs - (i + 1)) e)
-
-    pub range-turn : head_inside s (record_at rs i) ≡ true → Ranging s rs (i + 1)
-    range-turn e =
-        record {
-          within = omega arith;
-          same =
-              range-here ∙ from-fit s (record_at rs i) (segment_count rs - (i + 1)) e
-              ∙ ap (λ (l : List ℕ). verdict (segments_from s (segment_count rs - (i + 1)) l)) (rest_at rs i);
-        }

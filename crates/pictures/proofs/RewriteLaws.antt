@@ -11,16 +11,23 @@ use Rattle.bitio.specs.Lent.{pasted}
 use Rattle.bitio.proofs.LentLaws.{pasted-nil, pasted-more, pasted_length}
 use Rattle.bitio.specs.Limits.{capped}
 use Rattle.obu.specs.Obu.{Obu, passes, obus, obu_bytes, unit_bytes}
-use Rattle.obu.specs.Place.{wrong, no_more, obu_place, part}
+use Rattle.bitio.specs.Refusal.{number}
+use Rattle.bitio.specs.declared.refusal.Refusal.{Refusal}
+use Rattle.obu.specs.Place.{extension_says, part}
+use Rattle.obu.specs.Walk.{Walks, GivesObu}
+use Rattle.obu.specs.declared.reader.Obu.{Obu as Found}
+use Rattle.obu.specs.declared.obus.Obus.{Obus}
+use Rattle.std.specs.Prelude.{Some, None, Result, Ok, Err, IsOk}
 use Rattle.obu.specs.Write.{obu, obu_length}
 use Rattle.obu.proofs.LengthLaws.{obu-length}
 use Rattle.obu.proofs.ObuLaws.{infront}
-use Rattle.obu.proofs.PlaceLaws.{IsPlaced, Walked, walk_start, walk-next, walk_end, walk-stop, part_placed}
+use Rattle.obu.proofs.PlaceLaws.{IsPlaced, Walked, part_placed}
+use Rattle.obu.proofs.WalkLaws.{Passed, passed_none, passed_one, passed_all, passed_stop}
 use Rattle.obu.specs.Unit.{of_unit}
 use Rattle.pictures.specs.Prepare.{renewed}
 use Rattle.pictures.specs.Assemble.{verdict}
 use Rattle.pictures.specs.Flat.{readable, answer_or}
-use Rattle.pictures.specs.code.Rewrite.{renewed_bytes, rewritten}
+use Rattle.pictures.specs.code.Rewrite.{obu_in, renewed_bytes, rewritten}
 
 -- ---- the bytes of one OBU after the other
 
@@ -63,30 +70,27 @@ renewed-obu new o e = ap (λ (l : List ℕ). obu_bytes (obu o.type o.ext l)) e
 -- ---- measuring
 
 -- n bytes up to `at`
-pub record Sizing (s new : List ℕ) (at n : ℕ) : Type 0 where
+pub record Sizing (s new : List ℕ) (it : Obus) (n : ℕ) : Type 0 where
   pub front : List Obu
-  pub walked : Walked s at front
+  pub passed : Passed s it front
   pub size : n ≡ capped (length (renewed_bytes new front))
 
-pub size-start : (s new : List ℕ) → Sizing s new 0 0
-size-start s new = record { front = []; walked = walk_start s; size = ap (λ (l : List ℕ). capped (length l)) (sym (renewed-nil new)) }
+pub size-start : (s new : List ℕ) {it : Obus} → Walks it s 0 (length s) → Sizing s new it 0
+size-start s new w = record { front = []; passed = passed_none w; size = ap (λ (l : List ℕ). capped (length l)) (sym (renewed-nil new)) }
 
-module _ {s new : List ℕ} {at n : ℕ} (m : Sizing s new at n) where
-  pub size-next : {t : ℕ} {e : Option ℕ} {a b : ℕ} (g : IsPlaced s at t e a b) (k r : ℕ) → k ≡ capped (length (obu_bytes (renewed new (record { type = t; ext = e; payload = part s a b }))))
-      → r ≡ capped (n + k) → Sizing s new b r
-  size-next g k r h e =
-      let h' : k ≡ capped (length (obu_bytes (renewed new g.obu))) = h ∙ ap (λ (o : Obu). capped (length (obu_bytes (renewed new o)))) (found-is g) in
-      record {
-        front = m.front ++ (g.obu ∷ []);
-        walked = walk-next m.walked g.placed;
-        size = omega (arith, m.size, h', e, length-next new m.front g.obu);
-      }
+module _ {s new : List ℕ} {it : Obus} {n : ℕ} (m : Sizing s new it n) where
+  pub size-next : (o : Found) (it' : Obus) → GivesObu it (Some (Ok o)) it' → (k r : ℕ) → k ≡ capped (length (obu_bytes (renewed new (obu_in s o))))
+      → r ≡ capped (n + k) → Sizing s new it' r
+  size-next o it' h k r l e =
+      let (g, a, q) = passed_one m.passed o it' h in
+      let l' : k ≡ capped (length (obu_bytes (renewed new g.obu))) = l ∙ ap (λ (x : Obu). capped (length (obu_bytes (renewed new x)))) (found-is g) in
+      record { front = m.front ++ (g.obu ∷ []); passed = q; size = omega (arith, m.size, l', e, length-next new m.front g.obu) }
 
-  pub size-end : obu_place s at ≡ no_more → accepted n ≡ answer (λ os. capped (length (renewed_bytes new os))) (obus s)
-  size-end q = rw (walk_end m.walked q) (ap accepted m.size)
+  pub size-end : (it' : Obus) → GivesObu it None it' → accepted n ≡ answer (λ os. capped (length (renewed_bytes new os))) (obus s)
+  size-end it' h = rw (passed_all m.passed it' h) (ap accepted m.size)
 
-  pub size-stop : (k : ℕ) → obu_place s at ≡ wrong k → refused k ≡ answer (λ os. capped (length (renewed_bytes new os))) (obus s)
-  size-stop k q = rw (walk-stop m.walked k q)
+  pub size-stop : (e : Refusal) (it' : Obus) → GivesObu it (Some (Err e)) it' → refused (number e) ≡ answer (λ os. capped (length (renewed_bytes new os))) (obus s)
+  size-stop e it' h = rw (passed_stop m.passed e it' h)
 
 -- the same of a unit; one that is refused has none
 pub size-or : (s new : List ℕ) → answer_or 0 (answer (λ os. capped (length (renewed_bytes new os))) (obus s)) ≡ capped (length (rewritten new s))
@@ -105,12 +109,12 @@ reads-through (refused k) e = let z : ◌≡◌ {A = ℕ} 0 1 = cc in absurd (om
 reads-through (accepted os) e = (os, refl)
 
 -- OBUs are written from w on; lent memory d is o
-pub record PuttingRewritten (s new d : List ℕ) (w at to : ℕ) (o : List ℕ) : Type 0 where
+pub record PuttingRewritten (s new d : List ℕ) (w : ℕ) (it : Obus) (to : ℕ) (o : List ℕ) : Type 0 where
   pub all : List Obu
   pub reads : obus s ≡ accepted all
   pub room : w + length (renewed_bytes new all) ≤ length d
   pub front : List Obu
-  pub walked : Walked s at front
+  pub passed : Passed s it front
   pub next : to ≡ w + length (renewed_bytes new front)
   pub lent : o ≡ pasted d w (renewed_bytes new front)
 
@@ -128,9 +132,10 @@ front-most new {front = front} w e =
     let (rest, q) = walked-front w e in
     omega (arith, ap (λ (os : List Obu). length (renewed_bytes new os)) q, ap length (renewed-append new front rest), length-append (renewed_bytes new front) (renewed_bytes new rest))
 
-pub rewrite-start : (s new d : List ℕ) (w : ℕ) → readable true s ≡ accepted tt → w + length (rewritten new s) ≤ length d → PuttingRewritten s new d w 0 w d
+pub rewrite-start : (s new d : List ℕ) (w : ℕ) {it : Obus} → Walks it s 0 (length s) → readable true s ≡ accepted tt → w + length (rewritten new s) ≤ length d
+    → PuttingRewritten s new d w it w d
 unfolding rewritten
-rewrite-start s new d w r h =
+rewrite-start s new d w i r h =
     let (all, e) = reads-through (obus s) r in
     let n = renewed-nil new in
     record {
@@ -138,49 +143,54 @@ rewrite-start s new d w r h =
       reads = e;
       room = rw e at h;
       front = [];
-      walked = walk_start s;
+      passed = passed_none i;
       next = omega (arith, ap length n);
       lent = sym (ap (pasted d w) n ∙ pasted-nil d w);
     }
 
-module _ {s new d : List ℕ} {w at to : ℕ} {o : List ℕ} (m : PuttingRewritten s new d w at to o) where
+module _ {s new d : List ℕ} {w : ℕ} {it : Obus} {to : ℕ} {o : List ℕ} (m : PuttingRewritten s new d w it to o) where
   pub rewrite-long : length o ≡ length d
-  rewrite-long = ap length m.lent ∙ pasted_length d w (renewed_bytes new m.front) (omega (arith, m.room, front-most new m.walked m.reads))
+  rewrite-long = ap length m.lent ∙ pasted_length d w (renewed_bytes new m.front) (omega (arith, m.room, front-most new m.passed.walked m.reads))
 
-  pub rewrite-stop : (k : ℕ) → obu_place s at ≡ wrong k → ⊥
-  rewrite-stop k q = let e = walk-stop m.walked k q in let r = m.reads in let z : ◌≡◌ {A = ℕ} 0 1 = cc in omega arith
+  -- what is given is no refusal
+  pub rewrite-ok : (r : Result Found Refusal) (it' : Obus) → GivesObu it (Some r) it' → IsOk r
+  rewrite-ok (Ok x) it' h = refl
+  rewrite-ok (Err e) it' h = let k = passed_stop m.passed e it' h in let r = m.reads in let z : ◌≡◌ {A = ℕ} 0 1 = cc in absurd (omega arith)
 
-  pub rewrite-end : obu_place s at ≡ no_more → (to ≡ w + length (rewritten new s)) × (o ≡ pasted d w (rewritten new s))
+  pub rewrite-end : (it' : Obus) → GivesObu it None it' → (to ≡ w + length (rewritten new s)) × (o ≡ pasted d w (rewritten new s))
   unfolding rewritten
-  rewrite-end q = rw (walk_end m.walked q) (m.next, m.lent)
+  rewrite-end it' h = rw (passed_all m.passed it' h) (m.next, m.lent)
 
-  module _ {t : ℕ} {e : Option ℕ} {a b : ℕ} (g : IsPlaced s at t e a b) where
-    pub rewrite-passes : passes t ≡ true
-    rewrite-passes = rw g.type at g.placed.passing
+  module _ (x : Found) (it' : Obus) (h : GivesObu it (Some (Ok x)) it') where
+    abbrev turned : (g : IsPlaced s it.at x.obu_type (extension_says x.extension) x.start x.end) × (it'.at ≡ x.end) × Passed s it' (m.front ++ (g.obu ∷ []))
+    turned = passed_one m.passed x it' h
+
+    pub rewrite-passes : passes x.obu_type ≡ true
+    rewrite-passes = let g = turned.0 in rw g.type at g.placed.passing
 
     abbrev bytes : List ℕ
-    bytes = obu_bytes (renewed new (record { type = t; ext = e; payload = part s a b }))
+    bytes = obu_bytes (renewed new (obu_in s x))
 
-    bytes-is : bytes ≡ obu_bytes (renewed new g.obu)
-    bytes-is = ap (λ (x : Obu). obu_bytes (renewed new x)) (found-is g)
+    bytes-is : bytes ≡ obu_bytes (renewed new turned.0.obu)
+    bytes-is = ap (λ (y : Obu). obu_bytes (renewed new y)) (found-is turned.0)
 
     pub rewrite-room : to + length bytes ≤ length o
     rewrite-room =
-        omega (arith, m.room, m.next, rewrite-long, ap length bytes-is, length-next new m.front g.obu, front-most new (walk-next m.walked g.placed) m.reads)
+        omega (arith, m.room, m.next, rewrite-long, ap length bytes-is, length-next new m.front turned.0.obu, front-most new turned.2.walked m.reads)
 
-    pub rewrite-next : {v : ℕ} {n : List ℕ} → (v ≡ to + length bytes) × (n ≡ pasted o to bytes) → PuttingRewritten s new d w b v n
-    rewrite-next {v} {n} x =
+    pub rewrite-next : {v : ℕ} {n : List ℕ} → (v ≡ to + length bytes) × (n ≡ pasted o to bytes) → PuttingRewritten s new d w it' v n
+    rewrite-next {v} {n} y =
         let f = renewed_bytes new m.front in
-        let c = obu_bytes (renewed new g.obu) in
-        let k = front-most new m.walked m.reads in
+        let c = obu_bytes (renewed new turned.0.obu) in
+        let k = front-most new m.passed.walked m.reads in
         record {
           all = m.all;
           reads = m.reads;
           room = m.room;
-          front = m.front ++ (g.obu ∷ []);
-          walked = walk-next m.walked g.placed;
-          next = omega (arith, x.0, m.next, ap length bytes-is, length-next new m.front g.obu);
+          front = m.front ++ (turned.0.obu ∷ []);
+          passed = turned.2;
+          next = omega (arith, y.0, m.next, ap length bytes-is, length-next new m.front turned.0.obu);
           lent =
-              x.1 ∙ ap (pasted o to) bytes-is ∙ ap₂ (λ (l : List ℕ) (i : ℕ). pasted l i c) m.lent m.next ∙ pasted-more d w f (omega (arith, m.room)) c
-              ∙ ap (pasted d w) (sym (renewed-next new m.front g.obu));
+              y.1 ∙ ap (pasted o to) bytes-is ∙ ap₂ (λ (l : List ℕ) (i : ℕ). pasted l i c) m.lent m.next ∙ pasted-more d w f (omega (arith, m.room)) c
+              ∙ ap (pasted d w) (sym (renewed-next new m.front turned.0.obu));
         }

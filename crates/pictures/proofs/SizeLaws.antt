@@ -1,19 +1,21 @@
 -- Laws of the frames ordered: their saturated total, the first segment without frames, and the refusals in their order.
-use Prim.Native.Nat.{ℕ, suc, ◌+◌, ◌-◌, ◌^◌, ◌≤◌, ◌<◌}
+use Prim.Native.Nat.{ℕ, zero, suc, ◌+◌, ◌-◌, ◌^◌, ◌≤◌, ◌<◌}
 use native.Mathlib.Omega.{arith}
+use native.Mathlib.Numerals.{add-one}
 use mathlib.Core.Path.{◌≡◌, refl, sym, ap, ◌∙◌}
 use mathlib.Core.List.{List, [], ◌∷◌, map}
 use mathlib.Core.Bool.{Bool, true, false, cond as pick}
 use mathlib.Core.Option.{none, some}
 use lib.ListN.{length}
 use lib.Dec.{eqb}
-use borrow.Author.Tests.{lt-ltb, le-ltb, eq-eqb, ne_eqb}
+use borrow.Author.Tests.{lt-ltb, le-ltb}
 use Rattle.bitio.specs.Limits.{capped}
 use Rattle.blocks.specs.Blocks.{total}
 use Rattle.blocks.specs.Numbers.{head_frames, segment_count, records_behind, frames_at, frames_in}
-use Rattle.pictures.specs.Assemble.{stopped, made, and_also, none_empty, sizes}
+use Rattle.pictures.specs.Assemble.{Outcome, stopped, made, and_also, none_empty, sizes}
 use Rattle.std.specs.Prelude.{Option as Optional, Some, None}
-use Rattle.pictures.specs.Sizes.{empty_says, sized_all, filled_first}
+use Rattle.std.specs.List.{find, range_with_len}
+use Rattle.pictures.specs.Sizes.{sized_all}
 use Rattle.blocks.proofs.NumberLaws.{behind-start, behind-end, behind_more, frames-length}
 
 -- the frames of the segments from i on
@@ -57,57 +59,30 @@ sum-turn {rs} {i} r s h w =
 
 -- ---- a segment without frames
 
-filled-yes : (n : ℕ) (ns : List ℕ) → n ≡ 0 → filled_first (n ∷ ns) ≡ 0
-unfolding filled_first
-filled-yes n ns e = rw (eq-eqb n 0 e)
+-- 24 of the segment that was found, if any was
+abbrev pub empty_says : Optional ℕ → Outcome Unit
+empty_says None = made tt
+empty_says (Some i) = stopped 24 (some i)
 
-filled-no : (n : ℕ) (ns : List ℕ) → (n ≡ 0 → ⊥) → filled_first (n ∷ ns) ≡ suc (filled_first ns)
-unfolding filled_first
-filled-no n ns e = rw (ne_eqb n 0 e)
+abbrev pub first_empty_from : List ℕ → (i k : ℕ) → Optional ℕ
+first_empty_from rs i k = find (λ m. eqb (frames_at rs m) 0) (range_with_len i k)
 
-filled_none : filled_first [] ≡ 0
-unfolding filled_first
-filled_none = refl
-
--- none of i segments is without frames
-pub record Seeking (rs : List ℕ) (i : ℕ) : Type 0 where
-  pub within : i ≤ segment_count rs
-  pub same : i + filled_first (frames_behind rs i) ≡ filled_first (frames_in rs)
-
-pub seek-start : (rs : List ℕ) → Seeking rs 0
-seek-start rs = record { within = omega arith; same = omega (arith, ap (λ (l : List (List ℕ)). filled_first (map head_frames l)) (behind-start rs)) }
-
-module _ {rs : List ℕ} {i : ℕ} (s : Seeking rs i) where
-  pub seek-none : segment_count rs ≤ i → segment_count rs ≡ filled_first (frames_in rs)
-  seek-none h = omega (arith, s.within, s.same, ap filled_first (none-behind rs i h), filled_none)
-
-  module _ (h : i < segment_count rs) where
-    pub seek_found : frames_at rs i ≡ 0 → i ≡ filled_first (frames_in rs)
-    seek_found e = omega (arith, s.same, ap filled_first (more-behind rs i h), filled-yes (frames_at rs i) (frames_behind rs (i + 1)) e)
-
-    pub seek-turn : (frames_at rs i ≡ 0 → ⊥) → Seeking rs (i + 1)
-    seek-turn e = record { within = omega arith; same = omega (arith, s.same, ap filled_first (more-behind rs i h), filled-no (frames_at rs i) (frames_behind rs (i + 1)) e) }
-
--- 24, or every segment has frames
-empty-at : (j : ℕ) (ns : List ℕ) → filled_first ns < length ns → none_empty j ns ≡ stopped 24 (some (j + filled_first ns))
-unfolding none_empty filled_first
-empty-at j [] h = absurd (omega arith)
-empty-at j (n ∷ ns) h = go (eqb n 0) (empty-at (suc j) ns) h
+-- of the segments from i on
+empty-from : (rs : List ℕ) (k i : ℕ) → i + k ≡ segment_count rs → none_empty i (frames_behind rs i) ≡ empty_says (first_empty_from rs i k)
+unfolding none_empty
+empty-from rs zero i e = rw (none-behind rs i (omega arith)) refl
+empty-from rs (suc k) i e =
+    let more : none_empty (suc i) (frames_behind rs (i + 1)) ≡ empty_says (first_empty_from rs (i + 1) k) =
+    ap (λ (j : ℕ). none_empty j (frames_behind rs (i + 1))) (sym (add-one i)) ∙ empty-from rs k (i + 1) (omega arith) in
+    rw (more-behind rs i (omega arith)) (go (eqb (frames_at rs i) 0) more)
   where
-    go : (t : Bool) → (filled_first ns < length ns → none_empty (suc j) ns ≡ stopped 24 (some (suc j + filled_first ns))) → pick t 0 (suc (filled_first ns)) < suc (length ns)
-        → pick t (stopped 24 (some j)) (none_empty (suc j) ns) ≡ stopped 24 (some (j + pick t 0 (suc (filled_first ns))))
-    go true more h = ap (λ (k : ℕ). stopped 24 (some k)) (omega arith)
-    go false more h = more (omega arith) ∙ ap (λ (k : ℕ). stopped 24 (some k)) (omega arith)
+    go : (t : Bool) → none_empty (suc i) (frames_behind rs (i + 1)) ≡ empty_says (first_empty_from rs (i + 1) k)
+        → pick t (stopped 24 (some i)) (none_empty (suc i) (frames_behind rs (i + 1))) ≡ empty_says (pick t (Some i) (first_empty_from rs (i + 1) k))
+    go true more = refl
+    go false more = more
 
-all-filled : (j : ℕ) (ns : List ℕ) → length ns ≤ filled_first ns → none_empty j ns ≡ made tt
-unfolding none_empty filled_first
-all-filled j [] h = refl
-all-filled j (n ∷ ns) h = go (eqb n 0) (all-filled (suc j) ns) h
-  where
-    go : (t : Bool) → (length ns ≤ filled_first ns → none_empty (suc j) ns ≡ made tt) → suc (length ns) ≤ pick t 0 (suc (filled_first ns))
-        → pick t (stopped 24 (some j)) (none_empty (suc j) ns) ≡ made tt
-    go true more h = absurd (omega arith)
-    go false more h = more (omega arith)
+empty-all : (rs : List ℕ) → none_empty 0 (frames_in rs) ≡ empty_says (first_empty_from rs 0 (segment_count rs))
+empty-all rs = ap (λ (l : List (List ℕ)). none_empty 0 (map head_frames l)) (sym (behind-start rs)) ∙ empty-from rs (segment_count rs) 0 (omega arith)
 
 -- ---- the refusals in order
 
@@ -135,23 +110,21 @@ module _ (gop : ℕ) (rs : List ℕ) (some-there : segment_count rs ≡ 0 → �
     unfolding sizes
     refused-23 h = sym (sized-there ∙ rw (le-ltb gop 2 g, lt-ltb (total (frames_in rs)) 2 (omega arith)))
 
-    module _ (h : 2 ≤ t) (o : Optional ℕ) (found : empty_says (segment_count rs) o ≡ filled_first (frames_in rs)) where
-      pub refused-24 : (i : ℕ) → o ≡ Some i → i < segment_count rs → stopped 24 (some i) ≡ sized_all gop (frames_in rs)
+    module _ (h : 2 ≤ t) (o : Optional ℕ) (first : o ≡ first_empty_from rs 0 (segment_count rs)) where
+      empty-is : none_empty 0 (frames_in rs) ≡ empty_says o
+      empty-is = empty-all rs ∙ ap empty_says (sym first)
+
+      pub refused-24 : (i : ℕ) → o ≡ Some i → stopped 24 (some i) ≡ sized_all gop (frames_in rs)
       unfolding sizes and_also
-      refused-24 i j w =
-          let found = rw j at found in
-          let l = frames-length rs in
-          let e : none_empty 0 (frames_in rs) ≡ stopped 24 (some i) = empty-at 0 (frames_in rs) (omega arith) ∙ ap (λ (k : ℕ). stopped 24 (some k)) (omega arith) in
-          sym (sized-there ∙ rw (le-ltb gop 2 g, le-ltb (total (frames_in rs)) 2 (omega arith), e))
+      refused-24 i j = sym (sized-there ∙ rw (le-ltb gop 2 g, le-ltb (total (frames_in rs)) 2 (omega arith), empty-is, j))
 
       module _ (w : o ≡ None) where
-        filled : none_empty 0 (frames_in rs) ≡ made tt
-        filled = let f = rw w at found in all-filled 0 (frames_in rs) (omega (arith, f, frames-length rs))
-
         pub refused-25 : 5000000 < t → stopped 25 none ≡ sized_all gop (frames_in rs)
         unfolding sizes and_also
-        refused-25 k = sym (sized-there ∙ rw (le-ltb gop 2 g, le-ltb (total (frames_in rs)) 2 (omega arith), filled, lt-ltb 5000000 (total (frames_in rs)) (omega arith)))
+        refused-25 k =
+            sym (sized-there ∙ rw (le-ltb gop 2 g, le-ltb (total (frames_in rs)) 2 (omega arith), empty-is, w, lt-ltb 5000000 (total (frames_in rs)) (omega arith)))
 
         pub sized-fit : t ≤ 5000000 → made tt ≡ sized_all gop (frames_in rs)
         unfolding sizes and_also
-        sized-fit k = sym (sized-there ∙ rw (le-ltb gop 2 g, le-ltb (total (frames_in rs)) 2 (omega arith), filled, le-ltb 5000000 (total (frames_in rs)) (omega arith)))
+        sized-fit k =
+            sym (sized-there ∙ rw (le-ltb gop 2 g, le-ltb (total (frames_in rs)) 2 (omega arith), empty-is, w, le-ltb 5000000 (total (frames_in rs)) (omega arith)))

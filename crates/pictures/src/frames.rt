@@ -8,7 +8,7 @@ ghost use Rattle.pictures.specs.Flat.{readable, judged};
 
 use crate::slot::lowest_refreshed_slot;
 use bitio::refusal::Refusal;
-use frame::frame_header::FrameHeaderInfo;
+use frame::frame_header::{FrameHeaderInfo, FrameType};
 use frame::unit_frame::unit_frame;
 use header::seq_header::SequenceObu;
 use obu::unit::{Kind, count_obus};
@@ -18,14 +18,14 @@ fn check_key(info: FrameHeaderInfo) -> Result<(), Refusal>
     ensures { says result ≡ key_ok info }
 {
     match info {
-        FrameHeaderInfo::Frame(f) if f.frame_type.is_key() & f.show_frame => Ok(()),
+        FrameHeaderInfo::Frame(f) if f.frame_type == FrameType::Key && f.show_frame => Ok(()),
         _ => Err(Refusal::KeyIsNoShownKeyFrame),
     }
 }
 
 // The slot that a golden's header refreshes, or 30 to 33.
 #[tactic(auto, unfolding(bitio::specs::Parse::and_next))]
-fn refreshed_slot(info: FrameHeaderInfo) -> Result<u64, Refusal>
+fn refreshed_slot(info: FrameHeaderInfo) -> Result<u8, Refusal>
     ensures { says result ≡ and_next (golden_flags info) (λ flags. accepted (slot_of flags)) }
 {
     let FrameHeaderInfo::Frame(f) = info else {
@@ -34,13 +34,13 @@ fn refreshed_slot(info: FrameHeaderInfo) -> Result<u64, Refusal>
     if !f.show_frame {
         return Err(Refusal::GoldenNotShown);
     }
-    if f.frame_type.is_key() {
+    if f.frame_type == FrameType::Key {
         return Err(Refusal::GoldenIsKeyFrame);
     }
     if f.refresh_frame_flags == 0 {
         return Err(Refusal::GoldenNotStored);
     }
-    Ok(lowest_refreshed_slot(f.refresh_frame_flags) as u64)
+    Ok(lowest_refreshed_slot(f.refresh_frame_flags))
 }
 
 // The OBUs of a unit that is read to be rewritten: 1 to 5; any other is not looked at.
@@ -60,7 +60,7 @@ pub fn golden_slot(
     golden: &[u8],
     sequence: &SequenceObu,
     rewriting: bool,
-) -> Result<u64, Refusal>
+) -> Result<u8, Refusal>
     ensures { says result ≡ judged (sequence_in sequence.now) rewriting key.now golden.now }
 {
     check_obus(key, rewriting)?;

@@ -17,10 +17,7 @@ fn check_same(unit: &[u8], first: &[u8]) -> Result<(), Refusal>
     ensures { says result ≡ and_next (obus unit.now) (λ os. same_header first.now os) }
 {
     let n = count_obus(unit, Kind::SequenceHeader)?;
-    if n == 0 {
-        return Err(Refusal::OtherSequenceHeader);
-    }
-    if last_payload(unit, Kind::SequenceHeader) != first {
+    if n == 0 || last_payload(unit, Kind::SequenceHeader) != first {
         return Err(Refusal::OtherSequenceHeader);
     }
     Ok(())

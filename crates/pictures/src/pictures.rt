@@ -96,19 +96,19 @@ pub fn put_pictures(
 }
 
 // The slot that the show units of a segment name; 0 for a segment that is refused.
-pub fn slot_or_zero(key: &[u8], golden: &[u8], sequence: &SequenceObu, rewriting: bool) -> u64
+pub fn slot_or_zero(key: &[u8], golden: &[u8], sequence: &SequenceObu, rewriting: bool) -> u8
     ensures { result ≡ answer_or 0 (judged (sequence_in sequence.now) rewriting key.now golden.now) }
 {
     golden_slot(key, golden, sequence, rewriting).unwrap_or(0)
 }
 
 // Writes one show unit.
-fn put_show(shows: &mut [u8], at: usize, slot: u64)
+fn put_show(shows: &mut [u8], at: usize, slot: u8)
     requires room { at + 5 ≤ length shows.old }
     requires slot { slot < 8 }
     ensures { shows.new ≡ pasted shows.old at (show_unit slot) }
 {
-    let unit = [0x12, 0x00, 0x1A, 0x01, 128 + 16 * slot as u8 + 8];
+    let unit = [0x12, 0x00, 0x1A, 0x01, 128 + 16 * slot + 8];
     shows[at..at + 5].copy_from_slice(&unit);
 }
 

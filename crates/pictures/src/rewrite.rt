@@ -10,7 +10,8 @@ ghost use Rattle.pictures.specs.Flat.{lent, readable, sent_bytes};
 ghost use Rattle.pictures.specs.code.Rewrite.{obu_in, renewed_bytes, rewritten};
 
 use bitio::refusal::Refusal;
-use obu::reader::{Obu, obu_at, payload};
+use obu::obus::Obus;
+use obu::reader::Obu;
 use obu::unit::{Kind, count_obus, is_type};
 use obu::writer::{obu_len, put_bytes, put_measured};
 
@@ -21,7 +22,7 @@ fn renewed_payload<'a>(unit: &'a [u8], new: &'a [u8], o: Obu) -> &'a [u8]
     if is_type(Kind::SequenceHeader, o.obu_type) {
         new
     } else {
-        payload(unit, o.start, o.end)
+        o.payload(unit)
     }
 }
 
@@ -29,11 +30,10 @@ fn renewed_payload<'a>(unit: &'a [u8], new: &'a [u8], o: Obu) -> &'a [u8]
 fn rewritten_len(unit: &[u8], new: &[u8]) -> Result<usize, Refusal>
     ensures { says result ≡ answer (λ os. capped (length (renewed_bytes new.now os))) (obus unit.now) }
 {
-    let mut at: usize = 0;
     let mut n: usize = 0;
-    while let Some(o) = obu_at(unit, at)? {
+    for found in Obus::new(unit) {
+        let o = found?;
         n = n.saturating_add(obu_len(o.extension, renewed_payload(unit, new, o).len()));
-        at = o.end;
     }
     Ok(n)
 }
@@ -58,20 +58,11 @@ fn put_rewritten(out: &mut [u8], at: usize, unit: &[u8], new: &[u8]) -> usize
     requires room { at + length (rewritten new.now unit.now) ≤ length out.old }
     ensures { (result ≡ at + length (rewritten new.now unit.now)) × (out.new ≡ pasted out.old at (rewritten new.now unit.now)) }
 {
-    let mut from: usize = 0;
     let mut to = at;
-    while let Ok(found) = obu_at(unit, from) {
-        let Some(o) = found else {
-            return to;
-        };
-        to = put_measured(
-            out,
-            to,
-            o.obu_type,
-            o.extension,
-            renewed_payload(unit, new, o),
-        );
-        from = o.end;
+    for found in Obus::new(unit) {
+        let o = found.unwrap();
+        let payload = renewed_payload(unit, new, o);
+        to = put_measured(out, to, o.obu_type, o.extension, payload);
     }
     to
 }

@@ -1,13 +1,14 @@
 // The frames ordered and the ranges of the segments, judged over their flat numbers.
-ghost use Rattle.std.specs.Prelude.{◌≡◌, ◌<◌, IfSome};
+ghost use Rattle.std.specs.Prelude.{◌≡◌, ◌==◌};
+ghost use Rattle.std.specs.List.{find, list_all, range_with_len};
 ghost use Rattle.bitio.specs.Limits.{capped};
 ghost use Rattle.bitio.specs.Refusal.{says};
 ghost use Rattle.blocks.specs.Blocks.{total};
-ghost use Rattle.blocks.specs.Numbers.{frames_in, segment_count};
+ghost use Rattle.blocks.specs.Numbers.{frames_in, frames_at, segment_count, head_inside, record_at};
 ghost use Rattle.pictures.specs.Assemble.{verdict};
 ghost use Rattle.pictures.specs.Says.{outcome_of};
 ghost use Rattle.pictures.specs.Segments.{segments_of};
-ghost use Rattle.pictures.specs.Sizes.{empty_says, sized_all, filled_first};
+ghost use Rattle.pictures.specs.Sizes.{sized_all};
 
 use crate::fault::Fault;
 use bitio::refusal::Refusal;
@@ -26,15 +27,9 @@ pub fn total_frames(segments: &[u64]) -> u64
 
 // The first segment without frames.
 fn first_empty(segments: &[u64]) -> Option<usize>
-    ensures first { empty_says (segment_count segments.now) result ≡ filled_first (frames_in segments.now) }
-    ensures within { IfSome result (λ i. i < segment_count segments.now) }
+    ensures { result ≡ find (λ i. frames_at segments.now i == 0) (range_with_len 0 (segment_count segments.now)) }
 {
-    for i in 0..segment_count(segments) {
-        if frames_of(segments, i) == 0 {
-            return Some(i);
-        }
-    }
-    None
+    (0..segment_count(segments)).find(|i| frames_of(segments, *i) == 0)
 }
 
 // Refusals 21 to 25, in this order.
@@ -60,17 +55,20 @@ pub fn check_sizes(gop: u64, segments: &[u64]) -> Result<(), Fault>
     Ok(())
 }
 
+// Whether the ranges of all segments lie within the picture bytes.
+fn all_within(segments: Segments) -> bool
+    ensures { result ≡ list_all (λ i. head_inside segments.entry.picture.now (record_at segments.entry.numbers.now i)) (range_with_len 0 (segment_count segments.entry.numbers.now)) }
+{
+    (0..segment_count(segments.numbers)).all(|i| segments.is_within(i))
+}
+
 // 36: numbers that are no whole record, or a range not within the picture bytes.
 pub fn check_ranges(segments: Segments) -> Result<(), Refusal>
     ensures { says result ≡ verdict (segments_of segments.entry.picture.now segments.entry.numbers.now) }
 {
-    if !is_whole(segments.numbers) {
-        return Err(Refusal::NotAList);
+    if is_whole(segments.numbers) && all_within(segments) {
+        Ok(())
+    } else {
+        Err(Refusal::NotAList)
     }
-    for i in 0..segment_count(segments.numbers) {
-        if !segments.is_within(i) {
-            return Err(Refusal::NotAList);
-        }
-    }
-    Ok(())
 }

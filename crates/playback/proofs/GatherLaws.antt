@@ -25,10 +25,10 @@ use Rattle.annexb.proofs.SplitLaws.{Says, says-refused}
 use Rattle.bitio.proofs.ParseLaws.{and_both}
 use Rattle.pictures.specs.Assemble.{named}
 use Rattle.playback.specs.Lent.{Does, store_room, store_after}
-use Rattle.playback.specs.declared.gather.Listed.{Listed}
+use Rattle.assemble.specs.declared.unit.UnitList.{UnitList}
 use Rattle.playback.specs.Gather.{units_named, units_listed, gathered, HasRoom}
 
-module _ (x : Listed) where
+module _ (x : UnitList) where
   -- the units from entry i on
   abbrev pub left : ℕ → List (List ℕ)
   left i = units_named (drop i x.list.now) x.pictures.now x.ends.now x.shows.now
@@ -171,7 +171,7 @@ pub stores : (x : Room → Answer (List (List ℕ))) {r : Result Sizes Refusal} 
     → Does (λ d. sizes_of (x (store_room d))) (λ d. store_after (x (store_room d)) d) r (record { entry = record { bytes = d; ends = m }; exit = record { bytes = o; ends = f } })
 stores x (i, (j, k)) = record { answer = i; lent = ap₂ (λ b e. record { bytes = b; ends = e }) j k }
 
-module _ (l : Listed) (d m : List ℕ) where
+module _ (l : UnitList) (d m : List ℕ) where
   abbrev us : List (List ℕ)
   us = units_listed l
 

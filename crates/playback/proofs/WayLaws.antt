@@ -22,7 +22,7 @@ use Rattle.container.specs.Container.{Container, units_in, bytes_in, read, write
 use Rattle.bitio.proofs.ParseLaws.{and_both}
 use Rattle.playback.specs.Lent.{Fills, Store, store_room, store_after, Stores}
 use Rattle.playback.specs.Gather.{gathered, HasRoom}
-use Rattle.playback.specs.Shown.{from_cue, play_from}
+use Rattle.playback.specs.Shown.{Shows, from_cue, play_from}
 use Rattle.playback.specs.Way.{WriteLent, CarryLent, written, Writes, carried_units, Carries, shown, Plays}
 use Rattle.playback.proofs.GatherLaws.{has_room_lem}
 use Rattle.playback.proofs.ShownLaws.{none-cut}
@@ -210,8 +210,8 @@ module _ (c : Container) (us : List (List ℕ)) where
           record { answer = f.answer ∙ ap (λ i. sizes_of i) back_whole; lent = ap₂ (λ i j. record { written = i; back = j }) w.lent (f.lent ∙ ap (λ i. store_after i b) back_whole) }
 
   -- read back
-  module _ (d d' : CarryLent) (cue : ℕ) (g : List ℕ) where
-    abbrev S : Answer (List ℕ)
+  module _ (d d' : CarryLent) (cue : ℕ) (g : Shows) where
+    abbrev S : Answer Shows
     S = shown c us cue (record { carried = d; shown = g })
 
     shown-some : {vs : List (List ℕ)} → carried_units c us d ≡ accepted vs → from_cue (length g) cue vs ≡ S
@@ -255,7 +255,7 @@ module _ (c : Container) (us : List (List ℕ)) where
           (ends-head (carried_units c us d) d.back back_fits s w.answer d'.back back_is)
           ∙ played z.units (back_fits z.units z.are) ∙ shown-some z.are
 
-      pub show-go : (g' : List ℕ) (r : Result ℕ Refusal)
+      pub show-go : (g' : Shows) (r : Result ℕ Refusal)
           → Fills (λ room. play_from room cue (take s.bytes d'.back.bytes) (take s.units d'.back.ends)) r (record { entry = g; exit = g' })
           → Plays c us cue r (record { entry = record { carried = d; shown = g }; exit = record { carried = d'; shown = g' } })
       show-go g' r f =

@@ -5,14 +5,14 @@ use Rattle.bitio.specs.Parse.{Answer, accepted}
 use Rattle.container.specs.Limits.{Room, fit_units}
 use Rattle.container.specs.Stream.{stream_bytes}
 use Rattle.pictures.specs.Assemble.{named}
-use Rattle.playback.specs.declared.gather.Listed.{Listed}
+use Rattle.assemble.specs.declared.unit.UnitList.{UnitList}
 
 -- the units that the entries name, in order
 unfoldable pub units_named : (list picture ends shows : List ℕ) → List (List ℕ)
 units_named list picture ends shows = map (named picture ends shows) list
 
 -- the same of those that the code is handed
-abbrev pub units_listed : Listed → List (List ℕ)
+abbrev pub units_listed : UnitList → List (List ℕ)
 units_listed x = units_named x.list.now x.pictures.now x.ends.now x.shows.now
 
 -- 35: lent room or the limit cannot hold them

@@ -13,10 +13,10 @@ pub record Does {A D : Type 0} (answers : D → Answer A) (leaves : D → D) (r 
   pub answer : says r ≡ answers d.entry
   pub lent : d.exit ≡ leaves d.entry
 
--- ---- numbers or bytes to the head of one slice
+-- ---- bytes, or what positions show, to the head of one slice
 
 -- x: the result, by how much room there is
-abbrev pub Fills : (ℕ → Answer (List ℕ)) → Result ℕ Refusal → Both (List ℕ) (List ℕ) → Type 0
+abbrev pub Fills : {A : Type 0} → (ℕ → Answer (List A)) → Result ℕ Refusal → Both (List A) (List A) → Type 0
 Fills x = Does (λ d. count_of (x (length d))) (λ d. out_after (x (length d)) d)
 
 -- ---- units to the heads of two

@@ -1,16 +1,17 @@
 -- The whole way, from picture bytes and segments to what each position shows from one cue on.
-use Rattle.std.specs.Prelude.{ℕ, ◌≡◌, List, length, Result}
+use Rattle.std.specs.Prelude.{ℕ, ◌≡◌, length, Result}
 use denote.Triple.Both.{Both}
 use Rattle.pictures.specs.declared.fault.Fault.{Fault}
 use Rattle.pictures.specs.Says.{outcome_of}
 use Rattle.pictures.specs.Assemble.{Outcome, stopped, made, and_also, overall, Output, units_of}
 use Rattle.assemble.specs.Whole.{Lent, lent_after}
 use Rattle.container.specs.Container.{Container}
+use Rattle.playback.specs.Shown.{Shows}
 use Rattle.playback.specs.Way.{PlayLent, shown, shown_after}
 
 module _ (c : Container) (cue : ℕ) where
   -- what follows assembly's outcome x: its units gathered, written, read back and played from the cue
-  unfoldable pub walk : Outcome Output → PlayLent → Outcome (List ℕ)
+  unfoldable pub walk : Outcome Output → PlayLent → Outcome Shows
   walk x d = and_also x (λ o. overall (shown c (units_of o) cue d))
 
   -- and what it leaves; where assembly refuses, what was there

@@ -1,6 +1,6 @@
 -- The way of a list's units: gathered, written in a container, read back, and played from a cue.
 -- Of lent memory only the lengths count. 35: a stage has no room; 34 and all others are the operations' own.
-use Rattle.std.specs.Prelude.{ℕ, List, length, Result}
+use Rattle.std.specs.Prelude.{ℕ, ◌≡◌, List, length, Result}
 use denote.Triple.Both.{Both}
 use Rattle.bitio.specs.Parse.{Answer, and_next}
 use Rattle.bitio.specs.declared.refusal.Refusal.{Refusal}
@@ -10,9 +10,10 @@ use Rattle.container.specs.Units.{sizes_of, count_of, out_after}
 use Rattle.container.specs.declared.units.Sizes.{Sizes}
 use Rattle.playback.specs.Lent.{Does, Store, store_room, store_after, store}
 use Rattle.playback.specs.Gather.{gathered}
-use Rattle.playback.specs.Shown.{from_cue}
+use Rattle.playback.specs.Shown.{Shows, all_say, from_cue}
 use Rattle.playback.specs.declared.way.Form.{Form}
 use Rattle.playback.specs.declared.way.Form.TheVariants.{Stream, AnnexB}
+use Rattle.playback.specs.declared.way.WayBuffers.{WayBuffers}
 
 abbrev pub form_says : Form → Container
 form_says Stream = stream
@@ -30,7 +31,7 @@ pub record CarryLent : Type 0 where
 
 pub record PlayLent : Type 0 where
   pub carried : CarryLent
-  pub shown : List ℕ
+  pub shown : Shows
 
 -- and what their lent slices hold, at one moment
 abbrev pub write_lent : (units unit_ends out : List ℕ) → WriteLent
@@ -39,8 +40,21 @@ write_lent units unit_ends out = record { units = store units unit_ends; out = o
 abbrev pub carry_lent : (units unit_ends out back back-ends : List ℕ) → CarryLent
 carry_lent units unit_ends out back back-ends = record { written = write_lent units unit_ends out; back = store back back-ends }
 
-abbrev pub play_lent : (units unit_ends out back back-ends shown : List ℕ) → PlayLent
+abbrev pub play_lent : (units unit_ends out back back-ends : List ℕ) → Shows → PlayLent
 play_lent units unit_ends out back back-ends shown = record { carried = carry_lent units unit_ends out back back-ends; shown = shown }
+
+-- the same of those that the code is handed
+abbrev pub play_lent_of : WayBuffers → PlayLent
+play_lent_of b = play_lent b.units.now b.unit_ends.now b.out.now b.back.now b.back_ends.now (all_say b.shown.now)
+
+-- the same memory, whatever it holds
+pub record SameWayBuffers (old new : WayBuffers) : Type 0 where
+  pub units : new.units.ghost_name ≡ old.units.ghost_name
+  pub unit_ends : new.unit_ends.ghost_name ≡ old.unit_ends.ghost_name
+  pub out : new.out.ghost_name ≡ old.out.ghost_name
+  pub back : new.back.ghost_name ≡ old.back.ghost_name
+  pub back_ends : new.back_ends.ghost_name ≡ old.back_ends.ghost_name
+  pub shown : new.shown.ghost_name ≡ old.shown.ghost_name
 
 -- ---- what each stage answers, and what it leaves
 
@@ -65,9 +79,9 @@ module _ (c : Container) (us : List (List ℕ)) where
   abbrev pub Carries : Result Sizes Refusal → Both CarryLent CarryLent → Type 0
   Carries = Does (λ d. sizes_of (carried_units d)) carried_after
 
-  -- and played from the cue, a number for each position
+  -- and played from the cue, an answer for each position
   module _ (cue : ℕ) where
-    unfoldable pub shown : PlayLent → Answer (List ℕ)
+    unfoldable pub shown : PlayLent → Answer Shows
     shown d = and_next (carried_units d.carried) (from_cue (length d.shown) cue)
 
     abbrev pub shown_after : PlayLent → PlayLent

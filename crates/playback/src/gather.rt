@@ -8,61 +8,49 @@ ghost use Rattle.container.specs.Limits.{room_in};
 ghost use Rattle.playback.specs.Lent.{store, Stores};
 ghost use Rattle.playback.specs.Gather.{units_listed, gathered, HasRoom};
 
-use assemble::unit::unit;
+use assemble::unit::UnitList;
 use bitio::refusal::Refusal;
 use container::units::Sizes;
 use obu::writer::put_bytes;
 
-// A list's entries, and what assembly handed out for them to name units in.
-#[derive(Clone, Copy)]
-pub struct Listed<'a> {
-    pub list: &'a [u32],
-    pub pictures: &'a [u8],
-    pub ends: &'a [u32],
-    pub shows: &'a [u8],
+// How many units there are, and how many bytes they have, as far as a usize counts.
+fn sizes(listed: UnitList) -> Sizes
+    ensures { result ≡ record { bytes = capped (length (stream_bytes (units_listed listed.entry))); units = length listed.entry.list.now } }
+{
+    let mut bytes: usize = 0;
+    for entry in listed.list {
+        bytes = bytes.saturating_add(listed.named(*entry).len());
+    }
+    Sizes {
+        bytes,
+        units: listed.list.len(),
+    }
 }
 
-impl Listed<'_> {
-    // How many units there are, and how many bytes they have, as far as a usize counts.
-    fn sizes(&self) -> Sizes
-        ensures { result ≡ record { bytes = capped (length (stream_bytes (units_listed self.now))); units = length self.now.list.now } }
-    {
-        let mut bytes: usize = 0;
-        for entry in self.list {
-            bytes = bytes.saturating_add(unit(self.pictures, self.shows, self.ends, *entry).len());
-        }
-        Sizes {
-            bytes,
-            units: self.list.len(),
-        }
+// Writes the units and their ends, where their room is known.
+fn put_units(listed: UnitList, units: &mut [u8], unit_ends: &mut [u32])
+    requires { HasRoom (room_in units.old unit_ends.old) (units_listed listed) }
+    ensures units_after { units.new ≡ pasted units.old 0 (stream_bytes (units_listed listed.entry)) }
+    ensures unit_ends_after { unit_ends.new ≡ pasted unit_ends.old 0 (ends_of 0 (units_listed listed.entry)) }
+{
+    let mut at: usize = 0;
+    for i in 0..listed.list.len() {
+        at = put_bytes(units, at, listed.named(listed.list[i]));
+        unit_ends[i] = at as u32;
     }
+}
 
-    // Writes the units and their ends, where their room is known.
-    fn put(&self, units: &mut [u8], unit_ends: &mut [u32])
-        requires { HasRoom (room_in units.old unit_ends.old) (units_listed self.now) }
-        ensures units_after { units.new ≡ pasted units.old 0 (stream_bytes (units_listed self.now)) }
-        ensures unit_ends_after { unit_ends.new ≡ pasted unit_ends.old 0 (ends_of 0 (units_listed self.now)) }
-    {
-        let mut at: usize = 0;
-        for i in 0..self.list.len() {
-            let u = unit(self.pictures, self.shows, self.ends, self.list[i]);
-            at = put_bytes(units, at, u);
-            unit_ends[i] = at as u32;
-        }
+// The units that the entries name: their bytes to `units`, the end of each to `unit_ends`. A refusal changes neither.
+pub fn gather(listed: UnitList, units: &mut [u8], unit_ends: &mut [u32]) -> Result<Sizes, Refusal>
+    ensures { Stores (gathered (units_listed listed.entry)) result (record {
+      entry = store units.old unit_ends.old;
+      exit = store units.new unit_ends.new;
+    }) }
+{
+    let sizes = sizes(listed);
+    if !sizes.have_room(units, unit_ends) {
+        return Err(Refusal::NoRoom);
     }
-
-    // The units that the entries name: their bytes to `units`, the end of each to `unit_ends`. A refusal changes neither.
-    pub fn gather(&self, units: &mut [u8], unit_ends: &mut [u32]) -> Result<Sizes, Refusal>
-        ensures { Stores (gathered (units_listed self.now)) result (record {
-          entry = store units.old unit_ends.old;
-          exit = store units.new unit_ends.new;
-        }) }
-    {
-        let sizes = self.sizes();
-        if !sizes.have_room(units, unit_ends) {
-            return Err(Refusal::NoRoom);
-        }
-        self.put(units, unit_ends);
-        Ok(sizes)
-    }
+    put_units(listed, units, unit_ends);
+    Ok(sizes)
 }

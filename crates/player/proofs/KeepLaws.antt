@@ -14,20 +14,16 @@ use Rattle.header.specs.Support.{supported_sequence}
 use Rattle.header.proofs.SupportLaws.{supported-read}
 use Rattle.frame.proofs.FrameFromLaws.{read_whole}
 use Rattle.player.specs.Player.{keep_as, keep}
-use Rattle.player.specs.Values.{kept_of, kept_says, kept_behind}
-use Rattle.std.specs.Prelude.{Option as Optional, Some, None, Result, Ok, Err, is_ok, ◌&&◌}
-use Rattle.bitio.specs.Refusal.{number, says}
+use Rattle.player.specs.Values.{kept_of, kept_says, header_kept, kept_behind}
+use Rattle.std.specs.Prelude.{Option as Optional, Some, None, Result, Ok, Err, MatchResult}
+use Rattle.bitio.specs.Refusal.{says}
 use Rattle.bitio.specs.declared.refusal.Refusal.{Refusal}
 
 -- what is kept in the code
 abbrev Kept : Type 0
 Kept = Optional SequenceObu
 
--- one sequence payload of a unit: 14 to 16, 17 to 20, or the header that is kept from it on
-abbrev pub header_kept : List ℕ → Answer Kept
-header_kept s = and_next (supported_sequence s) (λ q. accepted (kept_of q))
-
--- which is what the code keeps of what it has read
+-- one sequence payload of a unit in the code
 pub header-kept : (s : List ℕ) (r : Result SequenceObu Refusal) (x : Result Kept Refusal) → says r ≡ answer in_array (supported_sequence s) → says x ≡ answer (λ y. Some y) (says r) → says x ≡ header_kept s
 unfolding and_next
 header-kept s r x e f = f ∙ ap (answer (λ y. Some y)) e ∙ go (supported_sequence s)
@@ -68,33 +64,11 @@ module _ (k : Kept) (front : List Obu) (o : Obu) where
       one : (k : Kept) → keep_as kept_of k (o ∷ []) ≡ accepted k
       one k = rw t
 
-  -- in the code: a header that is read where none was refused
-  pub read-more : (r : Result Kept Refusal) {x : Answer Kept} → says r ≡ keep_as kept_of k front → (is_sequence o && is_ok r) ≡ true → x ≡ header_kept o.payload → x ≡ keep_as kept_of k (front ++ (o ∷ []))
-  unfolding and_next
-  read-more (Ok j) e t f = f ∙ ap (λ y. and_next y (λ _. header_kept o.payload)) e ∙ turn-header (and_true (is_sequence o) t)
-    where
-      and_true : (b : Bool) → (b && true) ≡ true → b ≡ true
-      and_true true h = refl
-      and_true false h = h
-  read-more (Err n) e t f = absurd (never (is_sequence o) t)
-    where
-      never : (b : Bool) → (b && false) ≡ true → ⊥
-      never true h = cc
-      never false h = cc
-
-  -- and any other OBU, or one behind a refusal
-  pub read-same : (r : Result Kept Refusal) → says r ≡ keep_as kept_of k front → (is_sequence o && is_ok r) ≡ false → says r ≡ keep_as kept_of k (front ++ (o ∷ []))
-  unfolding and_next
-  read-same (Ok j) e t = e ∙ turn-other (and_false (is_sequence o) t)
-    where
-      and_false : (b : Bool) → (b && true) ≡ false → b ≡ false
-      and_false true h = h
-      and_false false h = refl
-  read-same (Err n) e t = by-type (is_sequence o) refl
-    where
-      by-type : (b : Bool) → is_sequence o ≡ b → refused (number n) ≡ keep_as kept_of k (front ++ (o ∷ []))
-      by-type true h = ap (λ y. and_next y (λ _. header_kept o.payload)) e ∙ turn-header h
-      by-type false h = e ∙ turn-other h
+-- in the code: a header that is read where none was refused
+pub read-more : (last x : Result Kept Refusal) (s : List ℕ) → MatchResult last (λ _. says x ≡ header_kept s) (λ e. x ≡ Err e) → says x ≡ and_next (says last) (λ _. header_kept s)
+unfolding and_next
+read-more (Ok k) x s h = h
+read-more (Err e) x s h = ap says h
 
 -- ---- what is kept says what the definition keeps
 

@@ -7,11 +7,9 @@ use mathlib.Core.Bool.{Bool, true, false, cond as pick}
 use mathlib.Core.Option.{Option, none, some}
 use lib.ListN.{length}
 use lib.Dec.{leb}
-use Prim.Native.Nat.{◌≤◌, ◌<◌}
-use borrow.Author.Tests.{lt-leb, le-leb}
 use Rattle.std.specs.Prelude.{Option as Optional, Some, None, Ok}
 use Rattle.bitio.specs.Parse.{Answer, refused, accepted, answer, and_next}
-use Rattle.bitio.specs.Limits.{limit, led34}
+use Rattle.bitio.specs.Limits.{limit, led34, limited}
 use Rattle.bitio.proofs.ParseLaws.{next-chain}
 use Rattle.obu.specs.Obu.{Obu, obus}
 use Rattle.header.specs.Sequence.{Sequence, sequence_in}
@@ -113,27 +111,41 @@ module _ (st : CodeState) (p : ℕ) (u : List ℕ) where
   unfolding state_left
   refuses n e = let i = sym (played_in st p u) ∙ e in rw i (refl, refl)
 
-  pub long : limit < length u → Refuses 34
-  long h = refuses 34 (rw (lt-leb (length u) limit h))
+  -- the test of the length refuses, or it passes
+  pub long : (n : ℕ) → refused n ≡ limited u (accepted (tt {0})) → Refuses n
+  unfolding limited
+  long n e = refuses n (go (leb (length u) limit) e)
+    where
+      go : (b : Bool) → refused n ≡ pick b (accepted (tt {0})) (refused 34) → pick b (and_next (kept_behind st.kept u) (λ k. and_next (known (kept_says k)) (under st p u))) (refused 34) ≡ refused n
+      go false e = let k : 34 ≡ n = cc in ap (λ (i : ℕ). refused i) k
+      go true e = let z : ◌≡◌ {A = ℕ} 0 1 = cc in absurd (omega arith)
 
-  module _ (h : length u ≤ limit) where
+  short : accepted (tt {0}) ≡ limited u (accepted (tt {0})) → leb (length u) limit ≡ true
+  unfolding limited
+  short e = go (leb (length u) limit) e
+    where
+      go : (b : Bool) → accepted (tt {0}) ≡ pick b (accepted (tt {0})) (refused 34) → b ≡ true
+      go true e = refl
+      go false e = let z : ◌≡◌ {A = ℕ} 0 1 = cc in absurd (omega arith)
+
+  module _ (h : accepted (tt {0}) ≡ limited u (accepted (tt {0}))) where
     pub at-headers : (n : ℕ) → refused n ≡ kept_behind st.kept u → Refuses n
     unfolding and_next
-    at-headers n e = refuses n (rw (le-leb (length u) limit h, ← e))
+    at-headers n e = refuses n (rw (short h, ← e))
 
     pub at-none : accepted None ≡ kept_behind st.kept u → Refuses 26
     unfolding and_next
-    at-none e = refuses 26 (rw (le-leb (length u) limit h, ← e))
+    at-none e = refuses 26 (rw (short h, ← e))
 
     module _ (x : SequenceObu) (e : accepted (Some x) ≡ kept_behind st.kept u) where
       pub at-frame : (n : ℕ) → refused n ≡ unit_frame true (sequence_in x) u → Refuses n
       unfolding and_next
-      at-frame n f = refuses n (rw (le-leb (length u) limit h, ← e, ← f))
+      at-frame n f = refuses n (rw (short h, ← e, ← f))
 
       module _ (info : FrameHeaderInfo) (f : accepted info ≡ unit_frame true (sequence_in x) u) where
         acts : play_in_code st p u ≡ left_by (some (sequence_in x)) (act st.slots p info)
         unfolding and_next
-        acts = rw (le-leb (length u) limit h, ← e, ← f)
+        acts = rw (short h, ← e, ← f)
 
         pub at-slots : (n : ℕ) → refused n ≡ act st.slots p info → Refuses n
         unfolding and_next

@@ -5,6 +5,7 @@ use Rattle.bitio.specs.Parse.{Answer, refused, accepted, and_next}
 use Rattle.bitio.specs.Refusal.{number}
 use Rattle.bitio.specs.declared.refusal.Refusal.{Refusal}
 use Rattle.header.specs.Sequence.{Sequence, in_array, sequence_in}
+use Rattle.header.specs.Support.{supported_sequence}
 use Rattle.header.specs.declared.seq_header.SequenceObu.{SequenceObu}
 use Rattle.obu.specs.Obu.{obus}
 use Rattle.player.specs.Player.{Held, empty, Shown, State, keep_as, Played, play}
@@ -31,6 +32,10 @@ kept_of q = Some (in_array q)
 abbrev pub kept_says : Optional SequenceObu → Option Sequence
 kept_says None = none
 kept_says (Some x) = some (sequence_in x)
+
+-- of one sequence payload: 14 to 16, 17 to 20, or the header
+abbrev pub header_kept : List ℕ → Answer (Optional SequenceObu)
+header_kept s = and_next (supported_sequence s) (λ q. accepted (kept_of q))
 
 -- what is kept behind the unit u: 1 to 5, 14 to 16, 17 to 20
 unfoldable pub kept_behind : Optional SequenceObu → List ℕ → Answer (Optional SequenceObu)

@@ -6,7 +6,7 @@ ghost use Rattle.player.specs.Values.{shown_says, state_says, start_state, state
 
 use crate::keep::keep_headers;
 use crate::slots::{Slots, step};
-use bitio::limits::LIMIT;
+use bitio::limits::check_limit;
 use bitio::refusal::Refusal;
 use frame::unit_frame::unit_frame;
 use header::seq_header::SequenceObu;
@@ -34,13 +34,9 @@ impl State {
         ensures answer { shown_says result ≡ answer (λ r. r.shown) (play (state_says self.old) position unit.now) }
         ensures state { self.new ≡ state_left self.old position unit.now }
     {
-        if unit.len() > LIMIT {
-            return Err(Refusal::InputTooLong);
-        }
+        check_limit(unit)?;
         let kept = keep_headers(self.kept, unit)?;
-        let Some(sequence) = kept else {
-            return Err(Refusal::NoSequenceHeader);
-        };
+        let sequence = kept.ok_or(Refusal::NoSequenceHeader)?;
         let info = unit_frame(unit, &sequence, true)?;
         // document 01's form: a step by value, whose result the lent slots take
         let (slots, shown) = step(self.slots, position, info)?;

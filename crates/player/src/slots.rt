@@ -4,7 +4,7 @@ ghost use Rattle.player.specs.Player.{empty, show_slot, act};
 ghost use Rattle.player.specs.Values.{step_says};
 
 use bitio::refusal::Refusal;
-use frame::frame_header::FrameHeaderInfo;
+use frame::frame_header::{FrameHeaderInfo, FrameType};
 use frame::refresh::refresh;
 
 // What a slot holds: the unit at a position, and what its frame says.
@@ -21,10 +21,7 @@ pub type Slots = [Option<Slot>; 8];
 fn show_slot(slots: Slots, slot: u64) -> Result<(Slots, Option<u64>), Refusal>
     ensures { step_says result ≡ show_slot slots (get_or slots slot empty) }
 {
-    if slot >= 8 {
-        return Err(Refusal::EmptySlot);
-    }
-    let Some(held) = slots[slot as usize] else {
+    let Some(&Some(held)) = slots.get(slot as usize) else {
         return Err(Refusal::EmptySlot);
     };
     if !held.showable {
@@ -48,10 +45,10 @@ pub(crate) fn step(
             let held = Slot {
                 position,
                 showable: f.showable_frame,
-                key: f.frame_type.is_key(),
+                key: f.frame_type == FrameType::Key,
             };
             refresh(&mut slots, f.refresh_frame_flags, Some(held));
-            Ok((slots, if f.show_frame { Some(position) } else { None }))
+            Ok((slots, f.show_frame.then_some(position)))
         }
     }
 }

@@ -1,7 +1,7 @@
 -- Laws of items told by numbers.
-use Rattle.std.proofs.Common.{◌≡◌, ℕ, ◌+◌, ◌*◌, ◌^◌, ◌<◌, ◌≤◌, arith}
+use Rattle.std.proofs.Common.{◌≡◌, refl, true, ℕ, ◌+◌, ◌*◌, ◌/◌, ◌%◌, ◌^◌, ◌<◌, ◌≤◌, arith}
 use lib.Pow.{pow-add, pow_mono}
-use Rattle.protocol.specs.Kinds.{kind_code, before_code, item_code}
+use Rattle.protocol.specs.Kinds.{kind_code, before_code, item_code, kind_of, before_of, item_of, is_told}
 use Rattle.protocol.specs.declared.kinds.Kind.{Kind}
 use Rattle.protocol.specs.declared.kinds.Kind.TheVariants.{Bytes, Number, Number32, Byte, OptionalByte, Count, Named, Refused, Told, Negative, Slots}
 use Rattle.protocol.specs.declared.kinds.Before.{Before}
@@ -28,6 +28,33 @@ before_small Comma = omega arith
 
 pub code_small : (i : Item) → item_code i < 256
 code_small i = omega (arith, kind_small i.kind, before_small i.before)
+
+kind_back : (k : Kind) → is_told k ≡ true → kind_of (kind_code k) ≡ k
+unfolding kind_of
+kind_back Bytes e = refl
+kind_back Number e = refl
+kind_back Number32 e = cc
+kind_back Byte e = cc
+kind_back OptionalByte e = refl
+kind_back Count e = refl
+kind_back Named e = refl
+kind_back Refused e = refl
+kind_back Told e = cc
+kind_back Negative e = refl
+kind_back Slots e = refl
+
+before_back : (b : Before) → before_of (before_code b) ≡ b
+unfolding before_of
+before_back Space = refl
+before_back Colon = refl
+before_back Comma = refl
+
+-- an item that is told comes back as it was
+pub item_back : (i : Item) → is_told i.kind ≡ true → item_of (item_code i) ≡ i
+item_back i e =
+    let k : item_code i % 16 ≡ kind_code i.kind = omega (arith, kind_small i.kind) in
+    let b : item_code i / 16 % 16 ≡ before_code i.before = omega (arith, kind_small i.kind, before_small i.before) in
+    rw (k, b, kind_back i.kind e, before_back i.before) refl
 
 -- as many items behind one as m
 pub packed_small : (a p m n : ℕ) → m + 1 ≡ n → a < 256 → p < 2 ^ (8 * m) → a + 256 * p < 2 ^ (8 * n)

@@ -1,9 +1,10 @@
 -- What a request is answered, with what it tells in the memory lent to it. What has no room there is left out.
-use Rattle.std.specs.Prelude.{ℕ, ◌+◌, ◌%◌, ◌^◌, List, [], ◌∷◌, Bool, false, cond as pick, ◌&&◌, Option, Some, None, length, set, ltb}
+use Rattle.std.specs.Prelude.{◌≡◌, ℕ, ◌+◌, ◌%◌, ◌^◌, List, [], ◌∷◌, Bool, false, cond as pick, ◌&&◌, Option, Some, None, length, set, ltb}
 use Rattle.std.specs.Option.{option_map}
 use Rattle.bitio.specs.Lent.{pasted, has_room}
 use Rattle.bitio.specs.Refusal.{number}
 use Rattle.protocol.specs.declared.answer.Answer.{Answer}
+use Rattle.protocol.specs.declared.answer.Numbers.{Numbers}
 
 -- document 01's number of a refusal, or none, and how much of the memory lent is the answer's: bytes, ends of its parts, and
 -- numbers; dirty where a call has changed memory that it does not account for
@@ -52,6 +53,15 @@ with_number t v = pick (ltb t.answer.numbers (length t.numbers)) (stored_number 
 unfoldable pub with_numbers : Numbered → List ℕ → Numbered
 with_numbers t [] = t
 with_numbers t (v ∷ vs) = with_numbers (with_number t v) vs
+
+-- those of the code
+abbrev pub numbers_told : Numbers → Numbered
+numbers_told n = numbered (line n.answer) n.numbers.now
+
+-- these told more, in the same memory
+pub record Tells (old new : Numbers) (more : List ℕ) : Type 0 where
+  pub told : numbers_told new ≡ with_numbers (numbers_told old) more
+  pub lent : new.numbers.ghost_name ≡ old.numbers.ghost_name
 
 -- ---- bytes
 

@@ -9,6 +9,7 @@ use Rattle.protocol.specs.declared.kinds.Kind.{Kind}
 use Rattle.protocol.specs.declared.kinds.Kind.TheVariants.{Bytes, OptionalByte}
 use Rattle.protocol.specs.declared.kinds.Item.{Item}
 use Rattle.protocol.specs.declared.fields.Fields.{Fields}
+use Rattle.protocol.specs.declared.memory.Memory.{Memory}
 
 -- how far the fields of a line have been read: where the next starts, the kinds that follow, and how many bytes, byte strings
 -- and numbers there are
@@ -31,6 +32,10 @@ pub record FieldsRead : Type 0 where
 
 abbrev pub fields_read : Result Fields Fields → (decoded ends numbers : List ℕ) → FieldsRead
 fields_read f d es ns = record { fields = result_map_both place place f; decoded = d; ends = es; numbers = ns }
+
+-- into memory of the code
+abbrev pub read_into : Result Fields Fields → Memory → FieldsRead
+read_into f m = fields_read f m.bytes.now m.ends.now m.numbers.now
 
 -- ---- one field
 

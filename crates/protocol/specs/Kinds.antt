@@ -1,5 +1,5 @@
 -- What fields and printed items are (src/kinds.rt), and what stands before each.
-use Rattle.std.specs.Prelude.{ℕ, ◌+◌, ◌-◌, ◌*◌, ◌/◌, ◌%◌, ◌^◌, List, [], ◌∷◌, cond as pick, Option, Some, None, eqb}
+use Rattle.std.specs.Prelude.{ℕ, ◌+◌, ◌-◌, ◌*◌, ◌/◌, ◌%◌, ◌^◌, List, [], ◌∷◌, cond as pick, Bool, true, false, Option, Some, None, eqb}
 use Rattle.std.specs.Option.{option_map}
 use Rattle.protocol.specs.declared.kinds.Kind.{Kind}
 use Rattle.protocol.specs.declared.kinds.Kind.TheVariants.{Bytes, Number, Number32, Byte, OptionalByte, Count, Named, Refused, Told, Negative, Slots}
@@ -76,6 +76,13 @@ before_of d = pick (eqb d 1) Colon (pick (eqb d 2) Comma Space)
 -- of the two lowest digits
 abbrev pub item_of : ℕ → Item
 item_of c = record { before = before_of (c / 16 % 16); kind = kind_of (c % 16) }
+
+-- the kinds that come back from their digit: those of fields alone don't, nor what tells further items, which is read before
+abbrev pub is_told : Kind → Bool
+is_told Number32 = false
+is_told Byte = false
+is_told Told = false
+is_told _ = true
 
 -- ---- formats
 

@@ -1,7 +1,8 @@
 -- What an operation of a library answers, told as a request's answer in the memory lent to it.
-use Rattle.std.specs.Prelude.{ℕ, List}
+use Rattle.std.specs.Prelude.{◌≡◌, ℕ, List}
 use Rattle.bitio.specs.Parse.{Answer, refused, accepted}
 use Rattle.protocol.specs.Answers.{Line, parts_of, refused_with, Numbered, numbered, with_numbers, Filled, Parted, parted, with_parts}
+use Rattle.protocol.specs.declared.memory.Memory.{Memory}
 
 -- a refusal by document 01's number, or what f makes of the rest
 abbrev pub told_by : {A : Type 0} → (A → Line) → Answer A → Line
@@ -27,6 +28,16 @@ pub record Told : Type 0 where
 
 abbrev pub told : Line → List ℕ → List ℕ → List ℕ → Told
 told a s es ns = record { answer = a; bytes = s; ends = es; numbers = ns }
+
+-- with the memory of the code
+abbrev pub told_in : Line → Memory → Told
+told_in a m = told a m.bytes.now m.ends.now m.numbers.now
+
+-- the same memory, whatever it holds
+pub record SameMemory (old new : Memory) : Type 0 where
+  pub bytes : new.bytes.ghost_name ≡ old.bytes.ghost_name
+  pub ends : new.ends.ghost_name ≡ old.ends.ghost_name
+  pub numbers : new.numbers.ghost_name ≡ old.numbers.ghost_name
 
 -- numbers beside bytes and ends, bytes beside ends and numbers, bytes and ends beside numbers
 abbrev pub numbers_told : List ℕ → List ℕ → Numbered → Told

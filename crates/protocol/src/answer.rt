@@ -1,13 +1,11 @@
 // What a request is answered: a refusal, or so much of the memory lent to it. What has no room there is left out.
 ghost use Rattle.std.specs.Prelude.{◌≡◌, [], ◌∷◌};
 ghost use Rattle.bitio.specs.Refusal.{number, says};
-ghost use Rattle.protocol.specs.Answers.{line, parts_of, refused_with, numbered, with_numbers, parted, with_parts};
+ghost use Rattle.protocol.specs.Answers.{line, parts_of, refused_with, numbered, with_numbers, numbers_told, Tells, parted, with_parts};
 ghost use Rattle.protocol.specs.Told.{count_told};
 
 use bitio::refusal::Refusal;
 
-// kept: memory, ends and numbers are lent apart, as a struct of several `&mut` slices that is lent on to calls is not
-// covered by the borrow checker
 #[derive(Clone, Copy)]
 pub struct Answer {
     pub refused: Option<Refusal>,
@@ -52,6 +50,44 @@ pub fn count(written: Result<usize, Refusal>) -> Answer
     ensures { line result ≡ count_told (says written) }
 {
     written.map_or_else(refused, |n| parts(n, 0))
+}
+
+// An answer, and the numbers lent to it.
+#[derive(Drop)]
+pub struct Numbers<'a> {
+    pub answer: Answer,
+    pub numbers: &'a mut [u64],
+}
+
+impl<'a> Numbers<'a> {
+    pub fn new(numbers: &'a mut [u64]) -> Numbers<'a>
+        ensures told { numbers_told result ≡ numbered (parts_of 0 0) numbers.old }
+        ensures lent { result.numbers.ghost_name ≡ numbers.entry.ghost_name }
+    {
+        Numbers {
+            answer: done(),
+            numbers,
+        }
+    }
+
+    // One more.
+    pub fn put(&mut self, v: u64)
+        ensures { Tells self.old self.new (v ∷ []) }
+    {
+        self.answer = self.answer.number(v, self.numbers);
+    }
+
+    pub fn put_pair(&mut self, a: u64, b: u64)
+        ensures { Tells self.old self.new (a ∷ b ∷ []) }
+    {
+        self.answer = self.answer.pair(a, b, self.numbers);
+    }
+
+    pub fn put_list(&mut self, list: &[u64])
+        ensures { Tells self.old self.new list.now }
+    {
+        self.answer = self.answer.list(list, self.numbers);
+    }
 }
 
 impl Answer {

@@ -1,11 +1,13 @@
-// The fields of a line, each of the kind that its request asks for. Byte strings go into `decoded`, one behind the other,
-// and the end of each into `ends`; numbers go into `numbers`.
+// The fields of a line, each of the kind that its request asks for. They go into memory: byte strings one behind the
+// other, the end of each, and numbers.
 ghost use Rattle.std.specs.Prelude.{◌≡◌, List, ℕ};
 ghost use Rattle.protocol.specs.Room.{number_field};
-ghost use Rattle.protocol.specs.Fields.{place, fields_read, spoiled_of, bytes_field, value_of, value_field, field_of, is_all_of, fields_of};
+ghost use Rattle.protocol.specs.Fields.{place, fields_read, read_into, spoiled_of, bytes_field, value_of, value_field, field_of, is_all_of, fields_of};
 ghost use Rattle.protocol.specs.Kinds.{form};
+ghost use Rattle.protocol.specs.Told.{SameMemory};
 
 use crate::kinds::{Format, Kind, NO_BYTE};
+use crate::memory::Memory;
 use crate::text::{decode, read_decimal, word_at};
 
 // How far the fields of a line have been read.
@@ -85,14 +87,9 @@ impl Fields {
 
     // One more field, if one is left: it ends at what stands before the next.
     #[tactic(auto, unfolding(crate::specs::Fields::field_of))]
-    fn read_field(
-        self,
-        line: &[u8],
-        decoded: &mut [u8],
-        ends: &mut [u32],
-        numbers: &mut [u64],
-    ) -> Result<Fields, Fields>
-        ensures { fields_read result decoded.new ends.new numbers.new ≡ field_of line.now (place self) decoded.old ends.old numbers.old }
+    fn read_field(self, line: &[u8], memory: &mut Memory<'_, '_, '_>) -> Result<Fields, Fields>
+        ensures read { read_into result memory.new ≡ field_of line.now (place self) memory.old.bytes.now memory.old.ends.now memory.old.numbers.now }
+        ensures same { SameMemory memory.old memory.new }
     {
         let from = self.next;
         if from > line.len() {
@@ -106,9 +103,9 @@ impl Fields {
             ..self
         };
         if item.kind == Kind::Bytes {
-            behind.read_bytes(word, decoded, ends)
+            behind.read_bytes(word, memory.bytes, memory.ends)
         } else {
-            behind.read_number(item.kind, word, numbers)
+            behind.read_number(item.kind, word, memory.numbers)
         }
     }
 }
@@ -118,11 +115,10 @@ pub fn read_fields(
     line: &[u8],
     next: usize,
     format: Format,
-    decoded: &mut [u8],
-    ends: &mut [u32],
-    numbers: &mut [u64],
+    memory: &mut Memory<'_, '_, '_>,
 ) -> Result<Fields, Fields>
-    ensures { fields_read result decoded.new ends.new numbers.new ≡ fields_of line.now next (form format) decoded.old ends.old numbers.old }
+    ensures read { read_into result memory.new ≡ fields_of line.now next (form format) memory.old.bytes.now memory.old.ends.now memory.old.numbers.now }
+    ensures same { SameMemory memory.old memory.new }
 {
     let mut fields = Fields {
         next,
@@ -132,7 +128,7 @@ pub fn read_fields(
         numbers: 0,
     };
     for _ in 0..line.len() {
-        fields = fields.read_field(line, decoded, ends, numbers)?;
+        fields = fields.read_field(line, memory)?;
     }
     if fields.is_all(line) {
         Ok(fields)

@@ -77,20 +77,22 @@ pub const NUMBER: Item = Item {
 // What tells a further number of told items.
 pub(crate) const TOLD: u64 = Kind::Told as u64;
 
-impl Item {
-    // The two hexadecimal digits that tell it among an answer's numbers.
+// The two hexadecimal digits that tell an item among an answer's numbers.
+impl From<Item> for u64 {
+    ghost from_gives = { λ item code. (code ≡ item_code item) × (code < 256) };
+
     #[tactic(auto, using(crate::proofs::KindLaws::code_small))]
-    pub fn code(self) -> u64
-        ensures value { result ≡ item_code self }
-        ensures bound { result < 256 }
-    {
-        16 * self.before as u64 + self.kind as u64
+    fn from(item: Item) -> u64 {
+        16 * item.before as u64 + item.kind as u64
     }
+}
+
+// And back, from the two lowest digits: any other digit tells a number, or a space before it.
+impl From<u64> for Item {
+    ghost from_gives = { λ code item. item ≡ item_of code };
 
     #[tactic(auto, unfolding(crate::specs::Kinds::kind_of, crate::specs::Kinds::before_of))]
-    pub(crate) fn from_code(code: u64) -> Item
-        ensures { result ≡ item_of code }
-    {
+    fn from(code: u64) -> Item {
         let before = match code / 16 % 16 {
             1 => Before::Colon,
             2 => Before::Comma,
@@ -119,7 +121,7 @@ pub fn packed(items: &[Item]) -> u64
 {
     match items {
         [] => 0,
-        [first, others @ ..] => first.code() + 256 * packed(others),
+        [first, others @ ..] => u64::from(*first) + 256 * packed(others),
     }
 }
 

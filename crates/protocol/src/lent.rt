@@ -2,9 +2,11 @@
 ghost use Rattle.std.specs.Prelude.{◌≡◌, drop};
 ghost use Rattle.std.specs.List.{list_all};
 ghost use Rattle.protocol.specs.Marked.{byte_mark, end_mark, number_mark, marked_for};
+ghost use Rattle.protocol.specs.Told.{SameMemory};
 ghost use Rattle.protocol.specs.Room.{room_prefix, size_lent, lent_by, is_there, lent_within};
 
 use crate::fields::number;
+use crate::memory::Memory;
 use crate::text::word_at;
 
 // As much as there ever is of bytes, of ends or list entries, and of times or cues.
@@ -145,17 +147,18 @@ impl Lent {
 }
 
 // Marks what is lent to a call.
-pub fn mark_lent(is_own: bool, memory: &mut [u8], ends: &mut [u32], numbers: &mut [u64])
-    ensures memory_after { memory.new ≡ marked_for is_own byte_mark memory.old }
-    ensures ends_after { ends.new ≡ marked_for is_own end_mark ends.old }
-    ensures numbers_after { numbers.new ≡ marked_for is_own number_mark numbers.old }
+pub fn mark_lent(is_own: bool, memory: &mut Memory<'_, '_, '_>)
+    ensures bytes { memory.new.bytes.now ≡ marked_for is_own byte_mark memory.old.bytes.now }
+    ensures ends { memory.new.ends.now ≡ marked_for is_own end_mark memory.old.ends.now }
+    ensures numbers { memory.new.numbers.now ≡ marked_for is_own number_mark memory.old.numbers.now }
+    ensures same { SameMemory memory.old memory.new }
 {
     if is_own {
         return;
     }
-    memory.fill(BYTE_MARK);
-    ends.fill(END_MARK);
-    numbers.fill(NUMBER_MARK);
+    memory.bytes.fill(BYTE_MARK);
+    memory.ends.fill(END_MARK);
+    memory.numbers.fill(NUMBER_MARK);
 }
 
 // Whether every element from `from` on is as it was marked.

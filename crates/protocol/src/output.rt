@@ -1,6 +1,6 @@
 // Text on its way to standard output, in a buffer that is written out whenever it is full. The contracts give the place and
 // the buffer; what has reached standard output is the world's, and no contract can speak of it.
-ghost use Rattle.std.specs.Prelude.{◌≡◌, [], ◌∷◌, ◌<◌};
+ghost use Rattle.std.specs.Prelude.{◌≡◌, [], ◌∷◌};
 ghost use Rattle.protocol.specs.Typed.{start_output, typed, decimal_text, bytes_text};
 
 use crate::text::hex_digit;

@@ -4,7 +4,7 @@ ghost use Rattle.protocol.specs.Answers.{line};
 ghost use Rattle.protocol.specs.Kinds.{form};
 ghost use Rattle.protocol.specs.Marked.{is_clean};
 ghost use Rattle.protocol.specs.Typed.{typed};
-ghost use Rattle.protocol.specs.Printed.{left_told, printing, part_end, part_start, part_text, value_text, body_text, item_text, is_over, told_at, opened_of, opened_at, next_of, past_of, items_text, print_start, format_of, head_text, answer_text, bad_line};
+ghost use Rattle.protocol.specs.Printed.{left_told, printing, part_end, part_start, part_text, value_text, item_text, is_over, told_at, opened_of, opened_at, next_of, past_of, items_text, print_start, format_of, head_text, answer_text, bad_line};
 
 use crate::answer::Answer;
 use crate::kinds::{Format, Item, Kind, NO_BYTE, NUMBER, TOLD};
@@ -43,7 +43,7 @@ impl Printed {
         ensures { printing result ≡ told_at told numbers (printing self) }
     {
         Printed {
-            item: Item::from_code(told % 256),
+            item: Item::from(told % 256),
             told: told / 256,
             numbers,
             ..self
@@ -153,7 +153,7 @@ impl<'a> Left<'a> {
             format,
             ..printed
         };
-        if item.code() == TOLD {
+        if u64::from(item) == TOLD {
             self.opened(here)
         } else {
             here

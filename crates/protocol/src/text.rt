@@ -61,6 +61,7 @@ fn byte_count(text: &[u8]) -> Option<usize>
 
 // Writes the bytes of a byte string at `at`, and returns the place behind them; or writes nothing, if it is none or has no
 // room there.
+// kept: memory lent from the place on would have no place to add to, and need a test that the place lies in it
 pub(crate) fn decode(text: &[u8], out: &mut [u8], at: usize) -> Option<usize>
     ensures result_value { result ≡ decoded_to out.old at (byte_string text.now) }
     ensures out_after { out.new ≡ decoded_in out.old at (byte_string text.now) }

@@ -4,6 +4,7 @@
 use protocol::fields::Fields;
 use protocol::input::Input;
 use protocol::lent::mark_lent;
+use protocol::memory::Memory;
 use protocol::output::{Buffer, Output};
 use protocol::printer::{Left, bad_line, put_answer};
 use replay_requests::{Given, Request, operate, read_request};
@@ -49,33 +50,31 @@ fn given<'a>(fields: Fields, bytes: &'a [u8], ends: &'a [u32], numbers: &'a [u64
 }
 
 // The line of a request's answer, in memory of which so much as it asks for is lent, exactly.
-fn answer(
-    request: Request,
-    given: Given<'_>,
-    memory: &mut [u8],
-    ends: &mut [u32],
-    numbers: &mut [u64],
-    output: &mut Output,
-) {
-    let lent = request.lent.within(memory.len(), ends.len(), numbers.len());
-    let s = lent.bytes.min(memory.len());
-    let u = lent.ends.min(ends.len());
-    let n = lent.numbers.min(numbers.len());
-    let memory = &mut memory[..s];
-    let ends = &mut ends[..u];
-    let numbers = &mut numbers[..n];
-    mark_lent(lent.is_own, memory, ends, numbers);
-    let answer = operate(
-        request.operation,
-        request.lent,
-        given,
-        memory,
+fn answer(request: Request, given: Given<'_>, memory: Memory<'_, '_, '_>, output: &mut Output) {
+    let Memory {
+        bytes,
         ends,
         numbers,
-    );
+    } = memory;
+    let lent = request.lent.within(bytes.len(), ends.len(), numbers.len());
+    let s = lent.bytes.min(bytes.len());
+    let u = lent.ends.min(ends.len());
+    let n = lent.numbers.min(numbers.len());
+    let mut memory = Memory {
+        bytes: &mut bytes[..s],
+        ends: &mut ends[..u],
+        numbers: &mut numbers[..n],
+    };
+    mark_lent(lent.is_own, &mut memory);
+    let answer = operate(request.operation, request.lent, given, &mut memory);
+    let Memory {
+        bytes,
+        ends,
+        numbers,
+    } = memory;
     let left = Left {
         answer,
-        memory,
+        memory: bytes,
         ends,
         numbers,
     };
@@ -85,24 +84,21 @@ fn answer(
 impl Program {
     // Answers the line of so many characters that was read.
     fn answer_line(&mut self, len: usize) {
-        let request = read_request(
-            len,
-            &self.line,
-            &mut self.decoded,
-            &mut self.ends,
-            &mut self.numbers,
-        );
-        match request {
-            Ok(request) => answer(
-                request,
-                given(request.fields, &self.decoded, &self.ends, &self.numbers),
-                &mut self.memory,
-                &mut self.out_ends,
-                &mut self.out_numbers,
-                &mut self.output,
-            ),
-            Err(_) => bad_line(&mut self.output),
-        }
+        let mut fields = Memory {
+            bytes: &mut self.decoded,
+            ends: &mut self.ends,
+            numbers: &mut self.numbers,
+        };
+        let Ok(request) = read_request(len, &self.line, &mut fields) else {
+            return bad_line(&mut self.output);
+        };
+        let given = given(request.fields, &self.decoded, &self.ends, &self.numbers);
+        let memory = Memory {
+            bytes: &mut self.memory,
+            ends: &mut self.out_ends,
+            numbers: &mut self.out_numbers,
+        };
+        answer(request, given, memory, &mut self.output);
     }
 
     // Answers all lines. Nothing says that the input ends, so the turns are counted up to a number that no run reaches.

@@ -1,7 +1,7 @@
 -- Laws of a sequence header that was read, and of what is done with it.
 use Prim.Native.Nat.{ℕ}
 use native.Mathlib.Omega.{arith}
-use mathlib.Core.Path.{◌≡◌, ap}
+use mathlib.Core.Path.{◌≡◌, sym, ap}
 use mathlib.Core.List.{List}
 use mathlib.Core.Bool.{Bool, true, false, cond as pick}
 use Rattle.bitio.specs.Parse.{Answer, refused, accepted, answer}
@@ -23,6 +23,10 @@ header_refused s k e = go (header_of s) e
     go : (y : Answer Sequence) → refused k ≡ answer in_array y → y ≡ refused k
     go (refused j) e = let i : j ≡ k = cc in ap (λ y. refused y) i
     go (accepted q) e = let w : ◌≡◌ {A = ℕ} 0 1 = cc in absurd (omega arith)
+
+pub header_whole : (s : List ℕ) (x : Answer SequenceObu) → x ≡ answer in_array (header_of s) → answer sequence_in x ≡ header_of s
+header_whole s (accepted x) e = sym (header_read s x e)
+header_whole s (refused k) e = sym (header_refused s k e)
 
 -- a timed header has as many operating points
 pub timed_count : (num den : ℕ) (h x : SequenceHeader) → accepted x ≡ timed num den h → point_count x.opening ≡ point_count h.opening

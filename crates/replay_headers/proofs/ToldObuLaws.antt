@@ -5,40 +5,21 @@ use mathlib.Core.Path.{◌≡◌, refl, sym, ap, ◌∙◌}
 use mathlib.Core.List.{List, [], ◌∷◌, ◌++◌}
 use lib.ListN.{length}
 use Rattle.bitio.specs.Parse.{Answer, refused, accepted, answer}
-use Rattle.std.specs.Prelude.{Option as Optional, Some, None, Result, Ok, Err}
-use Rattle.std.specs.Result.{result_unwrap_or}
-use Rattle.bitio.specs.Refusal.{number}
-use Rattle.bitio.specs.declared.refusal.Refusal.{Refusal}
-use Rattle.obu.specs.Obu.{Obu, obus}
-use Rattle.obu.specs.Place.{lies, obu_place, extension_says, obu_says}
-use Rattle.obu.specs.declared.reader.Obu.{Obu as Found}
-use Rattle.obu.proofs.PlaceLaws.{Walked, walk_end, walk-stop}
+use Rattle.obu.specs.Obu.{Obu}
 use Rattle.obu.specs.Unit.{is_type, is_kind, count}
 use Rattle.obu.specs.declared.unit.Kind.TheVariants.{Any}
 use Rattle.protocol.specs.Answers.{Line, parts_of, Numbered, numbered, with_numbers}
 use Rattle.protocol.specs.Told.{Told, told, numbers_told}
 use Rattle.replay_headers.specs.Headers.{tell_obu, tell_obus, list_told}
 
-pub tell-next : (t : Told) (os : List Obu) (o : Obu) → tell_obus t (os ++ (o ∷ [])) ≡ tell_obu (tell_obus t os) o
+tell-next : (t : Told) (os : List Obu) (o : Obu) → tell_obus t (os ++ (o ∷ [])) ≡ tell_obu (tell_obus t os) o
 unfolding tell_obus
 tell-next t [] o = refl
 tell-next t (a ∷ os) o = tell-next (tell_obu t a) os o
 
--- an OBU that is found lies there
-pub found_one : (s : List ℕ) (at : ℕ) (o : Found) (r : Result (Optional Found) Refusal) → obu_says r ≡ obu_place s at → Some o ≡ result_unwrap_or r None
-    → obu_place s at ≡ lies o.obu_type (extension_says o.extension) o.start o.end
-found_one s at o (Ok x) e f = sym (rw (sym f) at e)
-found_one s at o (Err k) e f = let z : ◌≡◌ {A = ℕ} 0 1 = cc in absurd (omega arith)
-
--- where no OBU is found, those in front are all of a unit that reads
-pub found_all : (s : List ℕ) (at : ℕ) (front os : List Obu) (r : Result (Optional Found) Refusal) → Walked s at front → obu_says r ≡ obu_place s at → None ≡ result_unwrap_or r None
-    → obus s ≡ accepted os → front ≡ os
-found_all s at front os (Ok None) w e f h = let z : accepted front ≡ accepted os = sym (walk_end w (sym e)) ∙ h in cc
-found_all s at front os (Ok (Some o)) w e f h = let z : ◌≡◌ {A = ℕ} 0 1 = cc in absurd (omega arith)
-found_all s at front os (Err k) w e f h =
-    let n : refused (number k) ≡ accepted os = sym (walk-stop w (number k) (sym e)) ∙ h in
-    let z : ◌≡◌ {A = ℕ} 0 1 = cc in
-    absurd (omega arith)
+-- those in front are told, and then this one
+pub tell-more : (t : Told) (os : List Obu) (o : Obu) {x : Obu} {u w : Told} → u ≡ tell_obus t os → x ≡ o → w ≡ tell_obu u x → w ≡ tell_obus t (os ++ (o ∷ []))
+tell-more t os o {x} {u} e f g = g ∙ ap (tell_obu u) f ∙ ap (λ v. tell_obu v o) e ∙ sym (tell-next t os o)
 
 -- ---- how many there are
 

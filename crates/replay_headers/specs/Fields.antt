@@ -1,8 +1,9 @@
 -- A sequence header's fields as numbers, in the protocol's order.
-use Rattle.std.specs.Prelude.{ℕ, ◌+◌, ◌%◌, Bool, not, ◌&&◌, cond as pick, eqb}
+use Rattle.std.specs.Prelude.{ℕ, ◌+◌, ◌%◌, Bool, not, ◌&&◌, cond as pick}
 use mathlib.Core.List.{List, [], ◌∷◌, ◌++◌, flat_map}
 use mir.Val.{bool_byte}
 use Rattle.header.specs.Sequence.{Sequence}
+use Rattle.header.specs.SequenceCoding.{srgb}
 use Rattle.header.specs.declared.seq_header.TimingInfo.{TimingInfo}
 use Rattle.header.specs.declared.seq_header.DecoderModelInfo.{DecoderModelInfo}
 use Rattle.header.specs.declared.seq_header.Opening.{Opening}
@@ -94,7 +95,7 @@ color_fields x =
 -- sRGB implies its color_range, of which the Rust keeps none: 2
 abbrev pub range_field : ColorDescription → Bool → ℕ
 range_field x range =
-    pick (((eqb x.color_primaries 1 && eqb x.transfer_characteristics 13) && eqb x.matrix_coefficients 0) && not x.mono_chrome) 2 (bool_byte range)
+    pick (srgb x && not x.mono_chrome) 2 (bool_byte range)
 
 abbrev pub sampling_fields : ColorSampling → ℕ → Bool → List ℕ
 sampling_fields x range grain =

@@ -1,5 +1,5 @@
 -- What the requests on bits, OBUs and headers are answered, with the memory lent to them.
-use Rattle.std.specs.Prelude.{ℕ, ◌%◌, ◌^◌, ◌≡◌, List, [], ◌∷◌, Bool, cond as pick, length, eqb}
+use Rattle.std.specs.Prelude.{ℕ, ◌%◌, ◌^◌, ◌≡◌, List, [], ◌∷◌, cond as pick, length, eqb}
 use Rattle.std.specs.Prelude.{Option as Optional, Some, None}
 use Rattle.std.proofs.Math.Option.{Option, none, some}
 use mir.Val.{bool_byte}
@@ -13,7 +13,6 @@ use Rattle.obu.specs.Obu.{Obu, obus}
 use Rattle.obu.specs.Write.{obu_placed, obu_lent}
 use Rattle.header.specs.Sequence.{Sequence, parse_sequence}
 use Rattle.header.specs.Support.{support}
-use Rattle.header.specs.declared.seq_header.SequenceHeader.{SequenceHeader}
 use Rattle.header.specs.Timed.{timed}
 use Rattle.emit.specs.Emit.{emit_placed, emit_lent}
 use Rattle.frame.specs.Frame.{parse_frame_from}
@@ -105,25 +104,25 @@ seq_told s ns = numbers_by sequence_fields (header_of s) ns
 abbrev pub support_told : List ℕ → Line
 support_told s = told_by (λ _. parts_of 0 0) (support_of s)
 
--- the header as it was read, or timed
-abbrev pub timed_if : Bool → ℕ → ℕ → SequenceHeader → Answer SequenceHeader
-timed_if is-timed num den h = pick is-timed (timed num den h) (accepted h)
+-- a header timed, with its operating points
+abbrev pub retimed : ℕ → ℕ → Sequence → Answer Sequence
+retimed num den q = answer (λ h. record { header = h; points = q.points }) (timed num den q.header)
 
--- the same with its operating points
-abbrev pub renewed : Bool → ℕ → ℕ → Sequence → Answer Sequence
-renewed is-timed num den q = answer (λ h. record { header = h; points = q.points }) (timed_if is-timed num den q.header)
+unfoldable pub timed_of : ℕ → ℕ → List ℕ → Answer Sequence
+timed_of num den s = and_next (header_of s) (retimed num den)
 
-unfoldable pub emitted_of : Bool → ℕ → ℕ → List ℕ → Answer Sequence
-emitted_of is-timed num den s = and_next (header_of s) (renewed is-timed num den)
-
--- its payload at the head of lent memory
+-- a header's payload at the head of lent memory
 abbrev pub emitted_told : Answer Sequence → List ℕ → Filled
 emitted_told (refused k) m = filled (refused_with k) m
 emitted_told (accepted q) m = filled (count_told (emit_placed m 0 q)) (emit_lent m 0 q)
 
--- emit PAYLOAD, timed PAYLOAD NUM DEN
-abbrev pub emit_told : List ℕ → Bool → ℕ → ℕ → List ℕ → Filled
-emit_told s is-timed num den m = emitted_told (emitted_of is-timed (num % 2 ^ 32) (den % 2 ^ 32) s) m
+-- emit PAYLOAD
+abbrev pub emit_told : List ℕ → List ℕ → Filled
+emit_told s m = emitted_told (header_of s) m
+
+-- timed PAYLOAD NUM DEN
+abbrev pub timed_told : List ℕ → ℕ → ℕ → List ℕ → Filled
+timed_told s num den m = emitted_told (timed_of (num % 2 ^ 32) (den % 2 ^ 32) s) m
 
 abbrev pub frame_fields : FrameHeaderInfo → List ℕ
 frame_fields (Existing slot) = 1 ∷ slot ∷ []

@@ -4,7 +4,7 @@ ghost use Rattle.bitio.specs.Parse.{answer};
 ghost use Rattle.bitio.specs.Refusal.{says};
 ghost use Rattle.header.specs.Sequence.{sequence_in};
 ghost use Rattle.protocol.specs.Answers.{line, parts_of, numbered, filled, with_numbers};
-ghost use Rattle.replay_headers.specs.Headers.{support_of, seq_told, support_told, emitted_of, emit_told, frame_fields, frame_told};
+ghost use Rattle.replay_headers.specs.Headers.{support_of, seq_told, support_told, emitted_told, emit_told, timed_of, timed_told, frame_fields, frame_told};
 
 use crate::sequence_fields::put_sequence;
 use bitio::refusal::Refusal;
@@ -42,29 +42,38 @@ pub fn support(s: &[u8]) -> Answer
     check_payload(s).map_or_else(refused, |()| done())
 }
 
-// The header as it was read, or timed.
-fn renew(s: &[u8], is_timed: bool, num: u32, den: u32) -> Result<SequenceObu, Refusal>
-    ensures { answer sequence_in (says result) ≡ emitted_of is_timed num den s.now }
+fn tell_emitted(read: Result<SequenceObu, Refusal>, memory: &mut [u8]) -> Answer
+    ensures { filled (line result) memory.new ≡ emitted_told (answer sequence_in (says read)) memory.old }
+{
+    // kept: `and_then` was tried, and the proof of its closure, which writes to `memory`, didn't close.
+    match read {
+        Ok(sequence) => count(emit_sequence_header(&sequence, memory, 0)),
+        Err(refusal) => refused(refusal),
+    }
+}
+
+// emit PAYLOAD
+pub fn emit(s: &[u8], memory: &mut [u8]) -> Answer
+    ensures { filled (line result) memory.new ≡ emit_told s.now memory.old }
+{
+    tell_emitted(parse_sequence_header(s), memory)
+}
+
+fn read_timed(s: &[u8], num: u32, den: u32) -> Result<SequenceObu, Refusal>
+    ensures { answer sequence_in (says result) ≡ timed_of num den s.now }
 {
     let sequence = parse_sequence_header(s)?;
-    if !is_timed {
-        return Ok(sequence);
-    }
     let header = with_timing_info_rate(sequence.header, num, den)?;
     Ok(SequenceObu { header, ..sequence })
 }
 
-// emit PAYLOAD, timed PAYLOAD NUM DEN
-pub fn emit(s: &[u8], is_timed: bool, num: u64, den: u64, memory: &mut [u8]) -> Answer
-    ensures { filled (line result) memory.new ≡ emit_told s.now is_timed num den memory.old }
+// timed PAYLOAD NUM DEN
+pub fn timed(s: &[u8], num: u64, den: u64, memory: &mut [u8]) -> Answer
+    ensures { filled (line result) memory.new ≡ timed_told s.now num den memory.old }
 {
     let num = (num % 0x1_0000_0000) as u32;
     let den = (den % 0x1_0000_0000) as u32;
-    // kept: `and_then` was tried, and the proof of its closure, which writes to `memory`, didn't close.
-    match renew(s, is_timed, num, den) {
-        Ok(sequence) => count(emit_sequence_header(&sequence, memory, 0)),
-        Err(refusal) => refused(refusal),
-    }
+    tell_emitted(read_timed(s, num, den), memory)
 }
 
 fn put_frame(x: FrameHeaderInfo, numbers: &mut [u64]) -> Answer

@@ -3,14 +3,16 @@ ghost use Rattle.std.specs.Prelude.{◌≡◌};
 ghost use Rattle.obu.specs.Place.{extension_says, part};
 ghost use Rattle.obu.specs.Write.{obu};
 ghost use Rattle.protocol.specs.Answers.{line, filled};
-ghost use Rattle.protocol.specs.Told.{told};
+ghost use Rattle.protocol.specs.Told.{told_in, SameMemory};
 ghost use Rattle.replay_headers.specs.Headers.{extension_number, extension_from, tell_obu, AllTold, obus_told, obuput_told};
 
-use obu::reader::{Obu, obu_at, payload};
+use obu::obus::Obus;
+use obu::reader::Obu;
 use obu::unit::{Kind, count_obus};
 use obu::writer::put_obu;
 use protocol::answer::{Answer, count, done, refused};
 use protocol::kinds::NO_BYTE;
+use protocol::memory::Memory;
 
 fn extension_number(extension: Option<u8>) -> u64
     ensures { result ≡ extension_number (extension_says extension) }
@@ -19,48 +21,40 @@ fn extension_number(extension: Option<u8>) -> u64
 }
 
 // One more OBU: TYPE and EXT, and its payload as a part.
-fn put_one(
-    s: &[u8],
-    o: Obu,
-    so_far: Answer,
-    memory: &mut [u8],
-    ends: &mut [u32],
-    numbers: &mut [u64],
-) -> Answer
-    ensures { told (line result) memory.new ends.new numbers.new ≡ tell_obu (told (line so_far) memory.old ends.old numbers.old) (obu o.obu_type (extension_says o.extension) (part s.now o.start o.end)) }
+fn put_one(s: &[u8], o: Obu, so_far: Answer, memory: &mut Memory<'_, '_, '_>) -> Answer
+    ensures told { told_in (line result) memory.new ≡ tell_obu (told_in (line so_far) memory.old) (obu o.obu_type (extension_says o.extension) (part s.now o.start o.end)) }
+    ensures same { SameMemory memory.old memory.new }
 {
+    let extension = extension_number(o.extension);
     so_far
-        .pair(o.obu_type as u64, extension_number(o.extension), numbers)
-        .part(payload(s, o.start, o.end), memory, ends)
+        .pair(o.obu_type as u64, extension, memory.numbers)
+        .part(o.payload(s), memory.bytes, memory.ends)
 }
 
 // All OBUs of a unit that reads.
-fn put_obus(
-    s: &[u8],
-    so_far: Answer,
-    memory: &mut [u8],
-    ends: &mut [u32],
-    numbers: &mut [u64],
-) -> Answer
-    ensures { AllTold s.now (told (line so_far) memory.old ends.old numbers.old) (told (line result) memory.new ends.new numbers.new) }
+fn put_obus(s: &[u8], so_far: Answer, memory: &mut Memory<'_, '_, '_>) -> Answer
+    ensures told { AllTold s.now (told_in (line so_far) memory.old) (told_in (line result) memory.new) }
+    ensures same { SameMemory memory.old memory.new }
 {
     let mut answer = so_far;
-    let mut at: usize = 0;
-    while let Some(o) = obu_at(s, at).unwrap_or(None) {
-        answer = put_one(s, o, answer, memory, ends, numbers);
-        at = o.end;
+    for found in Obus::new(s) {
+        let Ok(o) = found else {
+            return answer;
+        };
+        answer = put_one(s, o, answer, memory);
     }
     answer
 }
 
 // obus UNIT
-pub fn obus(s: &[u8], memory: &mut [u8], ends: &mut [u32], numbers: &mut [u64]) -> Answer
-    ensures { told (line result) memory.new ends.new numbers.new ≡ obus_told s.now memory.old ends.old numbers.old }
+pub fn obus(s: &[u8], memory: &mut Memory<'_, '_, '_>) -> Answer
+    ensures told { told_in (line result) memory.new ≡ obus_told s.now memory.old.bytes.now memory.old.ends.now memory.old.numbers.now }
+    ensures same { SameMemory memory.old memory.new }
 {
     match count_obus(s, Kind::Any) {
         Ok(n) => {
-            let answer = done().number(n as u64, numbers);
-            put_obus(s, answer, memory, ends, numbers)
+            let answer = done().number(n as u64, memory.numbers);
+            put_obus(s, answer, memory)
         }
         Err(refusal) => refused(refusal),
     }

@@ -1,14 +1,14 @@
 // A sequence header's fields, in the protocol's order.
 ghost use Rattle.std.specs.Prelude.{◌≡◌};
 ghost use Rattle.header.specs.Sequence.{sequence_in};
-ghost use Rattle.protocol.specs.Answers.{line, parts_of, numbered, with_numbers};
+ghost use Rattle.protocol.specs.Answers.{line, parts_of, numbered, with_numbers, Tells};
 ghost use Rattle.replay_headers.specs.Fields.{timing_fields, model_fields, opening_fields, size_fields, id_fields, tool_fields, hint_bits, screen_fields, filter_fields, color_fields, range_field, sampling_fields, coding_fields, point_fields, points_fields, sequence_fields};
 
 use header::seq_header::{
     Coding, ColorDescription, ColorSampling, DecoderModelInfo, Filters, FrameIds, FrameSize,
     Opening, OperatingPoint, ScreenTools, SequenceObu, TimingInfo, Tools,
 };
-use protocol::answer::{Answer, done};
+use protocol::answer::{Answer, Numbers};
 
 fn timing_fields(x: TimingInfo) -> [u64; 5]
     ensures { result ≡ timing_fields x }
@@ -34,19 +34,18 @@ fn model_fields(x: DecoderModelInfo) -> [u64; 5]
     ]
 }
 
-fn put_opening(x: Opening, so_far: Answer, numbers: &mut [u64]) -> Answer
-    ensures { numbered (line result) numbers.new ≡ with_numbers (numbered (line so_far) numbers.old) (opening_fields x) }
+fn put_opening(x: Opening, numbers: &mut Numbers<'_>)
+    ensures { Tells numbers.old numbers.new (opening_fields x) }
 {
     let flags = [
         x.seq_profile,
         x.still_picture as u64,
         x.reduced_still_picture_header as u64,
     ];
-    so_far
-        .list(&flags, numbers)
-        .list(&timing_fields(x.timing), numbers)
-        .list(&model_fields(x.model), numbers)
-        .number(x.initial_display_delay_present as u64, numbers)
+    numbers.put_list(&flags);
+    numbers.put_list(&timing_fields(x.timing));
+    numbers.put_list(&model_fields(x.model));
+    numbers.put(x.initial_display_delay_present as u64);
 }
 
 fn size_fields(x: FrameSize) -> [u64; 4]
@@ -133,10 +132,7 @@ fn color_fields(x: ColorDescription) -> [u64; 7]
 fn range_of(x: ColorDescription, range: bool) -> u64
     ensures { result ≡ range_field x range }
 {
-    let srgb = (x.color_primaries == 1)
-        & (x.transfer_characteristics == 13)
-        & (x.matrix_coefficients == 0);
-    if srgb & !x.mono_chrome {
+    if x.is_srgb() && !x.mono_chrome {
         2
     } else {
         range as u64
@@ -156,20 +152,19 @@ fn sampling_fields(x: ColorSampling, range: u64, grain: bool) -> [u64; 6]
     ]
 }
 
-fn put_coding(x: Coding, so_far: Answer, numbers: &mut [u64]) -> Answer
-    ensures { numbered (line result) numbers.new ≡ with_numbers (numbered (line so_far) numbers.old) (coding_fields x) }
+fn put_coding(x: Coding, numbers: &mut Numbers<'_>)
+    ensures { Tells numbers.old numbers.new (coding_fields x) }
 {
     let screen = screen_fields(x.screen, x.tools.enable_order_hint);
     let range = range_of(x.color, x.sampling.color_range);
     let sampling = sampling_fields(x.sampling, range, x.film_grain_params_present);
-    so_far
-        .list(&size_fields(x.size), numbers)
-        .list(&id_fields(x.ids), numbers)
-        .list(&tool_fields(x.tools), numbers)
-        .list(&screen, numbers)
-        .list(&filter_fields(x.filters), numbers)
-        .list(&color_fields(x.color), numbers)
-        .list(&sampling, numbers)
+    numbers.put_list(&size_fields(x.size));
+    numbers.put_list(&id_fields(x.ids));
+    numbers.put_list(&tool_fields(x.tools));
+    numbers.put_list(&screen);
+    numbers.put_list(&filter_fields(x.filters));
+    numbers.put_list(&color_fields(x.color));
+    numbers.put_list(&sampling);
 }
 
 fn point_fields(x: OperatingPoint) -> [u64; 9]
@@ -188,21 +183,21 @@ fn point_fields(x: OperatingPoint) -> [u64; 9]
     ]
 }
 
-fn put_points(points: &[OperatingPoint], so_far: Answer, numbers: &mut [u64]) -> Answer
-    ensures { numbered (line result) numbers.new ≡ with_numbers (numbered (line so_far) numbers.old) (points_fields points.now) }
+fn put_points(points: &[OperatingPoint], numbers: &mut Numbers<'_>)
+    ensures { Tells numbers.old numbers.new (points_fields points.now) }
 {
-    let mut answer = so_far;
     for point in points {
-        answer = answer.list(&point_fields(*point), numbers);
+        numbers.put_list(&point_fields(*point));
     }
-    answer
 }
 
 // All fields of a header, and its operating points.
 pub(crate) fn put_sequence(sequence: &SequenceObu, numbers: &mut [u64]) -> Answer
     ensures { numbered (line result) numbers.new ≡ with_numbers (numbered (parts_of 0 0) numbers.old) (sequence_fields (sequence_in sequence.now)) }
 {
-    let answer = put_opening(sequence.header.opening, done(), numbers);
-    let answer = put_coding(sequence.header.coding, answer, numbers);
-    put_points(sequence.points(), answer, numbers)
+    let mut told = Numbers::new(numbers);
+    put_opening(sequence.header.opening, &mut told);
+    put_coding(sequence.header.coding, &mut told);
+    put_points(sequence.points(), &mut told);
+    told.answer
 }

@@ -44,7 +44,7 @@ module _ (t : Numbered) (item others : Item) (l : List ℕ) (i : ℕ) where
 
 -- ---- an outcome, from what the call left in the slices d
 
-pub told_handed : {x : Lent → Outcome Output} {r : Result Counts Fault} {d : Both Lent Lent} (m e n : List ℕ) {lent : Lent} → Handed x r d → d.entry ≡ lent
-    → handed_told (outcome_of r) d.exit m e n ≡ outcome_told (x lent) lent m e n
+pub told_handed : {x : Lent → Outcome Output} {r : Result Counts Fault} {d : Both Lent Lent} (m e n : List ℕ) → Handed x r d
+    → handed_told (outcome_of r) d.exit m e n ≡ outcome_told (x d.entry) d.entry m e n
 unfolding outcome_told
-told_handed m e n h i = rw (h.answer, h.lent, i)
+told_handed m e n h = rw (h.answer, h.lent)

@@ -43,7 +43,7 @@ segments_asked es = min (length es / 2) 10923
 
 -- the slices that assembly is lent, in the code
 abbrev pub handed : Slices → Lent
-handed x = six x.list.now x.cues.now x.pictures.now x.ends.now x.shows.now x.header.now
+handed x = six x.units.list.now x.cues.now x.units.pictures.now x.units.ends.now x.units.shows.now x.header.now
 
 -- list, cues and picture bytes as the request lends them, the others ample; all are marked
 abbrev pub slices_lent : LineLent → Lent

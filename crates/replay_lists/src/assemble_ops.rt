@@ -2,19 +2,19 @@
 ghost use Rattle.std.specs.Prelude.{◌≡◌};
 ghost use Rattle.bitio.specs.Lent.{pasted};
 ghost use Rattle.blocks.specs.Numbers.{segment_count};
-ghost use Rattle.assemble.specs.Whole.{outcome};
+ghost use Rattle.assemble.specs.Whole.{outcome, lent_of, SameBuffers};
 ghost use Rattle.protocol.specs.Answers.{line};
-ghost use Rattle.protocol.specs.Told.{told};
+ghost use Rattle.protocol.specs.Told.{told_in, SameMemory};
 ghost use Rattle.replay_lists.specs.Lists.{settings_of, segment_records, slices_lent, outcome_told, assemble_told};
 
 use crate::assembled::Slices;
-use assemble::multi::assemble_multi;
+use assemble::multi::{Buffers, assemble_multi};
 use bitio::ends::{end_of, start_of};
 use blocks::numbers::{Segment, WIDTH, put_record, segment_count};
 use pictures::settings::Settings;
 use protocol::answer::Answer;
 use protocol::lent::{BYTE_MARK, BYTES_LENT, END_MARK, ENDS_LENT, Lent};
-use protocol::memory::number_at;
+use protocol::memory::{Memory, number_at};
 
 // No line has more segments, six characters each.
 const SEGMENTS: usize = 10923;
@@ -54,17 +54,32 @@ fn put_segments(ends: &[u32], numbers: &[u64], segments: &mut [u64])
     }
 }
 
-// Assembly into slices of which list, cues and picture bytes are lent exactly, and what it left in them.
+// Assembly, and what it left in the slices.
+fn assemble_into(
+    settings: Settings,
+    s: &[u8],
+    segments: &[u64],
+    buffers: &mut Buffers<'_, '_, '_, '_, '_, '_>,
+    memory: &mut Memory<'_, '_, '_>,
+) -> Answer
+    ensures told { told_in (line result) memory.new ≡ outcome_told (outcome s.now segments.now settings (lent_of buffers.old)) (lent_of buffers.old) memory.old.bytes.now memory.old.ends.now memory.old.numbers.now }
+    ensures same { SameMemory memory.old memory.new }
+    ensures same_buffers { SameBuffers buffers.old buffers.new }
+{
+    let made = assemble_multi(s, segments, settings, buffers);
+    Slices::of(buffers).put_handed(made, memory)
+}
+
+// Into slices of which list, cues and picture bytes are lent exactly.
 fn assemble_lent(
     settings: Settings,
     lent: Lent,
     s: &[u8],
     segments: &[u64],
-    memory: &mut [u8],
-    out_ends: &mut [u32],
-    numbers: &mut [u64],
+    memory: &mut Memory<'_, '_, '_>,
 ) -> Answer
-    ensures { told (line result) memory.new out_ends.new numbers.new ≡ outcome_told (outcome s.now segments.now settings (slices_lent lent)) (slices_lent lent) memory.old out_ends.old numbers.old }
+    ensures told { told_in (line result) memory.new ≡ outcome_told (outcome s.now segments.now settings (slices_lent lent)) (slices_lent lent) memory.old.bytes.now memory.old.ends.now memory.old.numbers.now }
+    ensures same { SameMemory memory.old memory.new }
 {
     let list = &mut [END_MARK; ENDS_LENT];
     let cues = &mut [END_MARK; ENDS_LENT];
@@ -72,21 +87,15 @@ fn assemble_lent(
     let ends = &mut [END_MARK; ENDS_LENT];
     let shows = &mut [BYTE_MARK; SHOWS];
     let header = &mut [BYTE_MARK; ENDS_LENT];
-    let list = &mut list[..lent.ends.min(ENDS_LENT)];
-    let cues = &mut cues[..lent.numbers.min(ENDS_LENT)];
-    let pictures = &mut pictures[..lent.bytes.min(BYTES_LENT)];
-    let made = assemble_multi(
-        s, segments, settings, list, cues, pictures, ends, shows, header,
-    );
-    let slices = Slices {
-        list,
-        cues,
-        pictures,
+    let mut buffers = Buffers {
+        list: &mut list[..lent.ends.min(ENDS_LENT)],
+        cues: &mut cues[..lent.numbers.min(ENDS_LENT)],
+        pictures: &mut pictures[..lent.bytes.min(BYTES_LENT)],
         ends,
         shows,
         header,
     };
-    slices.put_handed(made, memory, out_ends, numbers)
+    assemble_into(settings, s, segments, &mut buffers, memory)
 }
 
 // assemble GOP FPS DEN KEY GOLDEN FRAMES ..
@@ -95,15 +104,14 @@ pub fn assemble(
     s: &[u8],
     ends: &[u32],
     fields: &[u64],
-    memory: &mut [u8],
-    out_ends: &mut [u32],
-    numbers: &mut [u64],
+    memory: &mut Memory<'_, '_, '_>,
 ) -> Answer
-    ensures { told (line result) memory.new out_ends.new numbers.new ≡ assemble_told lent s.now ends.now fields.now memory.old out_ends.old numbers.old }
+    ensures told { told_in (line result) memory.new ≡ assemble_told lent s.now ends.now fields.now memory.old.bytes.now memory.old.ends.now memory.old.numbers.now }
+    ensures same { SameMemory memory.old memory.new }
 {
     let mut segments = [0u64; NUMBERS];
     let segments = &mut segments[..WIDTH * (ends.len() / 2).min(SEGMENTS)];
     put_segments(ends, fields, segments);
     let settings = settings_of(fields);
-    assemble_lent(settings, lent, s, segments, memory, out_ends, numbers)
+    assemble_lent(settings, lent, s, segments, memory)
 }

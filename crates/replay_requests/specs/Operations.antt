@@ -1,9 +1,9 @@
 -- What each request is answered: the outcome of its operation, told in the memory lent to it.
-use Rattle.std.specs.Prelude.{ℕ, List, true, false, get_or}
+use Rattle.std.specs.Prelude.{ℕ, List, get_or}
 use Rattle.obu.specs.Place.{part_in}
 use Rattle.protocol.specs.Told.{Told, told, numbers_told, bytes_told, parts_told}
 use Rattle.protocol.specs.declared.lent.Lent.{Lent}
-use Rattle.replay_headers.specs.Headers.{bits_told, uvlc_told, leb_told, lebput_told, obus_told, obuput_told, seq_told, support_told, emit_told, frame_told}
+use Rattle.replay_headers.specs.Headers.{bits_told, uvlc_told, leb_told, lebput_told, obus_told, obuput_told, seq_told, support_told, emit_told, timed_told, frame_told}
 use Rattle.replay_units.specs.Containers.{stream_told, annexb_told, wstream_told, wannexb_told, canon_told, packets_told}
 use Rattle.replay_lists.specs.Lists.{assemble_told}
 use Rattle.replay_lists.specs.Plays.{play_told}
@@ -22,8 +22,8 @@ operated_with Obus a b room s es ns m e n = obus_told s m e n
 operated_with Obuput a b room s es ns m e n = bytes_told e n (obuput_told a b s m)
 operated_with Seq a b room s es ns m e n = numbers_told m e (seq_told s n)
 operated_with Support a b room s es ns m e n = told (support_told s) m e n
-operated_with Emit a b room s es ns m e n = bytes_told e n (emit_told s false 0 0 m)
-operated_with Timed a b room s es ns m e n = bytes_told e n (emit_told s true a b m)
+operated_with Emit a b room s es ns m e n = bytes_told e n (emit_told s m)
+operated_with Timed a b room s es ns m e n = bytes_told e n (timed_told s a b m)
 operated_with Frame a b room s es ns m e n = numbers_told m e (frame_told (part_in s es 0) (part_in s es 1) n)
 operated_with Stream a b room s es ns m e n = parts_told n (stream_told s m e)
 operated_with Annexb a b room s es ns m e n = parts_told n (annexb_told s m e)

@@ -8,6 +8,7 @@ use Rattle.protocol.specs.Fields.{Place, place, FieldsRead, fields_of}
 use Rattle.protocol.specs.declared.lent.Room.{Room}
 use Rattle.protocol.specs.declared.lent.Prefix.{Prefix}
 use Rattle.protocol.specs.declared.lent.Lent.{Lent}
+use Rattle.protocol.specs.declared.memory.Memory.{Memory}
 use Rattle.replay_requests.specs.Rows.{Row, row_of}
 use Rattle.replay_requests.specs.declared.rows.Operation.{Operation}
 use Rattle.replay_requests.specs.declared.requests.Request.{Request}
@@ -42,6 +43,10 @@ pub record Requested : Type 0 where
 
 abbrev pub requested : Result Request Unread → (decoded ends numbers : List ℕ) → Requested
 requested r d es ns = record { request = result_map_both asked unasked r; decoded = d; ends = es; numbers = ns }
+
+-- into memory of the code
+abbrev pub requested_in : Result Request Unread → Memory → Requested
+requested_in r m = requested r m.bytes.now m.ends.now m.numbers.now
 
 abbrev pub no_request : List ℕ → Form → Lent → Place → Result Asked Unasked
 no_request w g l p = Err (record { name = w; fields = p; format = g; lent = l })

@@ -1,14 +1,14 @@
 // A line as a request.
 ghost use Rattle.std.specs.Prelude.{◌≡◌};
-ghost use Rattle.std.specs.Result.{result_map_both};
 ghost use Rattle.protocol.specs.Room.{room_prefix};
-ghost use Rattle.protocol.specs.Fields.{place};
-ghost use Rattle.replay_requests.specs.Requests.{start_of, so_far, requested, request_in, request_of};
+ghost use Rattle.protocol.specs.Told.{SameMemory};
+ghost use Rattle.replay_requests.specs.Requests.{start_of, requested_in, request_in, request_of};
 
 use crate::rows::{Operation, row_of};
 use protocol::fields::{Fields, read_fields};
 use protocol::kinds::Format;
 use protocol::lent::{Lent, Room, room_prefix};
+use protocol::memory::Memory;
 use protocol::text::word_at;
 
 #[derive(Clone, Copy)]
@@ -52,57 +52,43 @@ fn start(line: &[u8]) -> (Option<Room>, usize)
     }
 }
 
-// The fields that were read, and whether they are all.
-fn so_far(read: Result<Fields, Fields>) -> (Fields, bool)
-    ensures { (place result.0, result.1) ≡ so_far (result_map_both place place read) }
-{
-    match read {
-        Ok(fields) => (fields, true),
-        Err(fields) => (fields, false),
-    }
-}
-
 // Its fields are read behind its name, which stands behind a prefix `room`. One that was not kept whole is no request.
 #[tactic(auto, unfolding(crate::specs::Requests::request_in))]
 fn read_line<'a>(
     line: &'a [u8],
     is_whole: bool,
-    decoded: &mut [u8],
-    ends: &mut [u32],
-    numbers: &mut [u64],
+    memory: &mut Memory<'_, '_, '_>,
 ) -> Result<Request, Unread<'a>>
-    ensures { requested result decoded.new ends.new numbers.new ≡ request_in is_whole line.now decoded.old ends.old numbers.old }
+    ensures read { requested_in result memory.new ≡ request_in is_whole line.now memory.old.bytes.now memory.old.ends.now memory.old.numbers.now }
+    ensures same { SameMemory memory.old memory.new }
 {
     let (room, from) = start(line);
     let name = word_at(line, from, b' ');
     let next = from + name.len() + 1;
     let Some(row) = row_of(name) else {
-        let read = read_fields(line, next, NO_ITEMS, decoded, ends, numbers);
+        let (Ok(fields) | Err(fields)) = read_fields(line, next, NO_ITEMS, memory);
         return Err(Unread {
             name,
-            fields: so_far(read).0,
+            fields,
             format: NO_ITEMS,
             lent: NOTHING_LENT,
         });
     };
-    let read = read_fields(line, next, row.asks, decoded, ends, numbers);
-    let (fields, is_all) = so_far(read);
     let format = row.answers;
     let lent = row.lends.lent(room);
-    if is_all && is_whole && lent.is_there() {
-        Ok(Request {
+    match read_fields(line, next, row.asks, memory) {
+        Ok(fields) if is_whole && lent.is_there() => Ok(Request {
             operation: row.operation,
             fields,
             format,
             lent,
-        })
-    } else {
-        Err(Unread {
+        }),
+        Ok(fields) | Err(fields) => Err(Unread {
             name,
             fields,
             format,
             lent,
-        })
+        }),
     }
 }
 
@@ -111,12 +97,11 @@ fn read_line<'a>(
 pub fn read_request<'a>(
     len: usize,
     kept: &'a [u8],
-    decoded: &mut [u8],
-    ends: &mut [u32],
-    numbers: &mut [u64],
+    memory: &mut Memory<'_, '_, '_>,
 ) -> Result<Request, Unread<'a>>
-    ensures { requested result decoded.new ends.new numbers.new ≡ request_of len kept.now decoded.old ends.old numbers.old }
+    ensures read { requested_in result memory.new ≡ request_of len kept.now memory.old.bytes.now memory.old.ends.now memory.old.numbers.now }
+    ensures same { SameMemory memory.old memory.new }
 {
     let n = len.min(kept.len());
-    read_line(&kept[..n], n == len, decoded, ends, numbers)
+    read_line(&kept[..n], n == len, memory)
 }

@@ -2,7 +2,7 @@
 use Prim.Native.Nat.{ℕ, ◌+◌, ◌≤◌, ◌<◌}
 use native.Mathlib.Numerals.{add-one}
 use mathlib.Core.Path.{◌≡◌, sym, ap, ◌∙◌}
-use mathlib.Core.List.{List, []}
+use mathlib.Core.List.{List, [], ◌++◌}
 use Rattle.std.specs.List.{flat_map}
 use lib.ListN.{length, get_or, take, drop, drop_of_length-le}
 use lib.Seq.{drop-cons}
@@ -15,11 +15,9 @@ use Rattle.protocol.proofs.AnswerLaws.{numbers_more}
 use Rattle.replay_scan.specs.Scans.{frame_fields, slot_fields, slots_fields, frames_fields}
 
 -- one slot more
-pub slot_more : (t : Numbered) (xs : List RefSlot) (i : ℕ) (d : RefSlot) → i < length xs
-    → with_numbers (with_numbers t (flat_map slot_fields (take i xs))) (slot_fields (get_or xs i d)) ≡ with_numbers t (flat_map slot_fields (take (i + 1) xs))
-slot_more t xs i d h =
-    numbers_more t (flat_map slot_fields (take i xs)) (slot_fields (get_or xs i d))
-    ∙ ap (with_numbers t) (flat_map_more slot_fields [] (take i xs) (get_or xs i d) ∙ ap (flat_map slot_fields) (sym (take_more xs i d h)))
+pub slot_more : (xs : List RefSlot) (i : ℕ) (d : RefSlot) → i < length xs
+    → flat_map slot_fields (take i xs) ++ slot_fields (get_or xs i d) ≡ flat_map slot_fields (take (i + 1) xs)
+slot_more xs i d h = flat_map_more slot_fields [] (take i xs) (get_or xs i d) ∙ ap (flat_map slot_fields) (sym (take_more xs i d h))
 
 -- ---- the frames, under the sequence payload q: those from byte string i on are left
 

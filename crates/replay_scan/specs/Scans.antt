@@ -76,11 +76,11 @@ frame_fields (refused k) = item_code (plain Refused) ∷ k ∷ []
 abbrev pub slot_fields : RefSlot → List ℕ
 slot_fields x =
     led x.order_hint
-    (x.upscaled_width
-    ∷ x.frame_width
-    ∷ x.frame_height
-    ∷ x.render_width
-    ∷ x.render_height
+    (x.size.upscaled_width
+    ∷ x.size.frame_width
+    ∷ x.size.frame_height
+    ∷ x.size.render_width
+    ∷ x.size.render_height
     ∷ bool_byte x.is_key_frame
     ∷ [])
 

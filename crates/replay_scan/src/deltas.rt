@@ -1,10 +1,10 @@
 // Signed numbers, each with its kind told.
 ghost use Rattle.std.specs.Prelude.{◌≡◌};
-ghost use Rattle.protocol.specs.Answers.{line, numbered, with_numbers};
+ghost use Rattle.protocol.specs.Answers.{Tells};
 ghost use Rattle.protocol.specs.Kinds.{item_code, after_colon};
 ghost use Rattle.replay_scan.specs.Scans.{sign_kind, delta_fields};
 
-use protocol::answer::Answer;
+use protocol::answer::Numbers;
 use protocol::kinds::{Before, Item, Kind};
 use uheader::scan::Deltas;
 
@@ -16,11 +16,11 @@ fn sign_code(v: i64) -> u64
         before: Before::Colon,
         kind: if v < 0 { Kind::Negative } else { Kind::Number },
     };
-    item.code()
+    u64::from(item)
 }
 
-pub(crate) fn put_deltas(d: Deltas, so_far: Answer, numbers: &mut [u64]) -> Answer
-    ensures { numbered (line result) numbers.new ≡ with_numbers (numbered (line so_far) numbers.old) (delta_fields d) }
+pub(crate) fn put_deltas(d: Deltas, numbers: &mut Numbers<'_>)
+    ensures { Tells numbers.old numbers.new (delta_fields d) }
 {
     let fields = [
         sign_code(d.y_dc),
@@ -34,5 +34,5 @@ pub(crate) fn put_deltas(d: Deltas, so_far: Answer, numbers: &mut [u64]) -> Answ
         sign_code(d.v_ac),
         d.v_ac.unsigned_abs(),
     ];
-    so_far.list(&fields, numbers)
+    numbers.put_list(&fields);
 }

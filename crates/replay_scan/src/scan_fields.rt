@@ -1,14 +1,13 @@
 // A scanned frame, and the slots, in the protocol's order, their kinds told: a number behind a space, and the others each
 // behind a colon.
-ghost use Rattle.std.specs.Prelude.{◌≡◌};
 ghost use Rattle.bitio.specs.Refusal.{says};
-ghost use Rattle.protocol.specs.Answers.{line, numbered, with_numbers};
+ghost use Rattle.protocol.specs.Answers.{Tells};
 ghost use Rattle.replay_scan.specs.Scans.{place_fields, size_fields, scan_fields, frame_fields, slot_fields, slots_fields};
 
 use crate::deltas::put_deltas;
 use bitio::refusal::Refusal;
 use geometry::slots::RefSlot;
-use protocol::answer::Answer;
+use protocol::answer::Numbers;
 use protocol::kinds::{Before, Item, Kind, NUMBER, packed};
 use uheader::scan::HeaderScan;
 
@@ -17,9 +16,19 @@ const COLON: Item = Item {
     kind: Kind::Number,
 };
 
+const REFUSED: Item = Item {
+    before: Before::Space,
+    kind: Kind::Refused,
+};
+
+const SLOTS: Item = Item {
+    before: Before::Space,
+    kind: Kind::Slots,
+};
+
 // INSERT to HEIGHT
-fn put_place(x: HeaderScan, so_far: Answer, numbers: &mut [u64]) -> Answer
-    ensures { numbered (line result) numbers.new ≡ with_numbers (numbered (line so_far) numbers.old) (place_fields x) }
+fn put_place(x: HeaderScan, numbers: &mut Numbers<'_>)
+    ensures { Tells numbers.old numbers.new (place_fields x) }
 {
     let fields = [
         packed(&[NUMBER, COLON, COLON, COLON, COLON, COLON, COLON, COLON]),
@@ -29,79 +38,66 @@ fn put_place(x: HeaderScan, so_far: Answer, numbers: &mut [u64]) -> Answer
         x.frame.show_frame as u64,
         x.frame.showable_frame as u64,
         x.frame.refresh_frame_flags,
-        x.size.frame_width,
-        x.size.frame_height,
+        u64::from(x.size.frame_width),
+        u64::from(x.size.frame_height),
     ];
-    so_far.list(&fields, numbers)
+    numbers.put_list(&fields);
 }
 
 // UPSCALED to BASEQ
-fn put_size(x: HeaderScan, so_far: Answer, numbers: &mut [u64]) -> Answer
-    ensures { numbered (line result) numbers.new ≡ with_numbers (numbered (line so_far) numbers.old) (size_fields x) }
+fn put_size(x: HeaderScan, numbers: &mut Numbers<'_>)
+    ensures { Tells numbers.old numbers.new (size_fields x) }
 {
     let fields = [
         packed(&[COLON, COLON, COLON, COLON, COLON]),
-        x.size.upscaled_width,
-        x.size.render_width,
-        x.size.render_height,
+        u64::from(x.size.upscaled_width),
+        u64::from(x.size.render_width),
+        u64::from(x.size.render_height),
         x.frame.order_hint,
         x.base_q_idx,
     ];
-    so_far.list(&fields, numbers)
+    numbers.put_list(&fields);
 }
 
 #[tactic(auto, using(protocol::proofs::AnswerLaws::numbers_more))]
-fn put_scan(x: HeaderScan, so_far: Answer, numbers: &mut [u64]) -> Answer
-    ensures { numbered (line result) numbers.new ≡ with_numbers (numbered (line so_far) numbers.old) (scan_fields x) }
+fn put_scan(x: HeaderScan, numbers: &mut Numbers<'_>)
+    ensures { Tells numbers.old numbers.new (scan_fields x) }
 {
-    let answer = put_place(x, so_far, numbers);
-    let answer = put_size(x, answer, numbers);
-    put_deltas(x.deltas, answer, numbers)
+    put_place(x, numbers);
+    put_size(x, numbers);
+    put_deltas(x.deltas, numbers);
 }
 
-pub(crate) fn put_frame(
-    x: Result<HeaderScan, Refusal>,
-    so_far: Answer,
-    numbers: &mut [u64],
-) -> Answer
-    ensures { numbered (line result) numbers.new ≡ with_numbers (numbered (line so_far) numbers.old) (frame_fields (says x)) }
+pub(crate) fn put_frame(x: Result<HeaderScan, Refusal>, numbers: &mut Numbers<'_>)
+    ensures { Tells numbers.old numbers.new (frame_fields (says x)) }
 {
-    let refused = Item {
-        before: Before::Space,
-        kind: Kind::Refused,
-    };
     match x {
-        Ok(scan) => put_scan(scan, so_far, numbers),
-        Err(refusal) => so_far.pair(refused.code(), refusal as u64, numbers),
+        Ok(scan) => put_scan(scan, numbers),
+        Err(refusal) => numbers.put_pair(u64::from(REFUSED), u64::from(u32::from(refusal))),
     }
 }
 
-fn put_slot(x: RefSlot, so_far: Answer, numbers: &mut [u64]) -> Answer
-    ensures { numbered (line result) numbers.new ≡ with_numbers (numbered (line so_far) numbers.old) (slot_fields x) }
+fn put_slot(x: RefSlot, numbers: &mut Numbers<'_>)
+    ensures { Tells numbers.old numbers.new (slot_fields x) }
 {
     let fields = [
         packed(&[NUMBER, COLON, COLON, COLON, COLON, COLON, COLON]),
         x.order_hint,
-        x.upscaled_width as u64,
-        x.frame_width as u64,
-        x.frame_height as u64,
-        x.render_width as u64,
-        x.render_height as u64,
+        u64::from(x.size.upscaled_width),
+        u64::from(x.size.frame_width),
+        u64::from(x.size.frame_height),
+        u64::from(x.size.render_width),
+        u64::from(x.size.render_height),
         x.is_key_frame as u64,
     ];
-    so_far.list(&fields, numbers)
+    numbers.put_list(&fields);
 }
 
-pub(crate) fn put_slots(slots: &[RefSlot; 8], so_far: Answer, numbers: &mut [u64]) -> Answer
-    ensures { numbered (line result) numbers.new ≡ with_numbers (numbered (line so_far) numbers.old) (slots_fields slots.now) }
+pub(crate) fn put_slots(slots: &[RefSlot; 8], numbers: &mut Numbers<'_>)
+    ensures { Tells numbers.old numbers.new (slots_fields slots.now) }
 {
-    let word = Item {
-        before: Before::Space,
-        kind: Kind::Slots,
-    };
-    let mut answer = so_far.pair(word.code(), 0, numbers);
+    numbers.put_pair(u64::from(SLOTS), 0);
     for slot in slots {
-        answer = put_slot(*slot, answer, numbers);
+        put_slot(*slot, numbers);
     }
-    answer
 }

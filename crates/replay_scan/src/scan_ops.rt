@@ -6,8 +6,8 @@ ghost use Rattle.replay_scan.specs.Scans.{frames_fields, scan_told};
 
 use crate::scan_fields::{put_frame, put_slots};
 use header::seq_header::read::parse_sequence_header;
-use protocol::answer::{Answer, done, refused};
-use protocol::memory::part;
+use obu::reader::part_in;
+use protocol::answer::{Answer, Numbers, refused};
 use uheader::dpb::empty_slots;
 use uheader::scan::scan_uncompressed_header;
 
@@ -16,22 +16,22 @@ fn scan_all(sequence: &[u8], s: &[u8], ends: &[u32], numbers: &mut [u64]) -> Ans
     ensures { numbered (line result) numbers.new ≡ with_numbers (numbered (parts_of 0 0) numbers.old) (frames_fields sequence.now s.now ends.now empty_slots 1 (drop 1 ends.now)) }
 {
     let mut slots = empty_slots();
-    let mut answer = done();
+    let mut told = Numbers::new(numbers);
     for i in 1..ends.len() {
-        let scanned = scan_uncompressed_header(part(s, ends, i), sequence, &mut slots);
-        answer = put_frame(scanned, answer, numbers);
+        let scanned = scan_uncompressed_header(part_in(s, ends, i), sequence, &mut slots);
+        put_frame(scanned, &mut told);
     }
-    put_slots(&slots, answer, numbers)
+    put_slots(&slots, &mut told);
+    told.answer
 }
 
 // scan SEQPAYLOAD FRAME ..
 pub fn scan(s: &[u8], ends: &[u32], numbers: &mut [u64]) -> Answer
     ensures { numbered (line result) numbers.new ≡ scan_told s.now ends.now numbers.old }
 {
-    let sequence = part(s, ends, 0);
-    // kept: `map_or_else` was tried, and the proof of its closure, which writes to `numbers`, didn't close.
-    match parse_sequence_header(sequence) {
-        Ok(_) => scan_all(sequence, s, ends, numbers),
-        Err(refusal) => refused(refusal),
+    let sequence = part_in(s, ends, 0);
+    if let Err(refusal) = parse_sequence_header(sequence) {
+        return refused(refusal);
     }
+    scan_all(sequence, s, ends, numbers)
 }

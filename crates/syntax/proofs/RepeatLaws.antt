@@ -6,7 +6,7 @@ use mathlib.Core.List.{List}
 use mathlib.Core.Bool.{Bool, true, false, cond as pick}
 use Rattle.bitio.specs.Bits.{Reading, fails, reads, and_then}
 use Rattle.syntax.specs.Syntax.{Syntax, sub, run}
-use Rattle.syntax.specs.Repeat.{repeat, whilst, times}
+use Rattle.syntax.specs.Repeat.{repeat, whilst}
 
 -- of n turns from a₀ and p₀ on, those from i on are left, from a and p on
 pub record Left {A : Type 0} (f : ℕ → A → Syntax A) (s : List ℕ) (n : ℕ) (a₀ : A) (p₀ i : ℕ) (a : A) (p : ℕ) : Type 0 where
@@ -25,23 +25,6 @@ module _ {A : Type 0} {f : ℕ → A → Syntax A} {s : List ℕ} {n : ℕ} {a�
   end h =
       let m : 0 ≡ n - i = omega arith in
       ap (λ (k : ℕ). run (repeat f i k a) s p) m ∙ l.same
-
--- of n turns from p₀ on, those from i on are left, from p on
-pub record Over {A : Type 0} (x : Syntax A) (s : List ℕ) (n p₀ i p : ℕ) : Type 0 where
-  pub same : run (times (n - i) x) s p ≡ run (times n x) s p₀
-
-module _ {A : Type 0} {x : Syntax A} {s : List ℕ} {n p₀ i p : ℕ} (l : Over x s n p₀ i p) where
-  pub next_over : i < n → and_then (run x s p) (λ b q. run (times (n - (i + 1)) x) s q) ≡ run (times n x) s p₀
-  unfolding times run
-  next_over h =
-      let m : suc (n - (i + 1)) ≡ n - i = omega arith in
-      ap (λ (k : ℕ). run (times k x) s p) m ∙ l.same
-
-  pub end_over : n ≤ i → reads tt p ≡ run (times n x) s p₀
-  unfolding times run
-  end_over h =
-      let m : 0 ≡ n - i = omega arith in
-      ap (λ (k : ℕ). run (times k x) s p) m ∙ l.same
 
 -- of at most m turns from a₀ and p₀ on, n are left, from a and p on
 pub record Still {A : Type 0} (t : A → Bool) (f : A → Syntax A) (s : List ℕ) (m : ℕ) (a₀ : A) (p₀ n : ℕ) (a : A) (p : ℕ) : Type 0 where

@@ -4,3 +4,4 @@
 pub mod near;
 pub mod over;
 pub mod signed;
+pub mod turns;

@@ -5,6 +5,7 @@ ghost use Rattle.bitio.specs.Read.{reading};
 ghost use Rattle.syntax.specs.Syntax.{run, field, read_over};
 ghost use Rattle.syntax.specs.Repeat.{times};
 
+use crate::turns::times;
 use bitio::reader::{BitReader, Read};
 
 // less + 1 bits where on. The bits run out for any width above 64.
@@ -18,9 +19,5 @@ pub fn width_if(r: BitReader, s: &[u8], on: bool, less: u64) -> Read<u64>
 pub fn read_over(r: BitReader, s: &[u8], less: u64, n: usize) -> Read<()>
     ensures { reading result ≡ run (times n (field true (less + 1) (λ v. read_over))) s.now r.pos }
 {
-    let mut reader = r;
-    for _ in 0..n {
-        (_, reader) = width_if(reader, s, true, less)?;
-    }
-    Ok(((), reader))
+    times(r, n, |r| width_if(r, s, true, less))
 }

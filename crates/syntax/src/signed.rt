@@ -7,8 +7,5 @@ pub fn su_7(v: u64) -> i64
     ensures { result ≡ su 7 v }
 {
     let x = v as i64;
-    if v < 64 {
-        return x;
-    }
-    x - 128
+    if v < 64 { x } else { x - 128 }
 }

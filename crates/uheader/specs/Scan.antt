@@ -103,16 +103,7 @@ empty_slots = replicate 8 empty_slot
 
 -- what a frame leaves in a slot that it refreshes
 abbrev pub ref_slot_of : FrameInfo → Size → RefSlot
-ref_slot_of f z =
-    record {
-      order_hint = f.order_hint;
-      upscaled_width = z.upscaled_width;
-      frame_width = z.frame_width;
-      frame_height = z.frame_height;
-      render_width = z.render_width;
-      render_height = z.render_height;
-      is_key_frame = is_key f.frame_type;
-    }
+ref_slot_of f z = record { order_hint = f.order_hint; size = z; is_key_frame = is_key f.frame_type }
 
 -- 02 §2: a refused scan leaves them as they were
 abbrev pub slots_after : List RefSlot → Answer HeaderScan → List RefSlot

@@ -36,23 +36,23 @@ abbrev pub by_refs : FrameFront → Bool
 by_refs x = not (intra x) && (x.modes.frame_size_override_flag && not x.start.error_resilient_mode)
 
 -- of an inter frame: allow_high_precision_mv, which is kept, to use_ref_frame_mvs
-unfoldable pub motion_modes : Coding → FrameFront → Syntax ℕ
+unfoldable pub motion_modes : Coding → FrameFront → Syntax Bool
 motion_modes c x =
     field (not (intra x) && not x.modes.force_integer_mv) 1 (λ fine.
     field (not (intra x)) 1 (λ switchable.
     field (not (intra x) && eqb switchable 0) 2 (λ filter.
     field (not (intra x)) 1 (λ motion.
     field (not (intra x) && (not x.start.error_resilient_mode && c.tools.enable_ref_frame_mvs)) 1 (λ mvs.
-    done fine)))))
+    done (eqb fine 1))))))
 
-abbrev pub shape_of : ℕ → List ℕ → Size → ℕ → ℕ → Shape
+abbrev pub shape_of : ℕ → List ℕ → Size → (intrabc fine : Bool) → Shape
 shape_of flags refs z intrabc fine =
     record {
       refresh_frame_flags = flags;
       ref_frame_idx = refs;
       size = z;
-      allow_intrabc = eqb intrabc 1;
-      allow_high_precision_mv = eqb fine 1;
+      allow_intrabc = intrabc;
+      allow_high_precision_mv = fine;
     }
 
 -- n removal times; the slots are those before the frame
@@ -65,4 +65,4 @@ frame_shape h n slots x =
     field (intra x && (x.modes.allow_screen_content_tools && eqb z.upscaled_width z.frame_width)) 1 (λ intrabc.
     sub (motion_modes h.coding x) (λ fine.
     field (not x.modes.disable_cdf_update) 1 (λ disable.
-    done (shape_of flags refs z intrabc fine))))))))
+    done (shape_of flags refs z (eqb intrabc 1) fine))))))))

@@ -1,6 +1,6 @@
 -- AV1 5.9.2 uncompressed_header behind tile_info, of which the quantizer is kept.
 use Rattle.std.specs.Prelude.{ℕ, List, map, Bool, true, not, ◌&&◌, eqb, get_or}
-use Rattle.syntax.specs.Syntax.{Syntax, done, field, sub}
+use Rattle.syntax.specs.Syntax.{Syntax, done, field, sub, read_over}
 use Rattle.header.specs.declared.seq_header.Coding.{Coding}
 use Rattle.frame.specs.Frame.{primary_none}
 use Rattle.frame.specs.declared.frame_header.FrameFront.{FrameFront}
@@ -38,13 +38,13 @@ restoration lossless c z =
     }
 
 -- loop_filter_params, cdef_params, lr_params and tx_mode_select
-unfoldable pub filter_params : Bool → Coding → Shape → Syntax ℕ
+unfoldable pub filter_params : Bool → Coding → Shape → Syntax (Unit {0})
 filter_params lossless c z =
     sub (loop_filter_params (not lossless && not z.allow_intrabc) (color c)) (λ last.
     sub (cdef_params (not lossless && (not z.allow_intrabc && c.filters.enable_cdef)) (color c)) (λ last.
     sub (lr_params (restoration lossless c z)) (λ last.
     field (not lossless) 1 (λ select.
-    done select))))
+    read_over))))
 
 -- the order hints of the frame and of its references
 abbrev pub order_hints : Coding → FrameFront → Shape → List RefSlot → OrderHints
@@ -71,7 +71,7 @@ frame_tail rule c x z slots =
     sub (quantization_params (color c) c.sampling.separate_uv_delta_q) (λ q.
     sub (segmentation_params (eqb x.modes.primary_ref_frame primary_none)) (λ alts.
     sub (delta_q_params q.base_q_idx) (λ present.
-    sub (delta_lf_params (eqb present 1 && not z.allow_intrabc)) (λ last.
+    sub (delta_lf_params (present && not z.allow_intrabc)) (λ last.
     sub (filter_params (coded_lossless rule q alts) c z) (λ last.
     sub (motion_params c x z slots) (λ last.
     done q))))))

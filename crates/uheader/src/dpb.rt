@@ -16,9 +16,10 @@ pub fn empty_slots() -> [RefSlot; 8]
 pub(crate) fn ref_hints(slots: &[RefSlot; 8], refs: [u64; 7]) -> [u64; 7]
     ensures { result ≡ map (λ i. (get_or slots.now i empty_slot).order_hint) refs }
 {
-    let mut hints = [0u64; 7];
-    for i in 0..7 {
-        hints[i] = slot_at(slots, refs[i]).order_hint;
-    }
-    hints
+    refs.map(
+        |i| -> u64
+            ensures value { result ≡ (get_or slots.entry.now i empty_slot).order_hint }
+            ensures kept { slots.exit.now ≡ slots.entry.now }
+        { slot_at(slots, i).order_hint },
+    )
 }

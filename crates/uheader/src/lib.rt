@@ -3,5 +3,6 @@
 
 pub mod dpb;
 pub mod scan;
+pub mod scanner;
 pub mod shape;
 pub mod tail;

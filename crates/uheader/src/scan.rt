@@ -3,17 +3,18 @@ ghost use Rattle.std.specs.Prelude.{◌≡◌, IfOk};
 ghost use Rattle.bitio.specs.Read.{reading};
 ghost use Rattle.bitio.specs.Refusal.{says};
 ghost use Rattle.syntax.specs.Syntax.{run};
-ghost use Rattle.geometry.specs.code.Sizes.{SizesWithin, SizeFits};
+ghost use Rattle.frame.specs.Frame.{removals_in};
 ghost use Rattle.params.specs.Lossless.{sign_magnitude};
 ghost use Rattle.params.specs.Quantization.{Ranged};
 ghost use Rattle.uheader.specs.Scan as spec;
 
+use crate::scanner::Scanner;
 use crate::shape::Shape;
 use crate::{shape, tail};
-use bitio::limits::LIMIT;
+use bitio::limits::check_limit;
 use bitio::reader::{BitReader, Read};
 use bitio::refusal::Refusal;
-use frame::frame_header::{FrameFront, FrameInfo, sections};
+use frame::frame_header::{FrameFront, FrameInfo, FrameType, sections};
 use frame::refresh::refresh;
 use geometry::size::Size;
 use geometry::slots::RefSlot;
@@ -53,15 +54,15 @@ pub struct Rest {
 }
 
 // show_existing_frame to primary_ref_frame.
-#[tactic(auto, unfolding(syntax::specs::Syntax::run, crate::specs::Scan::scan_front))]
+#[tactic(auto, unfolding(syntax::specs::Syntax::run, crate::specs::Scan::scan_front), using(frame::proofs::FlagLaws::flags))]
 fn scan_front(r: BitReader, s: &[u8], header: &SequenceHeader) -> Read<FrameFront>
     ensures { reading result ≡ run (spec.scan_front header.now) s.now r.pos }
 {
-    let (existing, r) = r.f(s, 1)?;
-    if existing == 1 {
+    let (existing, r) = r.flag(s)?;
+    if existing {
         return Err(Refusal::ShowsExisting);
     }
-    sections::frame_front(r, s, false, *header)
+    sections::frame_front(r, s, false, header)
 }
 
 // The same under a sequence header that is looked at first.
@@ -86,17 +87,15 @@ fn open_scan(header: &SequenceHeader, payload: &[u8]) -> Read<FrameFront>
 fn scan_rest(
     r: BitReader,
     s: &[u8],
-    header: &SequenceHeader,
-    removals: usize,
+    scanner: Scanner,
     slots: &[RefSlot; 8],
     x: FrameFront,
 ) -> Read<Rest>
-    requires { SizesWithin header.now.coding.size }
-    ensures read { reading result ≡ run (spec.scan_rest sign_magnitude header.now removals slots.now x) s.now r.pos }
-    ensures fits { IfOk result (λ x. SizeFits x.0.shape.size × Ranged x.0.quantizer) }
+    ensures read { reading result ≡ run (spec.scan_rest sign_magnitude scanner.entry.sequence.now.header (removals_in scanner.entry.sequence.now) slots.now x) s.now r.pos }
+    ensures fits { IfOk result (λ x. Ranged x.0.quantizer) }
 {
-    let coding = &header.coding;
-    let (shape, r) = shape::frame_shape(r, s, header, removals, slots, x)?;
+    let coding = &scanner.sequence.header.coding;
+    let (shape, r) = shape::frame_shape(r, s, scanner, slots, x)?;
     let (_, r) = tile_info(r, s, shape.size, coding.tools.use_128x128_superblock)?;
     let (quantizer, r) = tail::frame_tail(r, s, coding, x, shape, slots)?;
     Ok((Rest { shape, quantizer }, r))
@@ -117,35 +116,27 @@ fn signed_deltas(q: Quantizer) -> Deltas
 
 // What a frame leaves in a slot that it refreshes.
 fn slot_of(frame: FrameInfo, size: Size) -> RefSlot
-    requires { SizeFits size }
     ensures { result ≡ spec.ref_slot_of frame size }
 {
     RefSlot {
         order_hint: frame.order_hint,
-        upscaled_width: size.upscaled_width as u32,
-        frame_width: size.frame_width as u32,
-        frame_height: size.frame_height as u32,
-        render_width: size.render_width as u32,
-        render_height: size.render_height as u32,
-        is_key_frame: frame.frame_type.is_key(),
+        size,
+        is_key_frame: frame.frame_type == FrameType::Key,
     }
 }
 
 // The fields of a header, by the slots before the frame.
 #[tactic(auto, unfolding(crate::specs::Scan::scan_header, crate::specs::Scan::scan_by, crate::specs::Scan::scan_behind))]
 fn scan_fields(
-    header: &SequenceHeader,
-    removals: usize,
+    scanner: Scanner,
     slots: &[RefSlot; 8],
     payload: &[u8],
 ) -> Result<HeaderScan, Refusal>
-    requires { SizesWithin header.now.coding.size }
-    ensures says { says result ≡ spec.scan_header header.now removals slots.now payload.now }
-    ensures fits { IfOk result (λ x. SizeFits x.size) }
+    ensures { says result ≡ spec.scan_header scanner.entry.sequence.now.header (removals_in scanner.entry.sequence.now) slots.now payload.now }
 {
-    let (front, r) = open_scan(header, payload)?;
+    let (front, r) = open_scan(&scanner.sequence.header, payload)?;
     let removal_insert_pos = r.pos;
-    let (rest, r) = scan_rest(r, payload, header, removals, slots, front)?;
+    let (rest, r) = scan_rest(r, payload, scanner, slots, front)?;
     Ok(HeaderScan {
         removal_insert_pos,
         end_pos: r.pos,
@@ -156,23 +147,22 @@ fn scan_fields(
     })
 }
 
-// A frame header under a sequence header that was read, and its number of removal times (frame's `removals`). The slots
-// become those behind the frame; after a refusal they stay. For crates that scan many frames under one header, within the
-// limit.
-pub fn scan_header(
-    header: &SequenceHeader,
-    removals: usize,
-    slots: &mut [RefSlot; 8],
-    payload: &[u8],
-) -> Result<HeaderScan, Refusal>
-    requires { SizesWithin header.now.coding.size }
-    ensures answer { says result ≡ spec.scan_header header.now removals slots.old payload.now }
-    ensures slots { slots.new ≡ spec.slots_after slots.old (spec.scan_header header.now removals slots.old payload.now) }
-{
-    let scan = scan_fields(header, removals, slots, payload)?;
-    let new = slot_of(scan.frame, scan.size);
-    refresh(slots, scan.frame.refresh_frame_flags, new);
-    Ok(scan)
+impl Scanner<'_> {
+    // A frame header. The slots become those behind the frame; after a refusal they stay. For crates that scan many frames
+    // under one sequence header, within the limit.
+    pub fn scan_header(
+        self,
+        slots: &mut [RefSlot; 8],
+        payload: &[u8],
+    ) -> Result<HeaderScan, Refusal>
+        ensures answer { says result ≡ spec.scan_header self.entry.sequence.now.header (removals_in self.entry.sequence.now) slots.old payload.now }
+        ensures slots { slots.new ≡ spec.slots_after slots.old (spec.scan_header self.entry.sequence.now.header (removals_in self.entry.sequence.now) slots.old payload.now) }
+    {
+        let scan = scan_fields(self, slots, payload)?;
+        let new = slot_of(scan.frame, scan.size);
+        refresh(slots, scan.frame.refresh_frame_flags, new);
+        Ok(scan)
+    }
 }
 
 // scan_uncompressed_header from both payloads: 34 of either leads.
@@ -184,10 +174,10 @@ pub fn scan_uncompressed_header(
     ensures answer { says result ≡ spec.scan_payloads sequence.now slots.old payload.now }
     ensures slots { slots.new ≡ spec.slots_after slots.old (spec.scan_payloads sequence.now slots.old payload.now) }
 {
-    if payload.len() > LIMIT {
-        return Err(Refusal::InputTooLong);
-    }
+    check_limit(payload)?;
     let sequence = parse_sequence_header(sequence)?;
-    let removals = sections::removals(sequence.points());
-    scan_header(&sequence.header, removals, slots, payload)
+    let scanner = Scanner {
+        sequence: &sequence,
+    };
+    scanner.scan_header(slots, payload)
 }

@@ -1,16 +1,17 @@
 // The frame header from the removal times to what stands before tile_info (AV1 5.9.2).
-ghost use Rattle.std.specs.Prelude.{◌≡◌, ◌+◌, IfOk};
+ghost use Rattle.std.specs.Prelude.{◌≡◌, ◌+◌};
 ghost use Rattle.bitio.specs.Read.{reading};
 ghost use Rattle.syntax.specs.Syntax.{run};
-ghost use Rattle.geometry.specs.code.Sizes.{SizesWithin, SizeFits};
+ghost use Rattle.frame.specs.Frame.{removals_in};
 ghost use Rattle.uheader.specs.Shape as spec;
 
+use crate::scanner::Scanner;
 use bitio::reader::{BitReader, Read};
 use frame::frame_header::{FrameFront, sections};
 use geometry::size::{Size, SizeRules};
 use geometry::slots::RefSlot;
 use geometry::{refs, size};
-use header::seq_header::{Coding, SequenceHeader};
+use header::seq_header::Coding;
 use syntax::over::read_over;
 
 // What the later sections and the slots need of the earlier ones.
@@ -31,40 +32,37 @@ fn ref_order_hints(r: BitReader, s: &[u8], on: bool, less: u64) -> Read<()>
 }
 
 // allow_high_precision_mv to use_ref_frame_mvs.
-#[tactic(auto, unfolding(syntax::specs::Syntax::run, crate::specs::Shape::motion_modes))]
-fn motion_modes(r: BitReader, s: &[u8], coding: &Coding, x: FrameFront) -> Read<u64>
+#[tactic(auto, unfolding(syntax::specs::Syntax::run, crate::specs::Shape::motion_modes), using(frame::proofs::FlagLaws::flags, frame::proofs::FlagLaws::bit_if))]
+fn motion_modes(r: BitReader, s: &[u8], coding: &Coding, x: FrameFront) -> Read<bool>
     ensures { reading result ≡ run (spec.motion_modes coding.now x) s.now r.pos }
 {
     let inter = !x.start.frame_type.is_intra();
     let resilient = x.start.error_resilient_mode;
-    let (fine, r) = r.f_if(s, inter && !x.modes.force_integer_mv, 1)?;
-    let (switchable, r) = r.f_if(s, inter, 1)?;
-    let (_filter, r) = r.f_if(s, inter && switchable == 0, 2)?;
-    let (_motion, r) = r.f_if(s, inter, 1)?;
+    let (fine, r) = r.flag_or(s, inter && !x.modes.force_integer_mv, false)?;
+    let (switchable, r) = r.flag_or(s, inter, false)?;
+    let (_filter, r) = r.f_if(s, inter && !switchable, 2)?;
+    let (_motion, r) = r.flag_or(s, inter, false)?;
     let told = !resilient && coding.tools.enable_ref_frame_mvs;
-    let (_mvs, r) = r.f_if(s, inter && told, 1)?;
+    let (_mvs, r) = r.flag_or(s, inter && told, false)?;
     Ok((fine, r))
 }
 
 // The slots are those before the frame.
-#[tactic(auto, unfolding(syntax::specs::Syntax::run, crate::specs::Shape::frame_shape))]
+#[tactic(auto, unfolding(syntax::specs::Syntax::run, crate::specs::Shape::frame_shape), using(frame::proofs::FlagLaws::flags, frame::proofs::FlagLaws::bit_if))]
 pub(crate) fn frame_shape(
     r: BitReader,
     s: &[u8],
-    header: &SequenceHeader,
-    removals: usize,
+    scanner: Scanner,
     slots: &[RefSlot; 8],
     x: FrameFront,
 ) -> Read<Shape>
-    requires { SizesWithin header.now.coding.size }
-    ensures read { reading result ≡ run (spec.frame_shape header.now removals slots.now x) s.now r.pos }
-    ensures fits { IfOk result (λ x. SizeFits x.0.size) }
+    ensures { reading result ≡ run (spec.frame_shape scanner.entry.sequence.now.header (removals_in scanner.entry.sequence.now) slots.now x) s.now r.pos }
 {
-    let coding = &header.coding;
+    let coding = &scanner.sequence.header.coding;
     let intra = x.start.frame_type.is_intra();
     let resilient = x.start.error_resilient_mode;
     let hinted = coding.tools.enable_order_hint;
-    let (flags, r) = sections::refresh_flags(r, s, header.opening.model, removals, x.start)?;
+    let (flags, r) = sections::refresh_flags(r, s, scanner.sequence, x.start)?;
     let listed = (!intra || flags != 255) && (resilient && hinted);
     let (_, r) = ref_order_hints(r, s, listed, coding.screen.order_hint_bits_minus_1)?;
     let (ref_frame_idx, r) = refs::frame_refs(r, s, !intra, hinted)?;
@@ -77,15 +75,15 @@ pub(crate) fn frame_shape(
     let (size, r) = size::frame_geometry(r, s, rules, over, by_refs, ref_frame_idx, slots)?;
     let unscaled = size.upscaled_width == size.frame_width;
     let told = intra && (x.modes.allow_screen_content_tools && unscaled);
-    let (intrabc, r) = r.f_if(s, told, 1)?;
-    let (fine, r) = motion_modes(r, s, coding, x)?;
-    let (_disable, r) = r.f_if(s, !x.modes.disable_cdf_update, 1)?;
+    let (allow_intrabc, r) = r.flag_or(s, told, false)?;
+    let (allow_high_precision_mv, r) = motion_modes(r, s, coding, x)?;
+    let (_disable, r) = r.flag_or(s, !x.modes.disable_cdf_update, false)?;
     let shape = Shape {
         refresh_frame_flags: flags,
         ref_frame_idx,
         size,
-        allow_intrabc: intrabc == 1,
-        allow_high_precision_mv: fine == 1,
+        allow_intrabc,
+        allow_high_precision_mv,
     };
     Ok((shape, r))
 }

@@ -18,8 +18,8 @@ use params::skip::OrderHints;
 use params::{cdef, deltas, filter, lossless, motion, quant, restoration, segments, skip};
 
 // loop_filter_params, cdef_params, lr_params and tx_mode_select.
-#[tactic(auto, unfolding(syntax::specs::Syntax::run, crate::specs::Tail::filter_params))]
-fn filter_params(r: BitReader, s: &[u8], lossless: bool, coding: &Coding, z: Shape) -> Read<u64>
+#[tactic(auto, unfolding(syntax::specs::Syntax::run, crate::specs::Tail::filter_params), using(frame::proofs::FlagLaws::flags, frame::proofs::FlagLaws::bit_if))]
+fn filter_params(r: BitReader, s: &[u8], lossless: bool, coding: &Coding, z: Shape) -> Read<()>
     ensures { reading result ≡ run (spec.filter_params lossless coding.now z) s.now r.pos }
 {
     let color = !coding.color.mono_chrome;
@@ -35,11 +35,12 @@ fn filter_params(r: BitReader, s: &[u8], lossless: bool, coding: &Coding, z: Sha
         subsampled: coding.sampling.subsample_x && coding.sampling.subsample_y,
     };
     let (_, r) = restoration::lr_params(r, s, restoration)?;
-    r.f_if(s, !lossless, 1)
+    let (_select, r) = r.flag_or(s, !lossless, false)?;
+    Ok(((), r))
 }
 
 // reference_select to global_motion_params.
-#[tactic(auto, unfolding(syntax::specs::Syntax::run, crate::specs::Tail::motion_params))]
+#[tactic(auto, unfolding(syntax::specs::Syntax::run, crate::specs::Tail::motion_params), using(frame::proofs::FlagLaws::flags, frame::proofs::FlagLaws::bit_if))]
 fn motion_params(
     r: BitReader,
     s: &[u8],
@@ -57,11 +58,11 @@ fn motion_params(
         order_hint: x.modes.order_hint,
         order_hint_bits_minus_1: coding.screen.order_hint_bits_minus_1,
     };
-    let (select, r) = r.f_if(s, inter, 1)?;
-    let (_, r) = skip::skip_mode_params(r, s, select == 1 && tools.enable_order_hint, hints)?;
+    let (select, r) = r.flag_or(s, inter, false)?;
+    let (_, r) = skip::skip_mode_params(r, s, select && tools.enable_order_hint, hints)?;
     let warps = !x.start.error_resilient_mode && tools.enable_warped_motion;
-    let (_warped, r) = r.f_if(s, inter && warps, 1)?;
-    let (_reduced, r) = r.f(s, 1)?;
+    let (_warped, r) = r.flag_or(s, inter && warps, false)?;
+    let (_reduced, r) = r.flag(s)?;
     motion::global_motion_params(r, s, inter, z.allow_high_precision_mv)
 }
 
@@ -83,7 +84,7 @@ pub(crate) fn frame_tail(
     let none = x.modes.primary_ref_frame == PRIMARY_REF_NONE;
     let (alt_q, r) = segments::segmentation_params(r, s, none)?;
     let (present, r) = deltas::delta_q_params(r, s, q.base_q_idx)?;
-    let (_, r) = deltas::delta_lf_params(r, s, present == 1 && !z.allow_intrabc)?;
+    let (_, r) = deltas::delta_lf_params(r, s, present && !z.allow_intrabc)?;
     let lossless = lossless::coded_lossless(q, alt_q);
     let (_, r) = filter_params(r, s, lossless, coding, z)?;
     let (_, r) = motion_params(r, s, coding, x, z, slots)?;

@@ -5,7 +5,6 @@ use Rattle.bitio.specs.Parse.{Answer, refused, accepted}
 use Rattle.bitio.specs.Leb.{leb_bytes}
 use Rattle.obu.specs.Obu.{ext_bytes}
 use Rattle.container.specs.AnnexB.{annexb_bytes}
-use Rattle.container.specs.Units.{units_at}
 
 -- a count, if there is one, of at most m
 abbrev pub AtMost : ℕ → Answer ℕ → Type 0
@@ -21,9 +20,7 @@ abbrev pub framed_length : ℕ → ℕ
 framed_length n = length (leb_bytes n) + n
 
 -- units that are read, and have room in Annex B
-pub record AnnexbRoom (s es d : List ℕ) : Type 0 where
-  pub units : List (List ℕ)
-  pub cut : units_at s es ≡ accepted units
+pub record AnnexbRoom (units : List (List ℕ)) (d : List ℕ) : Type 0 where
   pub bytes : List ℕ
   pub made : annexb_bytes units ≡ accepted bytes
   pub room : length bytes ≤ length d

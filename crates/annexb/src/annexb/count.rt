@@ -1,19 +1,20 @@
 // How many bytes units have in Annex B: the measuring pass of writing.
-ghost use Rattle.std.specs.Prelude.{◌≡◌, true, ◌*◌, ◌≤◌, length};
+ghost use Rattle.std.specs.Prelude.{◌≡◌, ◌*◌, ◌≤◌, length};
 ghost use mathlib.Core.List.{flat_map};
-ghost use Rattle.bitio.specs.Parse.{answer, accepted_list};
+ghost use Rattle.bitio.specs.Parse.{answer};
 ghost use Rattle.bitio.specs.Refusal.{says};
 ghost use Rattle.obu.specs.Obu.{obus};
 ghost use Rattle.obu.specs.Place.{extension_says};
 ghost use Rattle.container.specs.AnnexB.{inner_bytes, annexb_bytes};
 ghost use Rattle.bitio.specs.Limits.{limit};
-ghost use Rattle.container.specs.Units.{units_at, count_of};
-ghost use Rattle.container.specs.Lists.{accepts};
+ghost use Rattle.container.specs.Units.{count_of};
+ghost use Rattle.container.specs.Lists.{listed};
 ghost use Rattle.annexb.specs.code.Join.{AtMost, inner_length, framed_length};
 
 use bitio::leb128::leb128_len;
 use bitio::refusal::Refusal;
-use obu::reader::obu_at;
+use container::lists::Units;
+use obu::obus::Obus;
 use obu::writer::extension_len;
 
 // How many bytes n bytes have with their length before them.
@@ -38,27 +39,23 @@ pub(crate) fn count_inner(u: &[u8]) -> Result<usize, Refusal>
     ensures result_value { says result ≡ answer (λ os. length (flat_map inner_bytes os)) (obus u.now) }
     ensures at_most { AtMost (12 * length u.now) (says result) }
 {
-    let mut at: usize = 0;
     let mut n: usize = 0;
-    while let Some(o) = obu_at(u, at)? {
-        n += framed_len(inner_len(o.extension, o.end - o.start));
-        at = o.end;
+    for found in Obus::new(u) {
+        let o = found?;
+        n += framed_len(inner_len(o.extension, o.size()));
     }
     Ok(n)
 }
 
 // How many bytes all units have in Annex B, or the refusal of the first that does not parse.
-pub(crate) fn count_units(units: &[u8], unit_ends: &[u32]) -> Result<usize, Refusal>
-    requires { (length units.now ≤ limit) × (accepts (units_at units.now unit_ends.now) ≡ true) }
-    ensures { says result ≡ count_of (annexb_bytes (accepted_list (units_at units.now unit_ends.now))) }
+pub(crate) fn count_units(units: Units) -> Result<usize, Refusal>
+    requires { length units.bytes.now ≤ limit }
+    ensures { says result ≡ count_of (annexb_bytes (listed units.entry.bytes.now units.entry.ends.now)) }
 {
-    let mut at: usize = 0;
     let mut total: usize = 0;
-    for end in unit_ends {
-        let end = *end as usize;
-        let n = count_inner(&units[at..end])?;
+    for i in 0..units.count() {
+        let n = count_inner(units.unit(i))?;
         total += framed_len(framed_len(n));
-        at = end;
     }
     Ok(total)
 }

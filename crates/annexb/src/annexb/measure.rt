@@ -5,7 +5,7 @@ ghost use Rattle.bitio.specs.Refusal.{says};
 ghost use Rattle.container.specs.Units.{sizes_of};
 ghost use Rattle.annexb.specs.code.Fill.{units_read};
 
-use crate::annexb::part::{frame_at, length_obu_at, unit_at};
+use crate::annexb::part::{first_frame, first_obu, first_unit};
 use bitio::refusal::Refusal;
 use container::units::Sizes;
 use obu::writer::obu_len;
@@ -14,36 +14,33 @@ pub(crate) fn measure(data: &[u8]) -> Result<Sizes, Refusal>
     requires { length «data».now ≤ limit }
     ensures { says result ≡ sizes_of (units_read «data».now) }
 {
-    let len = data.len();
-    let mut at: usize = 0;
+    let mut left = data;
     let mut bytes: usize = 0;
     let mut units: usize = 0;
     // document 01's form: one label leaves all three loops at the first fault
     'all: {
-        while at < len {
-            let unit = match unit_at(data, at, len) {
-                Ok(unit) => unit,
+        while !left.is_empty() {
+            let (mut unit, behind_unit) = match first_unit(left) {
+                Ok(found) => found,
                 Err(refusal) => break 'all Err(refusal),
             };
-            let mut p = unit.start;
-            while p < unit.end {
-                let frame = match frame_at(data, p, unit.end) {
-                    Ok(frame) => frame,
+            while !unit.is_empty() {
+                let (mut frame, behind_frame) = match first_frame(unit) {
+                    Ok(found) => found,
                     Err(refusal) => break 'all Err(refusal),
                 };
-                let mut q = frame.start;
-                while q < frame.end {
-                    let o = match length_obu_at(data, q, frame.end) {
-                        Ok(o) => o,
+                while !frame.is_empty() {
+                    let (o, behind_obu) = match first_obu(frame) {
+                        Ok(found) => found,
                         Err(refusal) => break 'all Err(refusal),
                     };
-                    bytes += obu_len(o.extension, o.end - o.start);
-                    q = o.end;
+                    bytes += obu_len(o.extension, o.payload.len());
+                    frame = behind_obu;
                 }
-                p = frame.end;
+                unit = behind_frame;
             }
             units += 1;
-            at = unit.end;
+            left = behind_unit;
         }
         Ok(Sizes { bytes, units })
     }

@@ -131,6 +131,3 @@ fits_in room c =
     && leb c.ends room.ends
     && leb c.shows room.shows
     && leb c.header room.header
-
-abbrev pub room_for : ℕ → ℕ → ℕ → ℕ → ℕ → ℕ → OutputRoom
-room_for list cues picture ends shows header = record { list = list; cues = cues; picture = picture; ends = ends; shows = shows; header = header }

@@ -17,10 +17,6 @@ last_lead (o ∷ os) = either (last_lead os) (lead (o ∷ []))
 abbrev pub led : List Obu → List Obu
 led os = either (lead os) (last_lead os)
 
-abbrev pub first_of : List Obu → List Obu
-first_of [] = []
-first_of (o ∷ os) = o ∷ []
-
 -- nothing, or an OBU that opens a unit behind a frame
 abbrev pub reopens : List Obu → Bool
 reopens [] = true
@@ -55,12 +51,6 @@ pub record ToNext (s : List ℕ) (at next : ℕ) : Type 0 where
   pub frames : count is_frame front ≡ 0
   pub delimiters : count is_delimiter front ≡ 0
   pub opening : reopens rest ≡ true
-
--- the first OBU from `at` on, if there is one, ends at b
-pub record FirstObu (s : List ℕ) (at b : ℕ) : Type 0 where
-  pub all : List Obu
-  pub range : Range s at (length s) all
-  pub first : Range s at b (first_of all)
 
 -- the first unit from `at` on, of n frames that are left: what leads it lies from a to b, its OBUs from c to d
 pub record FirstUnit (s : List ℕ) (at n a b c d : ℕ) : Type 0 where

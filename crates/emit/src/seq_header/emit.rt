@@ -10,6 +10,7 @@ use bitio::refusal::Refusal;
 use bitio::writer::BitWriter;
 use emittable::seq_header::emit_fits::is_emittable;
 use header::seq_header::SequenceObu;
+use header::seq_header::bounded::BoundedOpening;
 use obu::writer::put_bytes;
 
 // The payload at the start of its memory.
@@ -25,7 +26,7 @@ fn write_payload(sequence: &SequenceObu) -> Payload
         end: BitWriter { pos: 0 },
     };
     payload.put_opening(o);
-    payload.put_points(o, sequence.points());
+    payload.put_points(BoundedOpening { opening: o }, sequence.points());
     payload.put_coding(o.seq_profile, full, sequence.header.coding);
     payload.put_trailing_bits();
     payload

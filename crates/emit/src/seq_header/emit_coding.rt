@@ -1,5 +1,5 @@
 // Writing a sequence header behind its operating points.
-ghost use Rattle.std.specs.Prelude.{◌+◌, ◌≤◌};
+ghost use Rattle.std.specs.Prelude.{◌≤◌};
 ghost use Rattle.emit.specs.code.WroteBits.{Wrote};
 ghost use Rattle.emittable.specs.PutSequence.{put_size, put_ids, put_tools, put_screen, put_filters, put_color, put_sampling, put_coding};
 
@@ -11,8 +11,8 @@ use header::seq_header::{
 impl Payload {
     // The largest frame.
     fn put_size(&mut self, z: FrameSize)
-        requires { (self.old.end.pos + 40 ≤ 3200) × (z.frame_width_bits_minus_1 ≤ 15) × (z.frame_height_bits_minus_1 ≤ 15) }
-        ensures { Wrote self.old self.new 40 (put_size z) }
+        requires { (z.frame_width_bits_minus_1 ≤ 15) × (z.frame_height_bits_minus_1 ≤ 15) }
+        ensures { Wrote self.old self.new (put_size z) }
     {
         self.put(4, z.frame_width_bits_minus_1);
         self.put(4, z.frame_height_bits_minus_1);
@@ -28,8 +28,7 @@ impl Payload {
 
     // The widths of frame ids.
     fn put_ids(&mut self, full: bool, i: FrameIds)
-        requires { self.old.end.pos + 8 ≤ 3200 }
-        ensures { Wrote self.old self.new 8 (put_ids full i) }
+        ensures { Wrote self.old self.new (put_ids full i) }
     {
         let present = i.frame_id_numbers_present;
         self.put_flag_or(full, present);
@@ -39,8 +38,7 @@ impl Payload {
 
     // use_128x128_superblock to enable_ref_frame_mvs.
     fn put_tools(&mut self, full: bool, t: Tools)
-        requires { self.old.end.pos + 10 ≤ 3200 }
-        ensures { Wrote self.old self.new 10 (put_tools full t) }
+        ensures { Wrote self.old self.new (put_tools full t) }
     {
         self.put_flag(t.use_128x128_superblock);
         self.put_flag(t.enable_filter_intra);
@@ -56,8 +54,7 @@ impl Payload {
 
     // Screen content tools, integer motion vectors, and the order hint's width.
     fn put_screen(&mut self, full: bool, hint: bool, t: ScreenTools)
-        requires { self.old.end.pos + 7 ≤ 3200 }
-        ensures { Wrote self.old self.new 7 (put_screen full hint t) }
+        ensures { Wrote self.old self.new (put_screen full hint t) }
     {
         let forced = full & !t.seq_choose_screen_content_tools;
         let tools = full & (t.seq_force_screen_content_tools > 0);
@@ -70,8 +67,7 @@ impl Payload {
 
     // enable_superres to enable_restoration.
     fn put_filters(&mut self, f: Filters)
-        requires { self.old.end.pos + 3 ≤ 3200 }
-        ensures { Wrote self.old self.new 3 (put_filters f) }
+        ensures { Wrote self.old self.new (put_filters f) }
     {
         self.put_flag(f.enable_superres);
         self.put_flag(f.enable_cdef);
@@ -80,8 +76,7 @@ impl Payload {
 
     // color_config up to the matrix coefficients.
     fn put_color(&mut self, profile: u64, c: ColorDescription)
-        requires { self.old.end.pos + 28 ≤ 3200 }
-        ensures { Wrote self.old self.new 28 (put_color profile c) }
+        ensures { Wrote self.old self.new (put_color profile c) }
     {
         let present = c.color_description_present;
         self.put_flag(c.high_bitdepth);
@@ -95,16 +90,11 @@ impl Payload {
 
     // color_config from color_range on.
     fn put_sampling(&mut self, profile: u64, c: ColorDescription, m: ColorSampling)
-        requires { self.old.end.pos + 6 ≤ 3200 }
-        ensures { Wrote self.old self.new 6 (put_sampling profile c m) }
+        ensures { Wrote self.old self.new (put_sampling profile c m) }
     {
-        let srgb = (c.color_primaries == 1)
-            & (c.transfer_characteristics == 13)
-            & (c.matrix_coefficients == 0);
-        let sampled = !c.mono_chrome & !srgb;
-        let coded = sampled & (profile == 2) & c.twelve_bit;
-        let positioned = sampled & m.subsample_x & m.subsample_y;
-        self.put_flag_or(c.mono_chrome | !srgb, m.color_range);
+        let coded = c.is_sampling_coded(profile);
+        let positioned = c.is_sampled() & m.subsample_x & m.subsample_y;
+        self.put_flag_or(c.is_range_coded(), m.color_range);
         self.put_flag_or(coded, m.subsample_x);
         self.put_flag_or(coded & m.subsample_x, m.subsample_y);
         self.put_or(positioned, 2, m.chroma_sample_position);
@@ -113,8 +103,8 @@ impl Payload {
 
     // Everything behind the operating points.
     pub(crate) fn put_coding(&mut self, profile: u64, full: bool, c: Coding)
-        requires { (self.old.end.pos + 103 ≤ 3200) × (c.size.frame_width_bits_minus_1 ≤ 15) × (c.size.frame_height_bits_minus_1 ≤ 15) }
-        ensures { Wrote self.old self.new 103 (put_coding profile full c) }
+        requires { (c.size.frame_width_bits_minus_1 ≤ 15) × (c.size.frame_height_bits_minus_1 ≤ 15) }
+        ensures { Wrote self.old self.new (put_coding profile full c) }
     {
         self.put_size(c.size);
         self.put_ids(full, c.ids);

@@ -1,30 +1,32 @@
 // Writing a sequence header up to the last operating point.
-ghost use Rattle.std.specs.Prelude.{◌+◌, ◌^◌, ◌≤◌, ◌<◌, length};
+ghost use Rattle.std.specs.Prelude.{◌^◌, ◌<◌};
 ghost use Rattle.emit.specs.code.WroteBits.{Wrote};
 ghost use Rattle.emittable.specs.PutSequence.{put_timing, put_model, put_opening, put_point, put_points};
-ghost use Rattle.header.specs.SequencePoints.{delay_bits};
 
 use crate::seq_header::payload::Payload;
+use header::seq_header::bounded::BoundedOpening;
 use header::seq_header::{DecoderModelInfo, Opening, OperatingPoint, TimingInfo};
 
 impl Payload {
     // timing_info
     fn put_timing(&mut self, full: bool, t: TimingInfo)
-        requires { (self.old.end.pos + 131 ≤ 3200) × (t.num_ticks_per_picture_minus_1 < 2 ^ 32) }
-        ensures { Wrote self.old self.new 131 (put_timing full t) }
+        requires { t.num_ticks_per_picture_minus_1 < 2 ^ 32 }
+        ensures { Wrote self.old self.new (put_timing full t) }
     {
         let present = t.timing_info_present;
         self.put_flag_or(full, present);
         self.put_or(present, 32, t.num_units_in_display_tick);
         self.put_or(present, 32, t.time_scale);
         self.put_flag_or(present, t.equal_picture_interval);
-        self.put_uvlc_or(t.equal_picture_interval, t.num_ticks_per_picture_minus_1);
+        self.put_uvlc_or(
+            t.equal_picture_interval,
+            t.num_ticks_per_picture_minus_1 as u32,
+        );
     }
 
     // decoder_model_info
     fn put_model(&mut self, timed: bool, m: DecoderModelInfo)
-        requires { self.old.end.pos + 48 ≤ 3200 }
-        ensures { Wrote self.old self.new 48 (put_model timed m) }
+        ensures { Wrote self.old self.new (put_model timed m) }
     {
         let present = m.decoder_model_info_present;
         self.put_flag_or(timed, present);
@@ -36,8 +38,8 @@ impl Payload {
 
     // Up to operating_points_cnt_minus_1.
     pub(crate) fn put_opening(&mut self, o: Opening)
-        requires { (self.old.end.pos + 190 ≤ 3200) × (o.timing.num_ticks_per_picture_minus_1 < 2 ^ 32) }
-        ensures { Wrote self.old self.new 190 (put_opening o) }
+        requires { o.timing.num_ticks_per_picture_minus_1 < 2 ^ 32 }
+        ensures { Wrote self.old self.new (put_opening o) }
     {
         let full = !o.reduced_still_picture_header;
         self.put(3, o.seq_profile);
@@ -50,14 +52,14 @@ impl Payload {
     }
 
     // One operating point.
-    fn put_point(&mut self, o: Opening, x: OperatingPoint)
-        requires { (self.old.end.pos + 89 ≤ 3200) × (delay_bits o ≤ 32) }
-        ensures { Wrote self.old self.new 89 (put_point o x) }
+    fn put_point(&mut self, bounded: BoundedOpening, x: OperatingPoint)
+        ensures { Wrote self.old self.new (put_point bounded.opening x) }
     {
+        let o = bounded.opening;
         let full = !o.reduced_still_picture_header;
         let model = x.decoder_model_present;
         let delay = x.initial_display_delay_present;
-        let n = o.model.buffer_delay_length_minus_1 as usize + 1;
+        let n = bounded.delay_bits();
         self.put_or(full, 12, x.idc);
         self.put(5, x.seq_level_idx);
         self.put_flag_or(full & (x.seq_level_idx > 7), x.seq_tier);
@@ -70,12 +72,11 @@ impl Payload {
     }
 
     // All operating points.
-    pub(crate) fn put_points(&mut self, o: Opening, points: &[OperatingPoint])
-        requires { (self.old.end.pos + 2848 ≤ 3200) × (delay_bits o ≤ 32) × (length points.now ≤ 32) }
-        ensures { Wrote self.old self.new 2848 (put_points o points.now) }
+    pub(crate) fn put_points(&mut self, bounded: BoundedOpening, points: &[OperatingPoint])
+        ensures { Wrote self.old self.new (put_points bounded.opening points.now) }
     {
         for x in points {
-            self.put_point(o, *x);
+            self.put_point(bounded, *x);
         }
     }
 }

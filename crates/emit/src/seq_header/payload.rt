@@ -1,5 +1,4 @@
 // A payload of a sequence header, written one field after the other.
-ghost use Rattle.std.specs.Prelude.{◌+◌, ◌^◌, ◌≤◌, ◌<◌};
 ghost use Rattle.bitio.specs.Write.{trailing_width, trailing_bits};
 ghost use Rattle.emit.specs.code.WroteBits.{Wrote};
 ghost use Rattle.emittable.specs.PutFields.{put, put_or, put_flag, put_flag_or, put_uvlc_or};
@@ -16,16 +15,14 @@ pub(crate) struct Payload {
 impl Payload {
     // f(n)
     pub(crate) fn put(&mut self, n: usize, v: u64)
-        requires { self.old.end.pos + n ≤ 3200 }
-        ensures { Wrote self.old self.new n (put n v) }
+        ensures { Wrote self.old self.new (put n v) }
     {
         self.end = self.end.f(&mut self.bytes, n, v).unwrap_or(self.end);
     }
 
     // f(n) where on
     pub(crate) fn put_or(&mut self, on: bool, n: usize, v: u64)
-        requires { self.old.end.pos + n ≤ 3200 }
-        ensures { Wrote self.old self.new n (put_or on n v) }
+        ensures { Wrote self.old self.new (put_or on n v) }
     {
         if on {
             self.put(n, v);
@@ -35,16 +32,14 @@ impl Payload {
     // a flag
     #[tactic(auto, unfolding(emittable::specs::PutFields::put_flag))]
     pub(crate) fn put_flag(&mut self, v: bool)
-        requires { self.old.end.pos + 1 ≤ 3200 }
-        ensures { Wrote self.old self.new 1 (put_flag v) }
+        ensures { Wrote self.old self.new (put_flag v) }
     {
         self.put(1, v as u64);
     }
 
     // a flag where on
     pub(crate) fn put_flag_or(&mut self, on: bool, v: bool)
-        requires { self.old.end.pos + 1 ≤ 3200 }
-        ensures { Wrote self.old self.new 1 (put_flag_or on v) }
+        ensures { Wrote self.old self.new (put_flag_or on v) }
     {
         if on {
             self.put_flag(v);
@@ -52,18 +47,16 @@ impl Payload {
     }
 
     // uvlc where on
-    pub(crate) fn put_uvlc_or(&mut self, on: bool, v: u64)
-        requires { (self.old.end.pos + 65 ≤ 3200) × (v < 2 ^ 32) }
-        ensures { Wrote self.old self.new 65 (put_uvlc_or on v) }
+    pub(crate) fn put_uvlc_or(&mut self, on: bool, v: u32)
+        ensures { Wrote self.old self.new (put_uvlc_or on v) }
     {
         if on {
-            self.end = self.end.uvlc(&mut self.bytes, v as u32).unwrap_or(self.end);
+            self.end = self.end.uvlc(&mut self.bytes, v).unwrap_or(self.end);
         }
     }
 
     pub(crate) fn put_trailing_bits(&mut self)
-        requires { self.old.end.pos + 8 ≤ 3200 }
-        ensures { Wrote self.old self.new 8 (put (trailing_width self.old.end.pos) (trailing_bits self.old.end.pos)) }
+        ensures { Wrote self.old self.new (put (trailing_width self.old.end.pos) (trailing_bits self.old.end.pos)) }
     {
         self.end = self.end.trailing_bits(&mut self.bytes).unwrap_or(self.end);
     }

@@ -1,11 +1,11 @@
 // Whether some payload reads as the fields of a sequence header.
-ghost use Rattle.std.specs.Prelude.{◌≡◌, ◌≤◌};
+ghost use Rattle.std.specs.Prelude.{◌≡◌};
 ghost use Rattle.emittable.specs.PutFields.{fits, fits_or, flag_fits_or, uvlc_fits_or};
-ghost use Rattle.header.specs.SequencePoints.{delay_bits};
 ghost use Rattle.header.specs.Sequence.{sequence_in};
 ghost use Rattle.emittable.specs.Emittable.{timing_fits, model_fits, opening_fits, point_fits, points_fit, emittable};
 
 use crate::seq_header::emit_fits_coding::coding_fits;
+use header::seq_header::bounded::BoundedOpening;
 use header::seq_header::{DecoderModelInfo, Opening, OperatingPoint, SequenceObu, TimingInfo};
 
 // f(n)
@@ -75,16 +75,15 @@ fn opening_fits(o: Opening) -> bool
         && bits_fit_or(full, 5, 0, o.operating_points_cnt_minus_1)
 }
 
-// Widths of buffer delays are those of an opening that fits.
 #[tactic(auto, unfolding(crate::specs::Emittable::point_fits))]
-fn point_fits(o: Opening, x: OperatingPoint) -> bool
-    requires { delay_bits o ≤ 32 }
-    ensures { result ≡ point_fits o x }
+fn point_fits(bounded: BoundedOpening, x: OperatingPoint) -> bool
+    ensures { result ≡ point_fits bounded.opening x }
 {
+    let o = bounded.opening;
     let full = !o.reduced_still_picture_header;
     let model = x.decoder_model_present;
     let delay = x.initial_display_delay_present;
-    let n = o.model.buffer_delay_length_minus_1 as usize + 1;
+    let n = bounded.delay_bits();
     bits_fit_or(full, 12, 0, x.idc)
         && bits_fit(5, x.seq_level_idx)
         && flag_fits_or(full && x.seq_level_idx > 7, false, x.seq_tier)
@@ -96,15 +95,14 @@ fn point_fits(o: Opening, x: OperatingPoint) -> bool
         && bits_fit_or(delay, 4, 0, x.initial_display_delay_minus_1)
 }
 
-fn points_fit(o: Opening, points: &[OperatingPoint]) -> bool
-    requires { delay_bits o ≤ 32 }
-    ensures { result ≡ points_fit o points.now }
+fn points_fit(bounded: BoundedOpening, points: &[OperatingPoint]) -> bool
+    ensures { result ≡ points_fit bounded.opening points.now }
 {
-    points.iter().all(|x| point_fits(o, *x))
+    points.iter().all(|x| point_fits(bounded, *x))
 }
 
 // Some payload reads as these fields.
-#[tactic(auto, using(crate::proofs::BackSequence::opening_delay), unfolding(crate::specs::Emittable::emittable))]
+#[tactic(auto, using(crate::proofs::BackSequence::opening_delay, crate::proofs::BackSequence::opening_count), unfolding(crate::specs::Emittable::emittable))]
 pub fn is_emittable(sequence: &SequenceObu) -> bool
     ensures { result ≡ emittable (sequence_in sequence.now) }
 {
@@ -113,5 +111,7 @@ pub fn is_emittable(sequence: &SequenceObu) -> bool
     if !opening_fits(o) {
         return false;
     }
-    points_fit(o, sequence.points()) && coding_fits(o.seq_profile, full, sequence.header.coding)
+    let bounded = BoundedOpening { opening: o };
+    points_fit(bounded, sequence.points())
+        && coding_fits(o.seq_profile, full, sequence.header.coding)
 }

@@ -11,8 +11,8 @@ use header::seq_header::{
 fn size_fits(z: FrameSize) -> bool
     ensures { result ≡ size_fits z }
 {
-    z.frame_width_bits_minus_1 <= 15
-        && z.frame_height_bits_minus_1 <= 15
+    bits_fit(4, z.frame_width_bits_minus_1)
+        && bits_fit(4, z.frame_height_bits_minus_1)
         && bits_fit(
             z.frame_width_bits_minus_1 as usize + 1,
             z.max_frame_width_minus_1,
@@ -76,19 +76,13 @@ fn color_fits(profile: u64, c: ColorDescription) -> bool
 fn sampling_fits(profile: u64, c: ColorDescription, m: ColorSampling) -> bool
     ensures { result ≡ sampling_fits profile c m }
 {
-    let srgb = (c.color_primaries == 1)
-        & (c.transfer_characteristics == 13)
-        & (c.matrix_coefficients == 0);
-    let sampled = !c.mono_chrome & !srgb;
-    let coded = sampled & (profile == 2) & c.twelve_bit;
-    let positioned = sampled & m.subsample_x & m.subsample_y;
-    flag_fits_or(c.mono_chrome | !srgb, true, m.color_range)
-        && flag_fits_or(coded, sampled & (profile != 1), m.subsample_x)
-        && flag_fits_or(
-            coded & m.subsample_x,
-            sampled & (profile == 0),
-            m.subsample_y,
-        )
+    let sampled = c.is_sampled();
+    let coded = c.is_sampling_coded(profile);
+    let coded_y = coded && m.subsample_x;
+    let positioned = sampled && m.subsample_x && m.subsample_y;
+    flag_fits_or(c.is_range_coded(), true, m.color_range)
+        && flag_fits_or(coded, sampled && profile != 1, m.subsample_x)
+        && flag_fits_or(coded_y, sampled && profile == 0, m.subsample_y)
         && bits_fit_or(positioned, 2, 0, m.chroma_sample_position)
 }
 

@@ -5,11 +5,12 @@ ghost use Rattle.bitio.specs.Parse.{answer};
 ghost use Rattle.bitio.specs.Refusal.{says};
 ghost use Rattle.header.specs.Sequence.{parse_sequence, in_array};
 
+use crate::seq_header::bounded::BoundedOpening;
 use crate::seq_header::read_coding::read_coding;
 use crate::seq_header::read_opening::read_opening;
 use crate::seq_header::read_points::read_points;
 use crate::seq_header::{SequenceHeader, SequenceObu};
-use bitio::limits::LIMIT;
+use bitio::limits::check_limit;
 use bitio::reader::BitReader;
 use bitio::refusal::Refusal;
 
@@ -20,7 +21,8 @@ pub fn read_sequence(payload: &[u8]) -> Result<SequenceObu, Refusal>
     ensures { says result ≡ answer in_array (parse_sequence payload.now) }
 {
     let (opening, r) = read_opening(BitReader { pos: 0 }, payload)?;
-    let (operating_points, r) = read_points(r, payload, opening)?;
+    let bounded = BoundedOpening { opening };
+    let (operating_points, r) = read_points(r, payload, bounded)?;
     let full = !opening.reduced_still_picture_header;
     let (coding, _) = read_coding(r, payload, opening.seq_profile, full)?;
     Ok(SequenceObu {
@@ -34,8 +36,6 @@ pub fn read_sequence(payload: &[u8]) -> Result<SequenceObu, Refusal>
 pub fn parse_sequence_header(payload: &[u8]) -> Result<SequenceObu, Refusal>
     ensures { says result ≡ answer in_array (limited payload.now (parse_sequence payload.now)) }
 {
-    if payload.len() > LIMIT {
-        return Err(Refusal::InputTooLong);
-    }
+    check_limit(payload)?;
     read_sequence(payload)
 }

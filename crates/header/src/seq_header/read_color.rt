@@ -40,15 +40,12 @@ pub(crate) fn read_sampling(
 ) -> Read<ColorSampling>
     ensures { reading result ≡ color_sampling ours s.now r.pos profile c }
 {
-    let srgb = (c.color_primaries == 1)
-        & (c.transfer_characteristics == 13)
-        & (c.matrix_coefficients == 0);
-    let sampled = !c.mono_chrome & !srgb;
-    let coded = sampled & (profile == 2) & c.twelve_bit;
-    let (color_range, r) = r.flag_or(s, c.mono_chrome | !srgb, true)?;
-    let (subsample_x, r) = r.flag_or(s, coded, sampled & (profile != 1))?;
-    let (subsample_y, r) = r.flag_or(s, coded & subsample_x, sampled & (profile == 0))?;
-    let (chroma_sample_position, r) = r.f_or(s, sampled & subsample_x & subsample_y, 2, 0)?;
+    let sampled = c.is_sampled();
+    let coded = c.is_sampling_coded(profile);
+    let (color_range, r) = r.flag_or(s, c.is_range_coded(), true)?;
+    let (subsample_x, r) = r.flag_or(s, coded, sampled && profile != 1)?;
+    let (subsample_y, r) = r.flag_or(s, coded && subsample_x, sampled && profile == 0)?;
+    let (chroma_sample_position, r) = r.f_or(s, sampled && subsample_x && subsample_y, 2, 0)?;
     let (separate_uv_delta_q, r) = r.flag(s)?;
     let sampling = ColorSampling {
         color_range,

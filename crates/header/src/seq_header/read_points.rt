@@ -1,19 +1,20 @@
 // Reading the operating points of a sequence header (AV1 5.5.1).
-ghost use Rattle.std.specs.Prelude.{◌≡◌, ◌+◌, ◌≤◌};
+ghost use Rattle.std.specs.Prelude.{◌≡◌, ◌+◌};
 ghost use Rattle.bitio.specs.Bits.{reads, and_then};
 ghost use Rattle.bitio.specs.Read.{reading};
-ghost use Rattle.header.specs.SequencePoints.{operating_point, operating_points, delay_bits, point_count, padded};
+ghost use Rattle.header.specs.SequencePoints.{operating_point, operating_points, point_count, padded};
 
-use crate::seq_header::{Opening, OperatingPoint};
+use crate::seq_header::OperatingPoint;
+use crate::seq_header::bounded::BoundedOpening;
 use bitio::reader::{BitReader, Read};
 
 #[tactic(auto, unfolding(crate::specs::SequencePoints::operating_point))]
-fn read_point(r: BitReader, s: &[u8], o: Opening) -> Read<OperatingPoint>
-    requires { delay_bits o ≤ 32 }
-    ensures { reading result ≡ operating_point s.now r.pos o }
+fn read_point(r: BitReader, s: &[u8], bounded: BoundedOpening) -> Read<OperatingPoint>
+    ensures { reading result ≡ operating_point s.now r.pos bounded.opening }
 {
+    let o = bounded.opening;
     let full = !o.reduced_still_picture_header;
-    let n = o.model.buffer_delay_length_minus_1 as usize + 1;
+    let n = bounded.delay_bits();
     let (idc, r) = r.f_or(s, full, 12, 0)?;
     let (seq_level_idx, r) = r.f(s, 5)?;
     let (seq_tier, r) = r.flag_or(s, full && seq_level_idx > 7, false)?;
@@ -37,14 +38,17 @@ fn read_point(r: BitReader, s: &[u8], o: Opening) -> Read<OperatingPoint>
     Ok((point, r))
 }
 
-pub(crate) fn read_points(r: BitReader, s: &[u8], o: Opening) -> Read<[OperatingPoint; 32]>
-    requires { (delay_bits o ≤ 32) × (point_count o ≤ 32) }
-    ensures { reading result ≡ and_then (operating_points (point_count o) s.now r.pos o) (λ xs p. reads (padded xs) p) }
+pub(crate) fn read_points(
+    r: BitReader,
+    s: &[u8],
+    bounded: BoundedOpening,
+) -> Read<[OperatingPoint; 32]>
+    ensures { reading result ≡ and_then (operating_points (point_count bounded.opening) s.now r.pos bounded.opening) (λ xs p. reads (padded xs) p) }
 {
     let mut points = [OperatingPoint::default(); 32];
     let mut r = r;
-    for i in 0..o.operating_points_cnt_minus_1 as usize + 1 {
-        let (point, next) = read_point(r, s, o)?;
+    for i in 0..bounded.point_count() {
+        let (point, next) = read_point(r, s, bounded)?;
         points[i] = point;
         r = next;
     }

@@ -5,30 +5,18 @@ use Rattle.bitio.specs.Every.{Every}
 use Rattle.bitio.specs.Parse.{Answer, refused, accepted, answer, Head, stop, item}
 use Rattle.bitio.specs.Lent.{pasted}
 use Rattle.obu.specs.Obu.{Obu, head_obu, obus, unit_bytes}
-use Rattle.obu.specs.Place.{part}
 use Rattle.obu.specs.Unit.{of_unit}
 use Rattle.container.specs.Stream.{lead, others, either, has_frame, stream_bytes}
 use Rattle.bitio.specs.Limits.{limit, capped}
 use Rattle.container.specs.code.Ranges.{kept_bytes}
 use Rattle.packets.specs.Packets.{Packet, merge_packets}
 use Rattle.container.specs.Units.{units_at, ends_of, sizes_of, bytes_after, ends_after}
-use Rattle.container.specs.Lists.{accepts}
+use Rattle.container.specs.Lists.{listed, unit_of, accepts}
 use Rattle.packets.specs.PacketLists.{stamped, bytes_of, times_of, lent_room, merged_at, times_after}
 use Rattle.std.specs.Prelude.{Result}
 use Rattle.bitio.specs.Refusal.{says}
 use Rattle.bitio.specs.declared.refusal.Refusal.{Refusal}
 use Rattle.container.specs.declared.units.Sizes.{Sizes}
-
--- the units of s whose ends are given, the first of which starts at `at`; an end that is not there gives an empty unit
-unfoldable pub listed_from : ℕ → List ℕ → List ℕ → List (List ℕ)
-listed_from at s [] = []
-listed_from at s (e ∷ es) = part s at e ∷ listed_from e s es
-
-abbrev pub listed : List ℕ → List ℕ → List (List ℕ)
-listed s es = listed_from 0 s es
-
-abbrev pub unit_of : List ℕ → List ℕ → ℕ → List ℕ
-unit_of s es i = get_or (listed s es) i []
 
 -- a unit that goes out, after what waits: it does not parse, or has a frame
 abbrev pub closes : List ℕ → Bool

@@ -1,19 +1,12 @@
 // All output packets: measured, then written.
-ghost use Rattle.std.specs.Prelude.{◌≡◌, cond as pick, ◌+◌, ◌<◌, ltb};
+ghost use Rattle.std.specs.Prelude.{◌≡◌};
 ghost use Rattle.packets.specs.PacketLists.{fits_packets, lent_room};
 ghost use Rattle.packets.specs.code.PacketRuns.{Totals, Closing, Ready, WroteMerged, OneCloses, NoneCloses, Outcome};
 
 use crate::packets::lists::Packets;
+use crate::packets::walk::Pieces;
 use bitio::refusal::Refusal;
 use container::units::Sizes;
-
-// Where an output packet ends whose packet at c closes: behind it, or at the end if no other closes.
-fn stop_at(c: usize, next: usize, n: usize) -> usize
-    requires { c < n }
-    ensures { result ≡ pick (ltb next n) (c + 1) n }
-{
-    if next < n { c + 1 } else { n }
-}
 
 // Whether packets of these sizes, with their times, have room.
 fn have_room(sizes: Sizes, out: &[u8], ends: &[u32], times: &[u64]) -> bool
@@ -24,44 +17,30 @@ fn have_room(sizes: Sizes, out: &[u8], ends: &[u32], times: &[u64]) -> bool
 
 // How many bytes and packets go out, the first that closes being c.
 fn measure(packets: Packets, c: usize) -> Sizes
-    requires { Closing packets.bytes.now packets.ends.now packets.times.now c }
-    ensures { Totals packets.entry.bytes.now packets.entry.ends.now packets.entry.times.now result.bytes result.units }
+    requires { Closing packets.units.bytes.now packets.units.ends.now packets.times.now c }
+    ensures { Totals packets.entry.units.bytes.now packets.entry.units.ends.now packets.entry.times.now result.bytes result.units }
 {
-    let n = packets.times.len();
-    let mut first: usize = 0;
-    let mut at = c;
     let mut bytes: usize = 0;
     let mut units: usize = 0;
-    while first < n {
-        let next = packets.next_close(at + 1);
-        let stop = stop_at(at, next, n);
-        bytes = bytes.saturating_add(packets.piece_len(first, at, stop));
+    for x in Pieces::new(packets, c) {
+        bytes = bytes.saturating_add(packets.piece_len(x.first, x.close, x.stop));
         units += 1;
-        first = stop;
-        at = next;
     }
     Sizes { bytes, units }
 }
 
 // Writes them, where their room is known.
 fn write(packets: Packets, c: usize, out: &mut [u8], out_ends: &mut [u32], out_times: &mut [u64])
-    requires { Ready packets.bytes.now packets.ends.now packets.times.now c out.old out_ends.old out_times.old }
-    ensures { WroteMerged packets.entry.bytes.now packets.entry.ends.now packets.entry.times.now out.old out_ends.old out_times.old out.new out_ends.new out_times.new }
+    requires { Ready packets.units.bytes.now packets.units.ends.now packets.times.now c out.old out_ends.old out_times.old }
+    ensures { WroteMerged packets.entry.units.bytes.now packets.entry.units.ends.now packets.entry.times.now out.old out_ends.old out_times.old out.new out_ends.new out_times.new }
 {
-    let n = packets.times.len();
-    let mut first: usize = 0;
-    let mut at = c;
     let mut w: usize = 0;
     let mut u: usize = 0;
-    while first < n {
-        let next = packets.next_close(at + 1);
-        let stop = stop_at(at, next, n);
-        w = packets.put_piece(first, at, stop, out, w);
+    for x in Pieces::new(packets, c) {
+        w = packets.put_piece(x.first, x.close, x.stop, out, w);
         out_ends[u] = w as u32;
-        out_times[u] = packets.times[at];
+        out_times[u] = packets.times[x.close];
         u += 1;
-        first = stop;
-        at = next;
     }
 }
 
@@ -73,8 +52,8 @@ pub(crate) fn merge_some(
     out_ends: &mut [u32],
     out_times: &mut [u64],
 ) -> Result<Sizes, Refusal>
-    requires { OneCloses packets.bytes.now packets.ends.now packets.times.now c }
-    ensures { Outcome packets.entry.bytes.now packets.entry.ends.now packets.entry.times.now out.old out_ends.old out_times.old result out.new out_ends.new out_times.new }
+    requires { OneCloses packets.units.bytes.now packets.units.ends.now packets.times.now c }
+    ensures { Outcome packets.entry.units.bytes.now packets.entry.units.ends.now packets.entry.times.now out.old out_ends.old out_times.old result out.new out_ends.new out_times.new }
 {
     let sizes = measure(packets, c);
     if !have_room(sizes, out, out_ends, out_times) {
@@ -91,8 +70,8 @@ pub(crate) fn merge_none(
     out_ends: &mut [u32],
     out_times: &mut [u64],
 ) -> Result<Sizes, Refusal>
-    requires { NoneCloses packets.bytes.now packets.ends.now packets.times.now }
-    ensures { Outcome packets.entry.bytes.now packets.entry.ends.now packets.entry.times.now out.old out_ends.old out_times.old result out.new out_ends.new out_times.new }
+    requires { NoneCloses packets.units.bytes.now packets.units.ends.now packets.times.now }
+    ensures { Outcome packets.entry.units.bytes.now packets.entry.units.ends.now packets.entry.times.now out.old out_ends.old out_times.old result out.new out_ends.new out_times.new }
 {
     let n = packets.times.len();
     let i = packets.first_full(0, n);

@@ -15,8 +15,8 @@ use Rattle.assemble.proofs.plan.plan_header.Goals as goal
 pub returns-in_err-sequence : goal.returns-in_err-sequence
 returns-in_err-sequence c =
     let a = c.args in
-    let s = a.segments.picture.now in
-    let rs = a.segments.numbers.now in
+    let s = a.segments.all.picture.now in
+    let rs = a.segments.all.numbers.now in
     let p = c.payload-first.ensures ∙ ap (λ (u : List ℕ). part u a.obu.start a.obu.end) c.key.ensures in
     let r = c.read_supported.ensures ∙ ap (λ (l : List ℕ). answer in_array (supported_sequence l)) p in
     let e = header_refused s rs a.settings (obu_in (head_key s rs) a.obu) _ _ (c.in_err-sequence.ensures ∙ ap (λ (x : Answer SequenceObu). in_segment 0 x) r) in
@@ -25,8 +25,8 @@ returns-in_err-sequence c =
 pub returns-in_err-same_headers : goal.returns-in_err-same_headers
 returns-in_err-same_headers c =
     let a = c.args in
-    let s = a.segments.picture.now in
-    let rs = a.segments.numbers.now in
+    let s = a.segments.all.picture.now in
+    let rs = a.segments.all.numbers.now in
     let p = c.payload-first.ensures ∙ ap (λ (u : List ℕ). part u a.obu.start a.obu.end) c.key.ensures in
     let r = c.read_supported.ensures ∙ ap (λ (l : List ℕ). answer in_array (supported_sequence l)) p in
     let t = c.in_ok-sequence.ensures ∙ ap (λ (x : Answer SequenceObu). in_segment 0 x) r in
@@ -38,8 +38,8 @@ returns-in_err-same_headers c =
 pub plan_timing-requires-clause-read : goal.plan_timing-requires-clause-read
 plan_timing-requires-clause-read c =
     let a = c.args in
-    let s = a.segments.picture.now in
-    let rs = a.segments.numbers.now in
+    let s = a.segments.all.picture.now in
+    let rs = a.segments.all.numbers.now in
     let p = c.payload-first.ensures ∙ ap (λ (u : List ℕ). part u a.obu.start a.obu.end) c.key.ensures in
     let r = c.read_supported.ensures ∙ ap (λ (l : List ℕ). answer in_array (supported_sequence l)) p in
     let t = c.in_ok-sequence.ensures ∙ ap (λ (x : Answer SequenceObu). in_segment 0 x) r in
@@ -48,8 +48,8 @@ plan_timing-requires-clause-read c =
 pub returns : goal.returns
 returns c =
     let a = c.args in
-    let s = a.segments.picture.now in
-    let rs = a.segments.numbers.now in
+    let s = a.segments.all.picture.now in
+    let rs = a.segments.all.numbers.now in
     let p = c.payload-first.ensures ∙ ap (λ (u : List ℕ). part u a.obu.start a.obu.end) c.key.ensures in
     let r = c.read_supported.ensures ∙ ap (λ (l : List ℕ). answer in_array (supported_sequence l)) p in
     let t = c.in_ok-sequence.ensures ∙ ap (λ (x : Answer SequenceObu). in_segment 0 x) r in

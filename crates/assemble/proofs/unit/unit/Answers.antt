@@ -1,16 +1,16 @@
-use Rattle.std.proofs.Common.{◌∙◌}
+use Rattle.std.proofs.Common.{◌∙◌, refl}
 use Rattle.pictures.proofs.UnitLaws.{named-picture, named-show, named_none}
 use Rattle.assemble.proofs.unit.unit.Goals as goal
 
 pub returns-then-kind-lt2 : goal.returns-then-kind-lt2
 returns-then-kind-lt2 c =
     let a = c.args in
-    c.payload.ensures ∙ named-picture a.pictures.now a.ends.now a.shows.now a.entry _ _ c.if-kind-lt2.true c.start_of-start.ensures c.end_of-end.ensures
+    c.part_in.ensures ∙ named-picture a.pictures.now a.ends.now a.shows.now a.entry _ _ c.if-kind-lt2.true refl refl
 
 pub returns-then-kind-eq2 : goal.returns-then-kind-eq2
 returns-then-kind-eq2 c =
     let a = c.args in
-    c.payload-then-kind-eq2.ensures ∙ named-show a.pictures.now a.ends.now a.shows.now a.entry c.if-kind-lt2.false c.if-kind-eq2.true
+    c.payload.ensures ∙ named-show a.pictures.now a.ends.now a.shows.now a.entry c.if-kind-lt2.false c.if-kind-eq2.true
 
 pub returns : goal.returns
 returns c =

@@ -1,6 +1,5 @@
 use Rattle.std.proofs.Common.{ℕ, List, ap, ◌∙◌}
 use Rattle.bitio.specs.Parse.{Answer, accepted}
-use Rattle.obu.specs.Unit.{count}
 use Rattle.header.specs.Sequence.{Sequence}
 use Rattle.frame.specs.Frame.{modelled, removals}
 use Rattle.header.proofs.LimitedLaws.{limited-read}
@@ -14,17 +13,15 @@ use Rattle.bench.proofs.scans.scan_sum.Goals as goal
 abbrev sums : List ℕ → List ℕ → Sequence → Answer ℕ
 sums f es q = accepted (sum_of q.header (removals modelled q) f es)
 
-pub sum_ends-requires : goal.sum_ends-requires
-sum_ends-requires c =
+pub invariant_of-scanner : goal.invariant_of-scanner
+invariant_of-scanner c =
     let s = c.args.sequence.now in
-    read-within s _ (limited-read s _ (beside-whole s _ c.in-Ok.ensures))
+    record { sized = read-within s _ (limited-read s _ (beside-whole s _ c.in-Ok.ensures)) }
 
 pub returns-in-Ok : goal.returns-in-Ok
 returns-in-Ok c =
     let a = c.args in
     c.sum_ends.ensures
-    ∙ ap (λ n. sum_of c.in-Ok.sequence.header n a.frames.now a.ends.now) c.removals.ensures
-    ∙ ap (λ r. sum_of c.in-Ok.sequence.header (count modelled r) a.frames.now a.ends.now) c.points.ensures.points
     ∙ ap bytes_or_none (beside-read a.sequence.now (sums a.frames.now a.ends.now) _ c.in-Ok.ensures)
 
 pub returns-in-Err : goal.returns-in-Err

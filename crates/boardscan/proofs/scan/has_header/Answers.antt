@@ -1,5 +1,7 @@
+use Rattle.std.proofs.Common.{◌∙◌, ap}
+use lib.Dec.{leb}
 use Rattle.boardscan.proofs.ScanLaws.{counted_has}
 use Rattle.boardscan.proofs.scan.has_header.Goals as goal
 
-pub returns-in-Ok : goal.returns-in-Ok
-returns-in-Ok c = counted_has _ _ c.in-Ok.ensures
+pub returns : goal.returns
+returns c = ap (leb 1) c.unwrap_or.ensures ∙ counted_has _ _ c.count_obus.ensures

@@ -1,9 +1,5 @@
-use Rattle.std.proofs.Common.{◌-◌}
-use Rattle.container.proofs.RangeLaws.{Putting}
+use Rattle.container.proofs.RangeLaws.{Within, Putting}
 use Rattle.container.proofs.ranges.put_written.Given as goal
 
-abbrev pub invariant-loop-at : goal.invariant-loop-at
-invariant-loop-at l = Putting l.s l.range.start l.range.end l.keep l.initial.out l.to l.at l.w l.out
-
-abbrev pub decreases-loop-at : goal.decreases-loop-at
-decreases-loop-at l = l.range.end - l.at
+abbrev pub invariant-loop-found : goal.invariant-loop-found
+invariant-loop-found l = Within l.s l.fn.range.end l.found-iterator × Putting l.s l.fn.range.start l.fn.range.end l.keep l.initial.out l.to l.found-iterator.at l.w l.out

@@ -1,9 +1,6 @@
-use Rattle.std.proofs.Common.{◌-◌, length}
+use Rattle.std.proofs.Common.{◌≡◌}
 use Rattle.container.proofs.StreamTurns.{Sizing}
 use Rattle.container.proofs.stream.measure.Given as goal
 
-abbrev pub invariant-loop-at : goal.invariant-loop-at
-invariant-loop-at l = Sizing l.s l.at l.left l.bytes l.units
-
-abbrev pub decreases-loop-at : goal.decreases-loop-at
-decreases-loop-at l = length l.s - l.at
+abbrev pub invariant-loop-x : goal.invariant-loop-x
+invariant-loop-x l = (l.x-iterator.bytes.now ≡ l.s) × Sizing l.s l.x-iterator.at l.x-iterator.frames l.bytes l.units

@@ -1,9 +1,6 @@
-use Rattle.std.proofs.Common.{◌-◌, length}
+use Rattle.std.proofs.Common.{◌≡◌}
 use Rattle.container.proofs.StreamTurns.{Writing}
 use Rattle.container.proofs.stream.write.Given as goal
 
-abbrev pub invariant-loop-at : goal.invariant-loop-at
-invariant-loop-at l = Writing l.s l.at l.left l.initial.out l.initial.ends l.w l.u l.out l.ends
-
-abbrev pub decreases-loop-at : goal.decreases-loop-at
-decreases-loop-at l = length l.s - l.at
+abbrev pub invariant-loop-x : goal.invariant-loop-x
+invariant-loop-x l = (l.x-iterator.bytes.now ≡ l.s) × Writing l.s l.x-iterator.at l.x-iterator.frames l.initial.out l.initial.ends l.w l.u l.out l.ends

@@ -1,9 +1,6 @@
-use Rattle.std.proofs.Common.{◌-◌, length}
+use Rattle.obu.proofs.WalkLaws.{Over}
 use Rattle.container.proofs.SurveyLaws.{Surveying}
 use Rattle.container.proofs.survey.survey.Given as goal
 
-abbrev pub invariant-loop-o : goal.invariant-loop-o
-invariant-loop-o l = Surveying l.s l.at l.frames l.bytes
-
-abbrev pub decreases-loop-o : goal.decreases-loop-o
-decreases-loop-o l = length l.s - l.at
+abbrev pub invariant-loop-found : goal.invariant-loop-found
+invariant-loop-found l = Over l.s l.found-iterator × Surveying l.s l.found-iterator.at l.frames l.bytes

@@ -13,6 +13,11 @@ loop-size-preserved c =
       left = omega (arith, doubled (t - (l.k + 1)) l.size t c.loop-size-test.true, ap (λ (n : ℕ). doublings n l.size t) n);
     }
 
+pub overflow_add-k : goal.overflow_add-k
+overflow_add-k c =
+    let a = c.args in
+    omega (arith, c.loop-size.invariant.left, enough 52 a.target a.blk a.target (omega arith))
+
 pub returns-clause-gives : goal.returns-clause-gives
 returns-clause-gives c =
     let l = c.loop-size in

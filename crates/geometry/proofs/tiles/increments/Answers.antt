@@ -1,22 +1,31 @@
-use Rattle.std.proofs.Common.{arith, rules}
-use Rattle.syntax.specs.Syntax.{run}
-use Rattle.syntax.proofs.RepeatLaws.{next, end}
-use Rattle.geometry.specs.Tiles.{increment, increments}
+use Rattle.std.proofs.Common.{◌≡◌, ◌-◌, arith, rules}
+use Rattle.geometry.specs.Tiles.{increments}
+use Rattle.geometry.proofs.IncrementLaws.{another, final}
 use Rattle.geometry.proofs.tiles.increments.Goals as goal
 
-pub returns-in_err-b-clause-read : goal.returns-in_err-b-clause-read
-unfolding run increment increments
-returns-in_err-b-clause-read c =
-    let z = rw (← c.in_err-b.ensures.read) at (next c.loop-i.invariant.left (omega arith)) in
+pub loop-log2-init : goal.loop-log2-init
+unfolding increments
+loop-log2-init c =
+    let none : c.args.least - c.args.least ≡ 0 = omega arith in
+    record { low = omega arith; high = omega arith; same = rw none }
+
+pub returns-in_err-more : goal.returns-in_err-more
+returns-in_err-more c =
+    let z = rw (← c.in_err-more.ensures) at (another c.loop-log2.invariant (omega arith)) in
     search (rules, z)
 
-pub loop-i-preserved : goal.loop-i-preserved
-unfolding run increment
-loop-i-preserved c = record {
-  few = omega (arith, c.in_ok-b.ensures.fits);
-  left = record { same = rw (← c.in_ok-b.ensures.read) at (next c.loop-i.invariant.left (omega arith)) };
-}
+pub returns-then-not-more : goal.returns-then-not-more
+returns-then-not-more c = rw (← c.in_ok-more.ensures, c.if-not-more.true) at (another c.loop-log2.invariant (omega arith))
 
-pub returns-clause-read : goal.returns-clause-read
-unfolding increments
-returns-clause-read c = end c.loop-i.invariant.left (omega arith)
+pub loop-log2-preserved : goal.loop-log2-preserved
+loop-log2-preserved c =
+    record {
+      low = omega arith;
+      high = omega arith;
+      same = rw (← c.in_ok-more.ensures, c.if-not-more.false) at (another c.loop-log2.invariant (omega arith));
+    }
+
+pub returns : goal.returns
+returns c =
+    let all : c.max.result ≡ c.loop-log2.log2 = omega (arith, c.loop-log2.invariant.low, c.loop-log2.invariant.high) in
+    rw all (final c.loop-log2.invariant (omega arith))

@@ -9,8 +9,8 @@ use Rattle.listing.proofs.text.put_listing.Goals.{then-out-head-via-then-out-hea
 pub returns-then-out-head : goal.returns-then-out-head
 returns-then-out-head c =
     let d = c.args.out.now in
-    let t = listing_in c.args.list.now c.args.cues c.args.units in
-    let e = listing_length c.args.list.now c.args.cues c.args.units in
+    let t = listing_in c.args.cues c.args.units in
+    let e = listing_length c.args.cues c.args.units in
     let h : length d < length t =
     elim c.then-out-head.branch [
       | then-out-head-via-then-out-head w ↦ omega (arith, e, c.decimal_len.ensures.0, c.decimal_len-2.ensures.0, w.if-out-head.true)
@@ -23,9 +23,9 @@ returns-then-out-head c =
 pub returns : goal.returns
 returns c =
     let d = c.args.out.now in
-    let t = listing_in c.args.list.now c.args.cues c.args.units in
-    let e = listing_length c.args.list.now c.args.cues c.args.units in
+    let t = listing_in c.args.cues c.args.units in
+    let e = listing_length c.args.cues c.args.units in
     let f = leb-true _ _ (sym c.lines_fit.ensures ∙ c.if-not-lines_fit.false) in
     let h : length t ≤ length d = omega (arith, e, f, c.decimal_len.ensures.0, c.decimal_len-2.ensures.0, c.if-out-head.false) in
-    let w = listing_wrote c.args.list.now c.args.cues c.args.units h c.put_counted-to.ensures c.put_counted-to-2.ensures c.put_lines.ensures in
+    let w = listing_wrote c.args.cues c.args.units h c.put_counted-to.ensures c.put_counted-to-2.ensures c.put_lines.ensures in
     record { answer = all_placed d t w h; out = all_lent d t w h }

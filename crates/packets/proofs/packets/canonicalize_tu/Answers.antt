@@ -1,6 +1,14 @@
-use Rattle.std.proofs.Common.{arith}
+use Rattle.std.proofs.Common.{rules}
+use Rattle.bitio.proofs.LimitLaws.{limit_passed}
 use Rattle.packets.proofs.CanonicalLaws.{canon-long}
 use Rattle.packets.proofs.packets.canonicalize_tu.Goals as goal
 
-pub returns-then-unit-gt-LIMIT : goal.returns-then-unit-gt-LIMIT
-returns-then-unit-gt-LIMIT c = let e = canon-long _ _ (omega arith) in record { answer = e.0; out = e.1 }
+pub returns-in_err-check_limit-clause-answer : goal.returns-in_err-check_limit-clause-answer
+returns-in_err-check_limit-clause-answer c =
+    let e = (canon-long c.args.unit.now c.args.out.now (limit_passed _ c.in_err-check_limit.ensures)).0 in
+    search (rules, e)
+
+pub returns-in_err-check_limit-clause-out : goal.returns-in_err-check_limit-clause-out
+returns-in_err-check_limit-clause-out c =
+    let e = (canon-long c.args.unit.now c.args.out.now (limit_passed _ c.in_err-check_limit.ensures)).1 in
+    search (rules, e)

@@ -1,41 +1,74 @@
-use Rattle.std.proofs.Common.{arith, sym}
+use Rattle.std.proofs.Common.{arith, rules, ap, length}
+use Rattle.bitio.proofs.LimitLaws.{limit_kept, limit_passed}
 use Rattle.packets.specs.code.PacketRuns.{Given}
 use Rattle.packets.proofs.PacketOutcomeLaws.{out-long, out-unmatched, out-wrong, none-closes, four}
-use Rattle.packets.proofs.packets.merge_frameless_packets.Goals.{then-packet_ends-times-via-then-packet_ends-times, then-packet_ends-times-via-else-packet_ends-times+then-not-check_ends}
 use Rattle.packets.proofs.packets.merge_frameless_packets.Goals as goal
 
-pub returns-then-packets-gt-LIMIT : goal.returns-then-packets-gt-LIMIT
-returns-then-packets-gt-LIMIT c =
-    let e = four (out-long c.args.packets.now c.args.packet_ends.now c.args.times.now c.args.out.now c.args.out_ends.now c.args.out_times.now (omega arith)) in
-    record { answer = e.0; out = e.1.0; ends = e.1.1.0; times = e.1.1.1 }
+pub returns-in_err-check_limit-clause-answer : goal.returns-in_err-check_limit-clause-answer
+returns-in_err-check_limit-clause-answer c =
+    let e = (four (out-long c.args.packets.now c.args.packet_ends.now c.args.times.now c.args.out.now c.args.out_ends.now c.args.out_times.now c.in_err-check_limit.field-0.0 (limit_passed _ c.in_err-check_limit.ensures))).0 in
+    search (rules, e)
+
+pub returns-in_err-check_limit-clause-out : goal.returns-in_err-check_limit-clause-out
+returns-in_err-check_limit-clause-out c =
+    let e = (four (out-long c.args.packets.now c.args.packet_ends.now c.args.times.now c.args.out.now c.args.out_ends.now c.args.out_times.now c.in_err-check_limit.field-0.0 (limit_passed _ c.in_err-check_limit.ensures))).1.0 in
+    search (rules, e)
+
+pub returns-in_err-check_limit-clause-ends : goal.returns-in_err-check_limit-clause-ends
+returns-in_err-check_limit-clause-ends c =
+    let e = (four (out-long c.args.packets.now c.args.packet_ends.now c.args.times.now c.args.out.now c.args.out_ends.now c.args.out_times.now c.in_err-check_limit.field-0.0 (limit_passed _ c.in_err-check_limit.ensures))).1.1.0 in
+    search (rules, e)
+
+pub returns-in_err-check_limit-clause-times : goal.returns-in_err-check_limit-clause-times
+returns-in_err-check_limit-clause-times c =
+    let e = (four (out-long c.args.packets.now c.args.packet_ends.now c.args.times.now c.args.out.now c.args.out_ends.now c.args.out_times.now c.in_err-check_limit.field-0.0 (limit_passed _ c.in_err-check_limit.ensures))).1.1.1 in
+    search (rules, e)
 
 pub returns-then-packet_ends-times : goal.returns-then-packet_ends-times
 returns-then-packet_ends-times c =
-    elim c.then-packet_ends-times.branch [
-      | then-packet_ends-times-via-then-packet_ends-times w ↦
-          let e = four (out-unmatched c.args.packets.now c.args.packet_ends.now c.args.times.now c.args.out.now c.args.out_ends.now c.args.out_times.now (omega arith) (λ q. omega (arith, w.if-packet_ends-times.true))) in
-          record { answer = e.0; out = e.1.0; ends = e.1.1.0; times = e.1.1.1 }
-      | then-packet_ends-times-via-else-packet_ends-times+then-not-check_ends w ↦
-          let e = four (out-wrong c.args.packets.now c.args.packet_ends.now c.args.times.now c.args.out.now c.args.out_ends.now c.args.out_times.now (omega arith) (omega (arith, w.if-packet_ends-times.false)) (sym w.if-not-check_ends.ensures)) in
-          record { answer = e.0; out = e.1.0; ends = e.1.1.0; times = e.1.1.1 }
-    ]
+    let e = four (out-unmatched c.args.packets.now c.args.packet_ends.now c.args.times.now c.args.out.now c.args.out_ends.now c.args.out_times.now (limit_kept _ c.in_ok-check_limit.ensures) (λ q. omega (arith, c.if-packet_ends-times.true))) in
+    record { answer = e.0; out = e.1.0; ends = e.1.1.0; times = e.1.1.1 }
+
+pub returns-in_err-units-clause-answer : goal.returns-in_err-units-clause-answer
+returns-in_err-units-clause-answer c =
+    let e = (four (out-wrong c.args.packets.now c.args.packet_ends.now c.args.times.now c.args.out.now c.args.out_ends.now c.args.out_times.now c.in_err-units.field-0.0 (limit_kept _ c.in_ok-check_limit.ensures) (omega arith) c.in_err-units.ensures)).0 in
+    search (rules, e)
+
+pub returns-in_err-units-clause-out : goal.returns-in_err-units-clause-out
+returns-in_err-units-clause-out c =
+    let e = (four (out-wrong c.args.packets.now c.args.packet_ends.now c.args.times.now c.args.out.now c.args.out_ends.now c.args.out_times.now c.in_err-units.field-0.0 (limit_kept _ c.in_ok-check_limit.ensures) (omega arith) c.in_err-units.ensures)).1.0 in
+    search (rules, e)
+
+pub returns-in_err-units-clause-ends : goal.returns-in_err-units-clause-ends
+returns-in_err-units-clause-ends c =
+    let e = (four (out-wrong c.args.packets.now c.args.packet_ends.now c.args.times.now c.args.out.now c.args.out_ends.now c.args.out_times.now c.in_err-units.field-0.0 (limit_kept _ c.in_ok-check_limit.ensures) (omega arith) c.in_err-units.ensures)).1.1.0 in
+    search (rules, e)
+
+pub returns-in_err-units-clause-times : goal.returns-in_err-units-clause-times
+returns-in_err-units-clause-times c =
+    let e = (four (out-wrong c.args.packets.now c.args.packet_ends.now c.args.times.now c.args.out.now c.args.out_ends.now c.args.out_times.now c.in_err-units.field-0.0 (limit_kept _ c.in_ok-check_limit.ensures) (omega arith) c.in_err-units.ensures)).1.1.1 in
+    search (rules, e)
 
 pub merge_none-requires : goal.merge_none-requires
 merge_none-requires c =
-    let g : Given c.args.packets.now c.args.packet_ends.now c.args.times.now = record { short = omega arith; match = omega arith; listed = sym c.if-not-check_ends.ensures } in
+    let x = c.in_ok-units.units in
+    let g : Given x.bytes.now x.ends.now c.args.times.now = record { short = rw c.in_ok-units.ensures.0 (limit_kept _ c.in_ok-check_limit.ensures); match = omega (arith, ap length c.in_ok-units.ensures.1); listed = x.is_list } in
     none-closes g c.next_close-c.ensures (omega arith)
 
 pub returns-then-c-times : goal.returns-then-c-times
 returns-then-c-times c =
-    let e = four (c.merge_none.ensures) in
+    let x = c.in_ok-units.ensures in
+    let e = four (rw (x.0, x.1) at c.merge_none.ensures) in
     record { answer = e.0; out = e.1.0; ends = e.1.1.0; times = e.1.1.1 }
 
 pub merge_some-requires : goal.merge_some-requires
 merge_some-requires c =
-    let g : Given c.args.packets.now c.args.packet_ends.now c.args.times.now = record { short = omega arith; match = omega arith; listed = sym c.if-not-check_ends.ensures } in
+    let x = c.in_ok-units.units in
+    let g : Given x.bytes.now x.ends.now c.args.times.now = record { short = rw c.in_ok-units.ensures.0 (limit_kept _ c.in_ok-check_limit.ensures); match = omega (arith, ap length c.in_ok-units.ensures.1); listed = x.is_list } in
     record { given = g; next = c.next_close-c.ensures; some = omega (arith, g.match) }
 
 pub returns : goal.returns
 returns c =
-    let e = four (c.merge_some.ensures) in
+    let x = c.in_ok-units.ensures in
+    let e = four (rw (x.0, x.1) at c.merge_some.ensures) in
     record { answer = e.0; out = e.1.0; ends = e.1.1.0; times = e.1.1.1 }

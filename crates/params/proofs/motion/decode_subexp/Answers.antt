@@ -1,5 +1,4 @@
 use Rattle.std.proofs.Common.{◌<◌, ◌+◌, ◌*◌, ◌^◌, sym, arith, rules}
-use borrow.Author.Tests.{eq-eqb, ne_eqb}
 use Rattle.bitio.proofs.BitLaws.{shl_one, read-lt}
 use lib.Pow.{pow_mono}
 use Rattle.params.proofs.SubexpLaws.{final, another, fewer}
@@ -22,20 +21,20 @@ returns-in_err-more c =
     let z = rw (← c.in_err-more.ensures) at z in
     search (rules, z)
 
-pub overflow_add-result-then-more-ne1 : goal.overflow_add-result-then-more-ne1
-overflow_add-result-then-more-ne1 c =
+pub overflow_add-result-then-not-more : goal.overflow_add-result-then-not-more
+overflow_add-result-then-not-more c =
     omega (arith, read-lt _ _ _ (sym c.in_ok-v-2.ensures), pow_mono {i = c.subexp_bits-b2.result} {j = 14} (omega arith))
 
 pub returns-in_err-v-2 : goal.returns-in_err-v-2
 returns-in_err-v-2 c =
     let z = another c.loop-mk.invariant c.subexp_bits-b2.ensures.width (omega (arith, shl_one c.subexp_bits-b2.result (omega arith), c.if-n-mk.false)) in
-    let z = rw (← c.in_ok-more.ensures, ne_eqb _ _ c.if-more-ne1.true, ← c.in_err-v-2.ensures) at z in
+    let z = rw (← c.in_ok-more.ensures, c.if-not-more.true, ← c.in_err-v-2.ensures) at z in
     search (rules, z)
 
-pub returns-then-more-ne1 : goal.returns-then-more-ne1
-returns-then-more-ne1 c =
+pub returns-then-not-more : goal.returns-then-not-more
+returns-then-not-more c =
     let z = another c.loop-mk.invariant c.subexp_bits-b2.ensures.width (omega (arith, shl_one c.subexp_bits-b2.result (omega arith), c.if-n-mk.false)) in
-    rw (← c.in_ok-more.ensures, ne_eqb _ _ c.if-more-ne1.true, ← c.in_ok-v-2.ensures) at z
+    rw (← c.in_ok-more.ensures, c.if-not-more.true, ← c.in_ok-v-2.ensures) at z
 
 pub loop-mk-preserved : goal.loop-mk-preserved
 loop-mk-preserved c =
@@ -46,5 +45,5 @@ loop-mk-preserved c =
     record {
       few = fewer c.loop-mk.invariant c.subexp_bits-b2.ensures.width c.requires.1 l;
       less = omega arith;
-      same = rw (← c.in_ok-more.ensures, eq-eqb _ _ c.if-more-ne1.false) at z;
+      same = rw (← c.in_ok-more.ensures, c.if-not-more.false) at z;
     }

@@ -13,11 +13,11 @@ returns-then-total-lt2 c = rw c.overall-then-total-lt2.ensures (refused-23 c.arg
 
 pub returns-in-Some : goal.returns-in-Some
 returns-in-Some c =
-    rw c.in_segment.ensures (refused-24 c.args.gop c.args.segments.now (λ e. absurd (omega arith)) c.if-gop-lt2.false _ c.total_frames-total.ensures c.if-total-lt2.false c.first_empty.result c.first_empty.ensures.first _ c.in-Some.is c.in-Some.ensures.within)
+    rw c.in_segment.ensures (refused-24 c.args.gop c.args.segments.now (λ e. absurd (omega arith)) c.if-gop-lt2.false _ c.total_frames-total.ensures c.if-total-lt2.false c.first_empty.result c.first_empty.ensures _ c.in-Some.is)
 
 pub returns-then-total-gt5000000 : goal.returns-then-total-gt5000000
 returns-then-total-gt5000000 c =
-    rw c.overall-then-total-gt5000000.ensures (refused-25 c.args.gop c.args.segments.now (λ e. absurd (omega arith)) c.if-gop-lt2.false _ c.total_frames-total.ensures c.if-total-lt2.false c.first_empty.result c.first_empty.ensures.first c.in_default.is c.if-total-gt5000000.true)
+    rw c.overall-then-total-gt5000000.ensures (refused-25 c.args.gop c.args.segments.now (λ e. absurd (omega arith)) c.if-gop-lt2.false _ c.total_frames-total.ensures c.if-total-lt2.false c.first_empty.result c.first_empty.ensures c.in_default.is c.if-total-gt5000000.true)
 
 pub returns : goal.returns
-returns c = sized-fit c.args.gop c.args.segments.now (λ e. absurd (omega arith)) c.if-gop-lt2.false _ c.total_frames-total.ensures c.if-total-lt2.false c.first_empty.result c.first_empty.ensures.first c.in_default.is c.if-total-gt5000000.false
+returns c = sized-fit c.args.gop c.args.segments.now (λ e. absurd (omega arith)) c.if-gop-lt2.false _ c.total_frames-total.ensures c.if-total-lt2.false c.first_empty.result c.first_empty.ensures c.in_default.is c.if-total-gt5000000.false

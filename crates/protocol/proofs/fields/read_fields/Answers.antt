@@ -7,28 +7,31 @@ pub loop-preserved : goal.loop-preserved
 loop-preserved c =
     let l = c.loop in
     let s = c.args.line.now in
-    l.invariant ∙ fields_more (length s) l.counter s _ (omega arith) ∙ ap (fields_in (length s - (l.counter + 1)) s) (sym c.in_ok-fields.ensures)
+    record {
+      left = l.invariant.left ∙ fields_more (length s) l.counter s _ (omega arith) ∙ ap (fields_in (length s - (l.counter + 1)) s) (sym c.in_ok-fields.ensures.read);
+      same = search rules;
+    }
 
-pub returns-in_err-fields : goal.returns-in_err-fields
-returns-in_err-fields c =
+pub returns-in_err-fields-clause-read : goal.returns-in_err-fields-clause-read
+returns-in_err-fields-clause-read c =
     let l = c.loop in
     let s = c.args.line.now in
-    let n = c.read_field.new in
-    let e = l.invariant ∙ fields_more (length s) l.counter s _ (omega arith) ∙ ap (fields_in (length s - (l.counter + 1)) s) (sym c.in_err-fields.ensures)
-    ∙ fields_bad (length s - (l.counter + 1)) s n.decoded n.ends n.numbers _ in
+    let n = c.read_field.new.memory in
+    let e = l.invariant.left ∙ fields_more (length s) l.counter s _ (omega arith) ∙ ap (fields_in (length s - (l.counter + 1)) s) (sym c.in_err-fields.ensures.read)
+    ∙ fields_bad (length s - (l.counter + 1)) s n.bytes.now n.ends.now n.numbers.now _ in
     let z = sym (ap (all_read s) e) in
     search (rules, z)
 
-pub returns-then-is_all : goal.returns-then-is_all
-returns-then-is_all c =
+pub returns-then-is_all-clause-read : goal.returns-then-is_all-clause-read
+returns-then-is_all-clause-read c =
     let l = c.loop in
     let s = c.args.line.now in
-    let e = l.invariant ∙ fields_end (length s) l.counter s _ (omega arith) in
+    let e = l.invariant.left ∙ fields_end (length s) l.counter s _ (omega arith) in
     rw e (rw (sym c.is_all.ensures ∙ c.if-is_all.true) refl)
 
-pub returns-else-is_all : goal.returns-else-is_all
-returns-else-is_all c =
+pub returns-else-is_all-clause-read : goal.returns-else-is_all-clause-read
+returns-else-is_all-clause-read c =
     let l = c.loop in
     let s = c.args.line.now in
-    let e = l.invariant ∙ fields_end (length s) l.counter s _ (omega arith) in
+    let e = l.invariant.left ∙ fields_end (length s) l.counter s _ (omega arith) in
     rw e (rw (sym c.is_all.ensures ∙ c.if-is_all.false) refl)

@@ -14,4 +14,4 @@ pub overflow_add-result : goal.overflow_add-result
 overflow_add-result t c = omega (arith, packed_fits _ _ (omega (arith, others c.args.items.now c.in-len1-up.len_at_least)) c.packed.ensures.bound)
 
 pub returns-in-len1-up-clause-bound : goal.returns-in-len1-up-clause-bound
-returns-in-len1-up-clause-bound t c = packed_small c.code.result c.packed.result _ _ (others c.args.items.now c.in-len1-up.len_at_least) c.code.ensures.bound c.packed.ensures.bound
+returns-in-len1-up-clause-bound t c = packed_small c.from.result c.packed.result _ _ (others c.args.items.now c.in-len1-up.len_at_least) c.from.ensures.1 c.packed.ensures.bound

@@ -1,16 +1,13 @@
-use Rattle.std.proofs.Common.{◌≡◌, ◌-◌, List, length}
+use Rattle.std.proofs.Common.{◌≡◌, List}
 use Rattle.obu.specs.Obu.{Obu}
-use Rattle.obu.proofs.PlaceLaws.{Walked}
+use Rattle.obu.proofs.WalkLaws.{Passed}
 use Rattle.protocol.specs.Answers.{line}
-use Rattle.protocol.specs.Told.{told}
+use Rattle.protocol.specs.Told.{told_in, SameMemory}
 use Rattle.replay_headers.specs.Headers.{tell_obus}
 use Rattle.replay_headers.proofs.obu_ops.put_obus.Given as goal
 
 -- the OBUs passed are told
-abbrev pub invariant-loop-o : goal.invariant-loop-o
-invariant-loop-o l =
-    (front : List Obu) × Walked l.s l.at front
-    × (told (line l.answer) l.memory l.ends l.numbers ≡ tell_obus (told (line l.fn.so_far) l.fn.memory l.fn.ends l.fn.numbers) front)
-
-abbrev pub decreases-loop-o : goal.decreases-loop-o
-decreases-loop-o l = length l.s - l.at
+abbrev pub invariant-loop-found : goal.invariant-loop-found
+invariant-loop-found l =
+    (front : List Obu) × Passed l.s l.found-iterator front × (told_in (line l.answer) l.memory ≡ tell_obus (told_in (line l.fn.so_far) l.fn.memory) front)
+    × SameMemory l.fn.memory l.memory

@@ -7,5 +7,5 @@ loop-point-init c = points_none _ c.args.points.now
 pub loop-point-preserved : goal.loop-point-preserved
 loop-point-preserved c =
     let l = c.loop-point in
-    let point = rw c.point_fields.ensures at c.list-answer.ensures in
+    let point = rw c.point_fields.ensures at c.put_list.ensures in
     points-more _ _ _ l.point-index c.loop-point-test.true l.invariant point

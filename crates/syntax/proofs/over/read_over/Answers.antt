@@ -1,17 +1,9 @@
-use Rattle.std.proofs.Common.{arith, rules}
-use Rattle.syntax.specs.Syntax.{run}
-use Rattle.syntax.proofs.RepeatLaws.{next_over, end_over}
+use Rattle.std.proofs.Common.{◌+◌, ◌∙◌, rules}
+use Rattle.bitio.specs.Bits.{read_bits}
+use Rattle.syntax.proofs.TurnsLaws.{fields_turns}
 use Rattle.syntax.proofs.over.read_over.Goals as goal
 
-pub returns-in_err-reader : goal.returns-in_err-reader
-unfolding run
-returns-in_err-reader c =
-    let z = rw (← c.in_err-reader.ensures) at (next_over c.loop.invariant (omega arith)) in
-    search (rules, z)
-
-pub loop-preserved : goal.loop-preserved
-unfolding run
-loop-preserved c = record { same = rw (← c.in_ok-reader.ensures) at (next_over c.loop.invariant (omega arith)) }
-
 pub returns : goal.returns
-returns c = end_over c.loop.invariant (omega arith)
+returns c =
+    let a = c.args in
+    c.times.ensures (λ p. read_bits a.s.now p (a.less + 1)) (record { same = λ r out e. search rules }) ∙ fields_turns a.s.now (a.less + 1) a.n a.r.pos

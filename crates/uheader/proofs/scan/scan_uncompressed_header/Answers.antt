@@ -1,8 +1,8 @@
-use Rattle.std.proofs.Common.{◌≡◌, ℕ, List, sym, ap, ◌∙◌, rules}
+use Rattle.std.proofs.Common.{ℕ, List, sym, ap, ◌∙◌, rules}
+use Rattle.bitio.specs.Parse.{Answer, refused, and_next}
+use Rattle.bitio.proofs.LimitLaws.{limit_kept, limit_passed}
+use Rattle.header.specs.Sequence.{Sequence, parse_sequence}
 use Rattle.bitio.specs.Limits.{limited}
-use Rattle.bitio.specs.Parse.{Answer, accepted, answer, and_next}
-use Rattle.header.specs.Sequence.{Sequence, parse_sequence, in_array, sequence_in}
-use Rattle.header.specs.declared.seq_header.SequenceObu.{SequenceObu}
 use Rattle.header.proofs.LimitedLaws.{over-limit, within-limit, limited-read}
 use Rattle.frame.proofs.FrameFromLaws.{beside-read, beside-refused, beside-whole}
 use Rattle.frame.specs.Frame.{modelled, removals}
@@ -16,25 +16,25 @@ use Rattle.uheader.proofs.scan.scan_uncompressed_header.Goals as goal
 abbrev scans : List RefSlot → List ℕ → Sequence → Answer HeaderScan
 scans slots f q = scan_header q.header (removals modelled q) slots f
 
--- under the header that was read
-under-read : (s f : List ℕ) (slots : List RefSlot) (x : SequenceObu) (n : ℕ) → accepted x ≡ answer in_array (limited s (parse_sequence s))
-    → n ≡ removals modelled (sequence_in x)
-    → scan_header x.header n slots f ≡ limited s (and_next (parse_sequence s) (scans slots f))
-under-read s f slots x n e k = ap (λ n. scan_header x.header n slots f) k ∙ beside-read s (scans slots f) x e
-
-pub returns-then-payload-gt-LIMIT-clause-answer : goal.returns-then-payload-gt-LIMIT-clause-answer
+pub returns-in_err-check_limit-clause-answer : goal.returns-in_err-check_limit-clause-answer
 unfolding scan_payloads
-returns-then-payload-gt-LIMIT-clause-answer c = sym (over-limit _ _ c.if-payload-gt-LIMIT.true)
+returns-in_err-check_limit-clause-answer c =
+    let (l, k) = limit_passed c.args.payload.now c.in_err-check_limit.ensures in
+    let a = c.args in
+    let e = ap refused k ∙ sym (over-limit a.payload.now (limited a.sequence.now (and_next (parse_sequence a.sequence.now) (scans a.slots.now a.payload.now))) l) in
+    search (rules, e)
 
-pub returns-then-payload-gt-LIMIT-clause-slots : goal.returns-then-payload-gt-LIMIT-clause-slots
+pub returns-in_err-check_limit-clause-slots : goal.returns-in_err-check_limit-clause-slots
 unfolding scan_payloads
-returns-then-payload-gt-LIMIT-clause-slots c = ap (slots_after c.args.slots.now) (sym (over-limit _ _ c.if-payload-gt-LIMIT.true))
+returns-in_err-check_limit-clause-slots c =
+    let (l, k) = limit_passed c.args.payload.now c.in_err-check_limit.ensures in
+    ap (slots_after c.args.slots.now) (sym (over-limit _ _ l))
 
 pub returns-in_err-sequence-clause-answer : goal.returns-in_err-sequence-clause-answer
 unfolding scan_payloads
 returns-in_err-sequence-clause-answer c =
     let a = c.args in
-    let e = beside-refused a.sequence.now (scans a.slots.now a.payload.now) _ c.in_err-sequence.ensures ∙ sym (within-limit _ _ c.if-payload-gt-LIMIT.false) in
+    let e = beside-refused a.sequence.now (scans a.slots.now a.payload.now) _ c.in_err-sequence.ensures ∙ sym (within-limit _ _ (limit_kept c.args.payload.now c.in_ok-check_limit.ensures)) in
     search (rules, e)
 
 pub returns-in_err-sequence-clause-slots : goal.returns-in_err-sequence-clause-slots
@@ -42,20 +42,20 @@ unfolding scan_payloads
 returns-in_err-sequence-clause-slots c =
     let a = c.args in
     ap (slots_after a.slots.now)
-    (beside-refused a.sequence.now (scans a.slots.now a.payload.now) _ c.in_err-sequence.ensures ∙ sym (within-limit _ _ c.if-payload-gt-LIMIT.false))
+    (beside-refused a.sequence.now (scans a.slots.now a.payload.now) _ c.in_err-sequence.ensures ∙ sym (within-limit _ _ (limit_kept c.args.payload.now c.in_ok-check_limit.ensures)))
 
-pub scan_header-requires : goal.scan_header-requires
-scan_header-requires c =
+pub invariant_of-scanner : goal.invariant_of-scanner
+invariant_of-scanner c =
     let s = c.args.sequence.now in
-    read-within s _ (limited-read s _ (beside-whole s _ c.in_ok-sequence.ensures))
+    record { sized = read-within s _ (limited-read s _ (beside-whole s _ c.in_ok-sequence.ensures)) }
 
 pub returns-clause-answer : goal.returns-clause-answer
 unfolding scan_payloads
 returns-clause-answer c =
     let a = c.args in
     c.scan_header.ensures.answer
-    ∙ under-read a.sequence.now a.payload.now a.slots.now c.in_ok-sequence.sequence _ c.in_ok-sequence.ensures (search rules)
-    ∙ sym (within-limit _ _ c.if-payload-gt-LIMIT.false)
+    ∙ beside-read a.sequence.now (scans a.slots.now a.payload.now) _ c.in_ok-sequence.ensures
+    ∙ sym (within-limit _ _ (limit_kept c.args.payload.now c.in_ok-check_limit.ensures))
 
 pub returns-clause-slots : goal.returns-clause-slots
 unfolding scan_payloads
@@ -63,5 +63,5 @@ returns-clause-slots c =
     let a = c.args in
     c.scan_header.ensures.slots
     ∙ ap (slots_after a.slots.now)
-    (under-read a.sequence.now a.payload.now a.slots.now c.in_ok-sequence.sequence _ c.in_ok-sequence.ensures (search rules)
-    ∙ sym (within-limit _ _ c.if-payload-gt-LIMIT.false))
+    (beside-read a.sequence.now (scans a.slots.now a.payload.now) _ c.in_ok-sequence.ensures
+    ∙ sym (within-limit _ _ (limit_kept c.args.payload.now c.in_ok-check_limit.ensures)))

@@ -1,9 +1,6 @@
-use Rattle.std.proofs.Common.{◌-◌, length}
+use Rattle.obu.proofs.WalkLaws.{Over}
 use Rattle.annexb.proofs.JoinLaws.{Counting}
 use Rattle.annexb.proofs.annexb.count.count_inner.Given as goal
 
-abbrev pub invariant-loop-o : goal.invariant-loop-o
-invariant-loop-o l = Counting l.u l.at l.n
-
-abbrev pub decreases-loop-o : goal.decreases-loop-o
-decreases-loop-o l = length l.u - l.at
+abbrev pub invariant-loop-found : goal.invariant-loop-found
+invariant-loop-found l = Over l.u l.found-iterator × Counting l.u l.found-iterator.at l.n

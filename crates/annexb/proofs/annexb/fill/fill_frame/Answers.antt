@@ -1,41 +1,30 @@
-use Rattle.std.proofs.Common.{arith, sym, ◌≡◌, ℕ}
+use Rattle.std.proofs.Common.{sym}
 use Rattle.container.proofs.AnnexBLaws.{length-shrinks}
-use Rattle.annexb.proofs.PartLaws.{is-obu-at, obu-answer}
-use Rattle.annexb.proofs.MeasureLaws.{obu-size}
-use Rattle.annexb.proofs.FillLaws.{walk_start, walk-room, walk-next, walk-stop, walk_end, whole-frame, frame-held, obu-is}
+use Rattle.annexb.proofs.PartLaws.{inner-is}
+use Rattle.annexb.proofs.FillLaws.{walk_start, walk-room, walk-next, walk-stop, walk_end, whole-frame, frame-held, obu-given, obu-none, given-some, obu-put, obu-room}
 use Rattle.annexb.proofs.annexb.fill.fill_frame.Goals as goal
 
-pub loop-at-init : goal.loop-at-init
-loop-at-init c = walk_start _ _ length-shrinks _ _ _ _ _ c.requires.start_le_end.0
+pub loop-part-init : goal.loop-part-init
+loop-part-init c =
+    let e = c.into_iter-part-iterator.ensures.into_iter_gives in
+    rw (e, c.new-part-items.ensures) (walk_start _ _ length-shrinks _ _ _)
 
-pub returns-in-loop-at : goal.returns-in-loop-at
-returns-in-loop-at c =
-    let h = obu-answer _ _ _ c.length_obu_at.result c.length_obu_at.ensures (λ k q. walk-stop _ _ length-shrinks _ _ _ _ _ (whole-frame _ _ _ _ _ c.requires.obus_room) c.loop-at.invariant c.loop-at-test.true c.requires.start_le_end.1 k q) in
-    let e = h.1 in
-    let z : ◌≡◌ {A = ℕ} 0 1 = cc in
-    absurd (omega arith)
+pub returns-in_default : goal.returns-in_default
+returns-in_default c =
+    let q = c.in-Some.ensures.steps in
+    absurd (walk-stop _ _ length-shrinks _ _ _ (whole-frame _ _ _ c.requires) c.loop-part.invariant (given-some _ q) _ (obu-given _ q (sym (rw c.in_default.is at c.inner_obu.ensures))))
 
-pub put_inner-w-requires : goal.put_inner-w-requires
-put_inner-w-requires c =
-    let t = c.loop-at-test.true in
-    let g = is-obu-at _ _ _ (omega arith) c.requires.start_le_end.1 (sym c.in-Ok.ensures) in
-    let r = walk-room _ _ length-shrinks _ _ _ _ _ (whole-frame _ _ _ _ _ c.requires.obus_room) c.loop-at.invariant g.head in
-    record {
-      start_le_end = (g.ends, omega (arith, g.within, c.requires.start_le_end.1));
-      obu_type_value = (rw g.type at g.passing, rw (obu-size g) at r);
-    }
+pub put_measured-w-requires : goal.put_measured-w-requires
+put_measured-w-requires c =
+    let o = sym c.in-Ok.ensures in
+    let r = walk-room _ _ length-shrinks _ _ _ (whole-frame _ _ _ c.requires) c.loop-part.invariant (obu-given _ c.in-Some.ensures.steps o) in
+    ((inner-is o).passing, obu-room _ _ _ r)
 
-pub loop-at-smaller : goal.loop-at-smaller
-loop-at-smaller c =
-    let t = c.loop-at-test.true in
-    let g = is-obu-at _ _ _ (omega arith) c.requires.start_le_end.1 (sym c.in-Ok.ensures) in
-    omega (arith, g.after, g.ends, g.within)
+pub loop-part-preserved : goal.loop-part-preserved
+loop-part-preserved c =
+    walk-next _ _ length-shrinks _ _ _ (whole-frame _ _ _ c.requires) c.loop-part.invariant (obu-given _ c.in-Some.ensures.steps (sym c.in-Ok.ensures)) (obu-put _ _ _ c.put_measured-w.ensures)
 
-pub loop-at-preserved : goal.loop-at-preserved
-loop-at-preserved c =
-    let t = c.loop-at-test.true in
-    let g = is-obu-at _ _ _ (omega arith) c.requires.start_le_end.1 (sym c.in-Ok.ensures) in
-    walk-next _ _ length-shrinks _ _ _ _ _ (whole-frame _ _ _ _ _ c.requires.obus_room) c.loop-at.invariant g.head g.within (rw (obu-is g) at c.put_inner-w.ensures)
-
-pub returns-after-loop-at : goal.returns-after-loop-at
-returns-after-loop-at c = frame-held _ _ _ _ _ (whole-frame _ _ _ _ _ c.requires.obus_room) (walk_end _ _ length-shrinks _ _ _ _ _ (whole-frame _ _ _ _ _ c.requires.obus_room) c.loop-at.invariant c.loop-at-test.false)
+pub returns : goal.returns
+returns c =
+    let n = obu-none _ c.in-None.ensures.steps.1 in
+    frame-held _ _ _ (whole-frame _ _ _ c.requires) (walk_end _ _ length-shrinks _ _ _ (whole-frame _ _ _ c.requires) c.loop-part.invariant _ n.1)

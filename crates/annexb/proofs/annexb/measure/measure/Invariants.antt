@@ -1,21 +1,21 @@
-use Rattle.std.proofs.Common.{◌-◌, length}
-use Rattle.annexb.proofs.MeasureLaws.{UnitsDone, FramesDone, Obus}
+use Rattle.std.proofs.Common.{length}
+use Rattle.annexb.proofs.MeasureLaws.{UnitsDone, FramesDone, ObusDone}
 use Rattle.annexb.proofs.annexb.measure.measure.Given as goal
 
-abbrev pub invariant-loop-at : goal.invariant-loop-at
-invariant-loop-at l = UnitsDone l.data l.at l.bytes l.units
+abbrev pub invariant-loop-left : goal.invariant-loop-left
+invariant-loop-left l = UnitsDone l.data l.left l.bytes l.units
 
-abbrev pub decreases-loop-at : goal.decreases-loop-at
-decreases-loop-at l = length l.data - l.at
+abbrev pub decreases-loop-left : goal.decreases-loop-left
+decreases-loop-left l = length l.left
 
-abbrev pub invariant-loop-p : goal.invariant-loop-p
-invariant-loop-p l = FramesDone l.data l.at l.unit.start l.unit.end l.p l.bytes l.units
+abbrev pub invariant-loop-unit : goal.invariant-loop-unit
+invariant-loop-unit l = FramesDone l.data l.unit l.behind_unit l.bytes l.units
 
-abbrev pub decreases-loop-p : goal.decreases-loop-p
-decreases-loop-p l = l.unit.end - l.p
+abbrev pub decreases-loop-unit : goal.decreases-loop-unit
+decreases-loop-unit l = length l.unit
 
-abbrev pub invariant-loop-q : goal.invariant-loop-q
-invariant-loop-q l = Obus l.data l.at l.unit.start l.unit.end l.p l.frame.start l.frame.end l.q l.bytes l.units
+abbrev pub invariant-loop-frame : goal.invariant-loop-frame
+invariant-loop-frame l = ObusDone l.data l.frame l.behind_frame l.behind_unit l.bytes l.units
 
-abbrev pub decreases-loop-q : goal.decreases-loop-q
-decreases-loop-q l = l.frame.end - l.q
+abbrev pub decreases-loop-frame : goal.decreases-loop-frame
+decreases-loop-frame l = length l.frame

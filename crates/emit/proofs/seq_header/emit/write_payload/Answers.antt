@@ -1,16 +1,16 @@
-use Rattle.std.proofs.Common.{arith}
+use Rattle.std.proofs.Common.{rules}
 use Rattle.header.specs.Sequence.{sequence_of}
 use Rattle.emit.proofs.PayloadLaws.{widths, sections, payload-front, payload-size, zeros_bytes}
 use Rattle.emit.proofs.seq_header.emit.write_payload.Goals as goal
 
 pub put_opening-requires : goal.put_opening-requires
-put_opening-requires c = let w = widths _ c.requires in (omega arith, w.ticks)
+put_opening-requires c = (widths _ c.requires).ticks
 
-pub put_points-requires : goal.put_points-requires
-put_points-requires c = let w = widths _ c.requires in (omega arith, w.delay, omega arith)
+pub invariant_of-put_points : goal.invariant_of-put_points
+invariant_of-put_points c = let w = widths _ c.requires in record { delay = w.delay; count = w.count }
 
 pub put_coding-requires : goal.put_coding-requires
-put_coding-requires c = let w = widths _ c.requires in (omega arith, w.wide, w.high)
+put_coding-requires c = let w = widths _ c.requires in (w.wide, w.high)
 
 pub returns : goal.returns
 returns c =
@@ -18,6 +18,6 @@ returns c =
     let q = sequence_of a.header a.operating_points in
     let s = sections q c.put_opening.ensures (rw c.points.ensures.points at c.put_points.ensures) c.put_coding.ensures in
     record {
-      size = payload-size q (omega arith) s c.put_trailing_bits.ensures (zeros_bytes 400);
-      front = payload-front q (omega arith) s c.put_trailing_bits.ensures (zeros_bytes 400);
+      size = payload-size q c.requires (search rules) s c.put_trailing_bits.ensures (zeros_bytes 400);
+      front = payload-front q c.requires (search rules) s c.put_trailing_bits.ensures (zeros_bytes 400);
     }

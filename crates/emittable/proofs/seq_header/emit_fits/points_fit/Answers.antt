@@ -8,4 +8,4 @@ pub returns : goal.returns
 unfolding points_fit
 returns c =
     let a = c.args in
-    all_from_yields_List (point_fits a.o) _ _ _ c.all.ensures.ran (YieldsList-from_slice a.points.now cc) (λ x b q k. search (rules, tests))
+    all_from_yields_List (point_fits a.bounded.opening) _ _ _ c.all.ensures.ran (YieldsList-from_slice a.points.now cc) (λ x b q k. search (rules, tests))

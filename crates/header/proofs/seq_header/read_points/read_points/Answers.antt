@@ -7,7 +7,8 @@ use Rattle.header.proofs.seq_header.read_points.read_points.Goals as goal
 pub loop-i-init : goal.loop-i-init
 loop-i-init c =
     let a = c.args in
-    rw sub-zero (fill_start (point_count a.o) a.r.pos a.s.now a.o (search rules) (omega arith))
+    let o = a.bounded.opening in
+    rw sub-zero (fill_start (point_count o) a.r.pos a.s.now o (search rules) (omega arith))
 
 pub returns-in_err-point : goal.returns-in_err-point
 returns-in_err-point c =

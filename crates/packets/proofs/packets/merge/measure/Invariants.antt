@@ -1,9 +1,6 @@
-use Rattle.std.proofs.Common.{◌-◌}
+use Rattle.std.proofs.Common.{◌≡◌}
 use Rattle.packets.proofs.PacketMergeLaws.{Measuring}
 use Rattle.packets.proofs.packets.merge.measure.Given as goal
 
-abbrev pub invariant-loop-first : goal.invariant-loop-first
-invariant-loop-first l = Measuring l.packets.bytes.now l.packets.ends.now l.packets.times.now l.first l.at l.bytes l.units
-
-abbrev pub decreases-loop-first : goal.decreases-loop-first
-decreases-loop-first l = l.n - l.first
+abbrev pub invariant-loop-x : goal.invariant-loop-x
+invariant-loop-x l = (l.x-iterator.packets ≡ l.packets) × Measuring l.packets.units.bytes.now l.packets.units.ends.now l.packets.times.now l.x-iterator.first l.x-iterator.close l.bytes l.units

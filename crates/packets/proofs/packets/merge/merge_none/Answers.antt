@@ -6,55 +6,55 @@ pub first_full-i-requires : goal.first_full-i-requires
 first_full-i-requires c = (omega arith, omega (arith, c.requires.given.match))
 
 pub returns-then-i-n : goal.returns-then-i-n
-returns-then-i-n c = out_none c.args.packets.bytes.now c.args.packets.ends.now c.args.packets.times.now c.requires _ c.first_full-i.ensures (omega arith) c.args.out.now c.args.out_ends.now c.args.out_times.now
+returns-then-i-n c = out_none c.args.packets.units.bytes.now c.args.packets.units.ends.now c.args.packets.times.now c.requires _ c.first_full-i.ensures (omega arith) c.args.out.now c.args.out_ends.now c.args.out_times.now
 
 pub run_len-requires : goal.run_len-requires
-run_len-requires c = none-run c.args.packets.bytes.now c.args.packets.ends.now c.args.packets.times.now c.requires
+run_len-requires c = none-run c.args.packets.units.bytes.now c.args.packets.units.ends.now c.args.packets.times.now c.requires
 
 pub returns-then-not-have_room : goal.returns-then-not-have_room
 returns-then-not-have_room c =
     let l : c.first_full-i.result < length c.args.packets.times.now = omega arith in
-    let z = one-totals c.args.packets.bytes.now c.args.packets.ends.now c.args.packets.times.now c.requires _ c.first_full-i.ensures l c.run_len.ensures in
+    let z = one-totals c.args.packets.units.bytes.now c.args.packets.units.ends.now c.args.packets.times.now c.requires _ c.first_full-i.ensures l c.run_len.ensures in
     let f = sym c.if-not-have_room.ensures in
-    out-full c.args.packets.bytes.now c.args.packets.ends.now c.args.packets.times.now c.args.out.now c.args.out_ends.now c.args.out_times.now c.requires.given _ _ z f
+    out-full c.args.packets.units.bytes.now c.args.packets.units.ends.now c.args.packets.times.now c.args.out.now c.args.out_ends.now c.args.out_times.now c.requires.given _ _ z f
 
 pub put_run-requires : goal.put_run-requires
 put_run-requires c =
     let l : c.first_full-i.result < length c.args.packets.times.now = omega arith in
-    let z = one-totals c.args.packets.bytes.now c.args.packets.ends.now c.args.packets.times.now c.requires _ c.first_full-i.ensures l c.run_len.ensures in
+    let z = one-totals c.args.packets.units.bytes.now c.args.packets.units.ends.now c.args.packets.times.now c.requires _ c.first_full-i.ensures l c.run_len.ensures in
     let f = sym c.if-not-have_room.ensures in
-    let r = out-room c.args.packets.bytes.now c.args.packets.ends.now c.args.packets.times.now c.args.out.now c.args.out_ends.now c.args.out_times.now c.requires.given _ _ z f in
-    one-room c.args.packets.bytes.now c.args.packets.ends.now c.args.packets.times.now c.requires _ c.first_full-i.ensures l r
+    let r = out-room c.args.packets.units.bytes.now c.args.packets.units.ends.now c.args.packets.times.now c.args.out.now c.args.out_ends.now c.args.out_times.now c.requires.given _ _ z f in
+    one-room c.args.packets.units.bytes.now c.args.packets.units.ends.now c.args.packets.times.now c.requires _ c.first_full-i.ensures l r
 
 pub overflow_cast-out_ends : goal.overflow_cast-out_ends
 overflow_cast-out_ends c =
     let l : c.first_full-i.result < length c.args.packets.times.now = omega arith in
-    let z = one-totals c.args.packets.bytes.now c.args.packets.ends.now c.args.packets.times.now c.requires _ c.first_full-i.ensures l c.run_len.ensures in
+    let z = one-totals c.args.packets.units.bytes.now c.args.packets.units.ends.now c.args.packets.times.now c.requires _ c.first_full-i.ensures l c.run_len.ensures in
     let f = sym c.if-not-have_room.ensures in
-    let r = out-room c.args.packets.bytes.now c.args.packets.ends.now c.args.packets.times.now c.args.out.now c.args.out_ends.now c.args.out_times.now c.requires.given _ _ z f in
-    omega (arith, r.small, out-size c.args.packets.bytes.now c.args.packets.ends.now c.args.packets.times.now c.args.out.now c.args.out_ends.now c.args.out_times.now c.requires.given _ _ z f)
+    let r = out-room c.args.packets.units.bytes.now c.args.packets.units.ends.now c.args.packets.times.now c.args.out.now c.args.out_ends.now c.args.out_times.now c.requires.given _ _ z f in
+    omega (arith, r.small, out-size c.args.packets.units.bytes.now c.args.packets.units.ends.now c.args.packets.times.now c.args.out.now c.args.out_ends.now c.args.out_times.now c.requires.given _ _ z f)
 
 pub bounds-out_ends-0 : goal.bounds-out_ends-0
 bounds-out_ends-0 c =
     let l : c.first_full-i.result < length c.args.packets.times.now = omega arith in
-    let z = one-totals c.args.packets.bytes.now c.args.packets.ends.now c.args.packets.times.now c.requires _ c.first_full-i.ensures l c.run_len.ensures in
+    let z = one-totals c.args.packets.units.bytes.now c.args.packets.units.ends.now c.args.packets.times.now c.requires _ c.first_full-i.ensures l c.run_len.ensures in
     let f = sym c.if-not-have_room.ensures in
-    let r = out-room c.args.packets.bytes.now c.args.packets.ends.now c.args.packets.times.now c.args.out.now c.args.out_ends.now c.args.out_times.now c.requires.given _ _ z f in
-    omega (arith, one-slots c.args.packets.bytes.now c.args.packets.ends.now c.args.packets.times.now c.requires _ c.first_full-i.ensures l r)
+    let r = out-room c.args.packets.units.bytes.now c.args.packets.units.ends.now c.args.packets.times.now c.args.out.now c.args.out_ends.now c.args.out_times.now c.requires.given _ _ z f in
+    omega (arith, one-slots c.args.packets.units.bytes.now c.args.packets.units.ends.now c.args.packets.times.now c.requires _ c.first_full-i.ensures l r)
 
 pub bounds-out_times-0 : goal.bounds-out_times-0
 bounds-out_times-0 c =
     let l : c.first_full-i.result < length c.args.packets.times.now = omega arith in
-    let z = one-totals c.args.packets.bytes.now c.args.packets.ends.now c.args.packets.times.now c.requires _ c.first_full-i.ensures l c.run_len.ensures in
+    let z = one-totals c.args.packets.units.bytes.now c.args.packets.units.ends.now c.args.packets.times.now c.requires _ c.first_full-i.ensures l c.run_len.ensures in
     let f = sym c.if-not-have_room.ensures in
-    let r = out-room c.args.packets.bytes.now c.args.packets.ends.now c.args.packets.times.now c.args.out.now c.args.out_ends.now c.args.out_times.now c.requires.given _ _ z f in
-    omega (arith, one-slots c.args.packets.bytes.now c.args.packets.ends.now c.args.packets.times.now c.requires _ c.first_full-i.ensures l r)
+    let r = out-room c.args.packets.units.bytes.now c.args.packets.units.ends.now c.args.packets.times.now c.args.out.now c.args.out_ends.now c.args.out_times.now c.requires.given _ _ z f in
+    omega (arith, one-slots c.args.packets.units.bytes.now c.args.packets.units.ends.now c.args.packets.times.now c.requires _ c.first_full-i.ensures l r)
 
 pub returns : goal.returns
 returns c =
     let l : c.first_full-i.result < length c.args.packets.times.now = omega arith in
-    let z = one-totals c.args.packets.bytes.now c.args.packets.ends.now c.args.packets.times.now c.requires _ c.first_full-i.ensures l c.run_len.ensures in
+    let z = one-totals c.args.packets.units.bytes.now c.args.packets.units.ends.now c.args.packets.times.now c.requires _ c.first_full-i.ensures l c.run_len.ensures in
     let f = sym c.if-not-have_room.ensures in
-    let r = out-room c.args.packets.bytes.now c.args.packets.ends.now c.args.packets.times.now c.args.out.now c.args.out_ends.now c.args.out_times.now c.requires.given _ _ z f in
-    out-there c.args.packets.bytes.now c.args.packets.ends.now c.args.packets.times.now c.args.out.now c.args.out_ends.now c.args.out_times.now c.requires.given _ _ z f
-    (one_written c.args.packets.bytes.now c.args.packets.ends.now c.args.packets.times.now c.requires _ c.first_full-i.ensures l r (out-size c.args.packets.bytes.now c.args.packets.ends.now c.args.packets.times.now c.args.out.now c.args.out_ends.now c.args.out_times.now c.requires.given _ _ z f) c.put_run.ensures)
+    let r = out-room c.args.packets.units.bytes.now c.args.packets.units.ends.now c.args.packets.times.now c.args.out.now c.args.out_ends.now c.args.out_times.now c.requires.given _ _ z f in
+    out-there c.args.packets.units.bytes.now c.args.packets.units.ends.now c.args.packets.times.now c.args.out.now c.args.out_ends.now c.args.out_times.now c.requires.given _ _ z f
+    (one_written c.args.packets.units.bytes.now c.args.packets.units.ends.now c.args.packets.times.now c.requires _ c.first_full-i.ensures l r (out-size c.args.packets.units.bytes.now c.args.packets.units.ends.now c.args.packets.times.now c.args.out.now c.args.out_ends.now c.args.out_times.now c.requires.given _ _ z f) c.put_run.ensures)

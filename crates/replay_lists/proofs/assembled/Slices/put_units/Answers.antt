@@ -7,8 +7,8 @@ pub loop-entry-preserved : goal.loop-entry-preserved
 loop-entry-preserved c =
     let l = c.loop-entry in
     let s = c.args.self in
-    let z = unit_next (parted (line l.answer) l.memory l.out_ends) s.pictures.now s.ends.now s.shows.now c.args.n l.entry c.loop-entry-test.true in
-    let z = rw (← c.unit-named.ensures, ← c.part-answer.ensures) at z in
+    let z = unit_next (parted (line l.answer) l.memory l.out_ends) s.units.pictures.now s.units.ends.now s.units.shows.now c.args.n l.entry c.loop-entry-test.true in
+    let z = rw (← c.named.ensures, ← c.part-answer.ensures) at z in
     z ∙ l.invariant
 
 pub returns : goal.returns

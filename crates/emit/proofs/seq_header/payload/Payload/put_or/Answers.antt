@@ -1,12 +1,11 @@
-use Rattle.std.proofs.Common.{arith}
 use Rattle.emittable.specs.PutFields.{put_or}
 use Rattle.emit.proofs.WroteLaws.{wrote_none, wrote_as}
 use Rattle.emit.proofs.seq_header.payload.Payload.put_or.Goals as goal
 
 pub returns-then-on : goal.returns-then-on
 unfolding put_or
-returns-then-on c = wrote_as c.args.n (omega arith) (λ l. rw c.if-on.true) c.put.ensures
+returns-then-on c = wrote_as (λ l. rw c.if-on.true) c.put.ensures
 
 pub returns-else-on : goal.returns-else-on
 unfolding put_or
-returns-else-on c = wrote_as c.args.n (omega arith) (λ l. rw c.if-on.false) (wrote_none _ _ c.args.n)
+returns-else-on c = wrote_as (λ l. rw c.if-on.false) (wrote_none _ _)

@@ -1,4 +1,3 @@
-use Rattle.std.proofs.Common.{◌*◌}
 use Rattle.std.specs.Prelude.{take}
 use Rattle.emit.specs.code.WroteBits.{Wrote}
 use Rattle.emittable.specs.PutSequence.{put_points}
@@ -6,4 +5,4 @@ use Rattle.emit.proofs.seq_header.payload.Payload.put_points.Given as goal
 
 -- as many operating points were written as turns
 abbrev pub invariant-loop-x : goal.invariant-loop-x
-invariant-loop-x l = Wrote l.fn.self l.self (89 * l.x-index) (put_points l.o (take l.x-index l.points))
+invariant-loop-x l = Wrote l.fn.self l.self (put_points l.bounded.opening (take l.x-index l.points))

@@ -1,8 +1,7 @@
-use Rattle.std.proofs.Common.{arith, refl}
 use Rattle.emittable.specs.PutSequence.{put_timing}
-use Rattle.emit.proofs.WroteLaws.{wrote_then, wrote_as}
+use Rattle.emit.proofs.WroteLaws.{wrote_then}
 use Rattle.emit.proofs.seq_header.payload.Payload.put_timing.Goals as goal
 
 pub returns : goal.returns
 unfolding put_timing
-returns c = wrote_as 131 (omega arith) (λ l. refl) (wrote_then (wrote_then (wrote_then (wrote_then c.put_flag_or.ensures c.put_or.ensures) c.put_or-2.ensures) c.put_flag_or-2.ensures) c.put_uvlc_or.ensures)
+returns c = wrote_then (wrote_then (wrote_then (wrote_then c.put_flag_or.ensures c.put_or.ensures) c.put_or-2.ensures) c.put_flag_or-2.ensures) c.put_uvlc_or.ensures

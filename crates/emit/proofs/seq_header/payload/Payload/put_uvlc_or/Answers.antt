@@ -1,5 +1,4 @@
-use Rattle.std.proofs.Common.{arith, rules}
-use Rattle.bitio.proofs.UvlcFormLaws.{uvlc-most}
+use Rattle.std.proofs.Common.{rules}
 use Rattle.emittable.specs.PutFields.{put_uvlc_or}
 use Rattle.emit.proofs.WroteLaws.{wrote_none, wrote_as, wrote-bits}
 use Rattle.emit.proofs.seq_header.payload.Payload.put_uvlc_or.Goals as goal
@@ -8,9 +7,8 @@ pub returns-then-on : goal.returns-then-on
 unfolding put_uvlc_or
 returns-then-on c =
     let f = c.uvlc.ensures in
-    let w = uvlc-most c.args.v in
-    wrote_as 65 (omega arith) (λ l. rw c.if-on.true) (wrote-bits _ _ _ (search rules) (omega arith) _ _ _ f.result_value f.out_after c.unwrap_or-self.ensures)
+    wrote_as (λ l. rw c.if-on.true) (wrote-bits _ _ _ (search rules) _ _ _ f.result_value f.out_after c.unwrap_or-self.ensures)
 
 pub returns-else-on : goal.returns-else-on
 unfolding put_uvlc_or
-returns-else-on c = wrote_as 65 (omega arith) (λ l. rw c.if-on.false) (wrote_none _ _ 65)
+returns-else-on c = wrote_as (λ l. rw c.if-on.false) (wrote_none _ _)

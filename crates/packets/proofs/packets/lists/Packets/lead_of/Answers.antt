@@ -12,7 +12,7 @@ returns-then-lead_end-gt0 c = waiting c.head_of-head.ensures (lead-yes c.lead_en
 pub returns-then-lead_end-gt0-2 : goal.returns-then-lead_end-gt0-2
 returns-then-lead_end-gt0-2 c =
     let y = lead-yes c.lead_end-2.ensures (omega arith) in
-    rw c.get-closing.ensures (closing c.head_of-head.ensures (lead-no c.lead_end.ensures (omega arith)) (rw c.get-closing.ensures at y))
+    rw c.unit-closing.ensures (closing c.head_of-head.ensures (lead-no c.lead_end.ensures (omega arith)) (rw c.unit-closing.ensures at y))
 
 pub overflow_add-c : goal.overflow_add-c
 overflow_add-c c = let p = c.requires.all in omega (arith, p.after, p.within)
@@ -23,4 +23,4 @@ head_of-requires c = back-run c.requires.all
 pub returns : goal.returns
 returns c =
     let n = lead-no c.lead_end-2.ensures (omega arith) in
-    behind c.head_of-head.ensures (lead-no c.lead_end.ensures (omega arith)) (rw c.get-closing.ensures at n) c.head_of.ensures
+    behind c.head_of-head.ensures (lead-no c.lead_end.ensures (omega arith)) (rw c.unit-closing.ensures at n) c.head_of.ensures

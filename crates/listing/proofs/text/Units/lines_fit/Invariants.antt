@@ -1,5 +1,0 @@
-use Rattle.listing.proofs.TextLaws.{Fitting}
-use Rattle.listing.proofs.text.Units.lines_fit.Given as goal
-
-abbrev pub invariant-loop-i : goal.invariant-loop-i
-invariant-loop-i l = Fitting l.self l.list l.room l.i l.left

@@ -1,9 +1,0 @@
-use Rattle.listing.proofs.WroteLaws.{wrote}
-use Rattle.listing.proofs.TextLaws.{line_wrote}
-use Rattle.listing.proofs.text.Units.put_line.Goals as goal
-
-pub returns : goal.returns
-returns c =
-    let w₂ = rw c.letter_of.ensures at (wrote c.put_bytes-segment.ensures) in
-    let w₅ = rw c.unit_len.ensures at c.put_field.ensures in
-    line_wrote c.args.self c.args.position c.args.entry c.requires c.put_field-kind.ensures w₂ c.put_field-slot.ensures c.put_slot-last.ensures w₅

@@ -1,5 +1,0 @@
-use Rattle.listing.proofs.TextLaws.{lining_turn}
-use Rattle.listing.proofs.text.Units.put_lines.Goals as goal
-
-pub loop-i-preserved : goal.loop-i-preserved
-loop-i-preserved c = lining_turn c.loop-i.invariant c.loop-i-test.true c.requires c.put_line-to.ensures

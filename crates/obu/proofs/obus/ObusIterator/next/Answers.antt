@@ -1,0 +1,9 @@
+use Rattle.std.proofs.Common.{rules}
+use Rattle.obu.proofs.WalkLaws.{goes-on}
+use Rattle.obu.proofs.obus.ObusIterator.next.Goals as goal
+
+pub returns-clause-steps : goal.returns-clause-steps
+returns-clause-steps c = search rules
+
+pub returns-clause-goes : goal.returns-clause-goes
+returns-clause-goes c = goes-on _ _ _ (returns-clause-steps c)
