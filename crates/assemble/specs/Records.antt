@@ -1,9 +1,9 @@
 -- Segments as structs (01: a lent list of range records), and assembly from them by way of a lent slice of numbers.
-use Rattle.std.specs.Prelude.{ℕ, ◌/◌, List, [], ◌∷◌, ◌++◌, Bool, cond as pick, length, leb, ltb}
+use Rattle.std.specs.Prelude.{ℕ, List, [], ◌∷◌, ◌++◌, Bool, cond as pick, length, leb, ltb}
 use Rattle.std.proofs.Math.Option.{none}
 use Rattle.bitio.specs.Limits.{limit}
 use Rattle.bitio.specs.Lent.{pasted}
-use Rattle.blocks.specs.Numbers.{width, record_of, segment_count, first_records}
+use Rattle.blocks.specs.Numbers.{record_of, segment_count}
 use Rattle.blocks.specs.declared.numbers.Segment.{Segment as SegmentStruct}
 use Rattle.pictures.specs.Assemble.{Outcome, stopped, Output}
 use Rattle.pictures.specs.declared.settings.Settings.{Settings}
@@ -30,14 +30,3 @@ no_room s = pick (ltb limit (length s)) (stopped 34 none) (stopped 35 none)
 unfoldable pub records_outcome : (s : List ℕ) (xs : List SegmentStruct) (d : List ℕ) → Settings → Lent → Outcome Output
 records_outcome s xs d set l =
     pick (has_records (length xs) d) (outcome s (numbers_of xs) set l) (no_room s)
-
--- ---- the parts of the code
-
--- how many of count segments are copied: all, or none without room
-abbrev pub copy_count : ℕ → ℕ → ℕ
-copy_count count room = pick (leb count (room / width)) count 0
-
--- assembly from the first count segments whose numbers stand in d, if it has room for so many
-unfoldable pub copied_outcome : (s : List ℕ) (count : ℕ) (d : List ℕ) → Settings → Lent → Outcome Output
-copied_outcome s count d set l =
-    pick (has_records count d) (outcome s (first_records count d) set l) (no_room s)

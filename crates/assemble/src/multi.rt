@@ -23,8 +23,8 @@ use pictures::pictures::{put_pictures, put_shows, slot_or_zero};
 use pictures::settings::Settings;
 use pictures::sizes::total_frames;
 
-// How much was written to each lent slice, and the first golden slot.
-#[derive(Clone, Copy)]
+// How much was written to each lent slice, and the first golden slot. The default is that of a refusal, which writes nothing.
+#[derive(Clone, Copy, Default)]
 pub struct Counts {
     pub units: usize,
     pub cues: usize,
@@ -117,23 +117,18 @@ fn count_all(segments: NonEmpty, gop: u64, plan: &Plan) -> Counts
     }
 }
 
-// From picture bytes and the segments' numbers.
+// From segments.
 pub fn assemble_multi(
-    picture: &[u8],
-    segments: &[u64],
+    segments: Segments<'_>,
     settings: Settings,
     buffers: &mut Buffers<'_, '_, '_, '_, '_, '_>,
 ) -> Result<Counts, Fault>
-    ensures handed { Handed (outcome picture.now segments.now settings) result (record {
+    ensures handed { Handed (outcome segments.entry.picture.now segments.entry.numbers.now settings) result (record {
       entry = lent_of buffers.old;
       exit = lent_of buffers.new;
     }) }
     ensures same { SameBuffers buffers.old buffers.new }
 {
-    let segments = Segments {
-        picture,
-        numbers: segments,
-    };
     let plan = plan_multi(segments, settings)?;
     let some = NonEmpty { all: segments };
     let need = count_all(some, settings.gop, &plan);

@@ -1,52 +1,25 @@
 // Assembly from a lent list of range records (document 01): each is copied into the flat numbers that the core takes.
-ghost use Rattle.std.specs.Prelude.{◌≡◌, length};
+ghost use Rattle.std.specs.Prelude.{◌≡◌, ◌≤◌, length};
+ghost use Rattle.bitio.specs.Lent.{pasted};
+ghost use Rattle.blocks.specs.Numbers.{segment_count};
 ghost use Rattle.assemble.specs.Whole.{lent_of, SameBuffers, Handed};
-ghost use Rattle.assemble.specs.Records.{copy_count, numbers_after, copied_outcome, records_outcome};
+ghost use Rattle.assemble.specs.Records.{numbers_of, numbers_after, records_outcome};
 
 use crate::multi::{Buffers, Counts, assemble_multi};
 use bitio::limits::check_limit;
 use bitio::refusal::Refusal;
-use blocks::numbers::{Segment, WIDTH, put_record};
+use blocks::numbers::{Segment, Segments, WIDTH, put_record};
 use pictures::fault::Fault;
 use pictures::settings::Settings;
 
-// How many of count segments are copied: all, or none where there is no room for their numbers.
-fn copy_count(count: usize, room: usize) -> usize
-    ensures { result ≡ copy_count count room }
+// The record of each segment, one after the other, where their room is known.
+fn put_records(segments: &[Segment], numbers: &mut [u64])
+    requires { length segments.now ≤ segment_count numbers.old }
+    ensures { numbers.new ≡ pasted numbers.old 0 (numbers_of segments.now) }
 {
-    if count <= room / WIDTH { count } else { 0 }
-}
-
-// All segments, or none without room. Says how many there are.
-fn copy_segments(segments: &[Segment], numbers: &mut [u64]) -> usize
-    ensures { (result ≡ length segments.now) × (numbers.new ≡ numbers_after segments.now numbers.old) }
-{
-    for i in 0..copy_count(segments.len(), numbers.len()) {
-        put_record(numbers, i, segments[i]);
+    for (i, segment) in segments.iter().enumerate() {
+        put_record(numbers, i, *segment);
     }
-    segments.len()
-}
-
-// Assembly from the numbers of so many segments, at the head of the lent ones.
-fn assemble_copied(
-    picture: &[u8],
-    count: usize,
-    numbers: &mut [u64],
-    settings: Settings,
-    buffers: &mut Buffers<'_, '_, '_, '_, '_, '_>,
-) -> Result<Counts, Fault>
-    ensures handed { Handed (copied_outcome picture.now count numbers.old settings) result (record {
-      entry = lent_of buffers.old;
-      exit = lent_of buffers.new;
-    }) }
-    ensures same { SameBuffers buffers.old buffers.new }
-    ensures numbers { numbers.new ≡ numbers.old }
-{
-    if count > numbers.len() / WIDTH {
-        check_limit(picture)?;
-        return Err(Fault::overall(Refusal::NoRoom));
-    }
-    assemble_multi(picture, &numbers[0..WIDTH * count], settings, buffers)
 }
 
 // Assembly from segments. The lent numbers are working memory, of which document 01 says nothing: a record a segment,
@@ -65,6 +38,11 @@ pub fn assemble_segments(
     ensures same { SameBuffers buffers.old buffers.new }
     ensures numbers { numbers.new ≡ numbers_after segments.now numbers.old }
 {
-    let count = copy_segments(segments, &mut *numbers);
-    assemble_copied(picture, count, numbers, settings, buffers)
+    if segments.len() > numbers.len() / WIDTH {
+        check_limit(picture)?;
+        return Err(Fault::overall(Refusal::NoRoom));
+    }
+    put_records(segments, &mut *numbers);
+    let numbers = &numbers[..WIDTH * segments.len()];
+    assemble_multi(Segments { picture, numbers }, settings, buffers)
 }

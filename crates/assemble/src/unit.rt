@@ -37,6 +37,7 @@ pub struct UnitList<'a> {
 
 impl<'a> UnitList<'a> {
     // As much of lent slices as was written to them.
+    // kept: the lengths are those that assembly has answered, and it is here that the slices are cut to them
     pub fn made(
         counts: Counts,
         list: &'a [u32],

@@ -3,9 +3,8 @@ ghost use Rattle.std.specs.Prelude.{◌≡◌};
 ghost use Rattle.frame.specs.Frame.{removals_in};
 ghost use Rattle.bench.specs.Scans.{sum_of, scan_sum};
 
-use bitio::ends::{end_of, start_of};
 use header::seq_header::read::parse_sequence_header;
-use obu::reader::payload;
+use obu::reader::part_in;
 use uheader::dpb::empty_slots;
 use uheader::scanner::Scanner;
 
@@ -16,8 +15,7 @@ fn sum_ends(scanner: Scanner, frames: &[u8], ends: &[u32]) -> u64
     let mut slots = empty_slots();
     let mut total: u64 = 0;
     for i in 0..ends.len() {
-        let frame = payload(frames, start_of(ends, i), end_of(ends, i));
-        let scanned = scanner.scan_header(&mut slots, frame);
+        let scanned = scanner.scan_header(&mut slots, part_in(frames, ends, i));
         total = total.wrapping_add(scanned.map_or(0, |scan| scan.end_pos as u64));
     }
     total

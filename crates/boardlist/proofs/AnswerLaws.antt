@@ -14,7 +14,7 @@ use Rattle.blocks.specs.Numbers.{width, first_records}
 use Rattle.assemble.proofs.AnswerLaws.{stopped-is, made_of}
 use Rattle.assemble.specs.Whole.{counts_of, Lent, outcome, lent_after, Handed}
 use Rattle.assemble.specs.declared.multi.Counts.{Counts}
-use Rattle.listing.specs.File.{FileReading, read_layout, file_numbers, settings_of, read_into, file_numbers_after}
+use Rattle.listing.specs.File.{FileReading, read_layout, file_numbers, read_into, file_numbers_after}
 use Rattle.listing.specs.Text.{listing, stopped_text, unread_text}
 use Rattle.listing.specs.Says.{file_says}
 use Rattle.listing.specs.declared.file.Layout.{Layout}
@@ -70,7 +70,7 @@ module _ (s numbers : List ℕ) (d : Lent) where
         ap (take (width * l.segments)) (w ∙ a.after) ∙ pasted-front numbers (file_numbers s) (width * l.segments) (sym a.count)
 
     abbrev from : List ℕ → Outcome Output
-    from rs = outcome (span s l.start l.end) rs (settings_of l) d
+    from rs = outcome (span s l.start l.end) rs l.settings d
 
     pub read_text : text_of (from (first_records l.segments numbers')) ≡ file_text
     unfolding printed

@@ -7,7 +7,7 @@ use Rattle.bitio.specs.declared.refusal.Refusal.{Refusal}
 use Rattle.pictures.specs.Assemble.{Outcome, stopped, made, Output}
 use Rattle.assemble.specs.Whole.{Lent, six, outcome, lent_after}
 use Rattle.assemble.specs.declared.multi.Counts.{Counts}
-use Rattle.listing.specs.File.{FileReading, bad, full, read_layout, file_numbers, settings_of, read_into, file_numbers_after}
+use Rattle.listing.specs.File.{FileReading, bad, full, read_layout, file_numbers, read_into, file_numbers_after}
 use Rattle.listing.specs.Text.{listing, stopped_text, refused_text, bad_file}
 use Rattle.boardlist.specs.declared.answer.Memory.{Memory}
 
@@ -19,7 +19,7 @@ text_of (stopped k i) = stopped_text k i
 abbrev pub printed_of : FileReading → List ℕ → Lent → List ℕ
 printed_of bad s d = bad_file
 printed_of full s d = refused_text 35
-printed_of (read_layout l) s d = text_of (outcome (span s l.start l.end) (file_numbers s) (settings_of l) d)
+printed_of (read_layout l) s d = text_of (outcome (span s l.start l.end) (file_numbers s) l.settings d)
 
 -- the text for the bytes s, with these lent slices
 unfoldable pub printed : (s numbers : List ℕ) → Lent → List ℕ
@@ -29,7 +29,7 @@ printed s numbers d = printed_of (read_into numbers s) s d
 abbrev pub slices_after_of : FileReading → List ℕ → Lent → Lent
 slices_after_of bad s d = d
 slices_after_of full s d = d
-slices_after_of (read_layout l) s d = lent_after (outcome (span s l.start l.end) (file_numbers s) (settings_of l) d) d
+slices_after_of (read_layout l) s d = lent_after (outcome (span s l.start l.end) (file_numbers s) l.settings d) d
 
 unfoldable pub slices_after : (s numbers : List ℕ) → Lent → Lent
 slices_after s numbers d = slices_after_of (read_into numbers s) s d
@@ -38,7 +38,7 @@ slices_after s numbers d = slices_after_of (read_into numbers s) s d
 
 -- the slices that are lent to assembly
 abbrev pub lent_of : Memory → Lent
-lent_of m = six m.list m.cues m.pictures m.ends m.shows m.header
+lent_of m = six m.made.list m.made.cues m.made.pictures m.made.ends m.made.shows m.made.header
 
 -- the listing of what counts tell of lent memory
 abbrev pub made_text : Counts → Lent → List ℕ

@@ -7,8 +7,9 @@ mod text;
 use blocks::numbers::WIDTH;
 use cues::{Boards, play};
 use listing::file::read_file;
-use text::Page;
+use text::{Page, flush, put_unread};
 
+// kept: the new form is no plainer: listing reads no input, and what follows a reading is each program's own
 #[tactic(auto, using(listing::proofs::FileLaws::layout_fits))]
 fn main() {
     // one byte more than a file may have, so that a longer one is seen
@@ -22,11 +23,11 @@ fn main() {
             let boards = Boards {
                 picture: layout.picture(file),
                 segments: layout.numbers(&numbers),
-                settings: layout.settings(),
+                settings: layout.settings,
             };
             play(&boards, &mut page);
         }
-        Err(unread) => page.put_unread(unread),
+        Err(unread) => put_unread(&mut page, unread),
     }
-    page.flush();
+    flush(&mut page);
 }

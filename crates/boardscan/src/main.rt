@@ -8,15 +8,16 @@ mod text;
 use blocks::numbers::{Segments, WIDTH, segment_count};
 use listing::file::read_file;
 use scan::scan_segment;
-use text::Page;
+use text::{Page, flush, put_segment, put_unread};
 
 // Board by board, so that the text of any number of them has room.
 fn put_segments(segments: Segments, page: &mut Page) {
     for i in 0..segment_count(segments.numbers) {
-        page.put_segment(i, scan_segment(segments.key(i), segments.golden(i)));
+        put_segment(page, i, scan_segment(segments.key(i), segments.golden(i)));
     }
 }
 
+// kept: the new form is no plainer: listing reads no input, and what follows a reading is each program's own
 #[tactic(auto, using(listing::proofs::FileLaws::layout_fits))]
 fn main() {
     // one byte more than a file may have, so that a longer one is seen
@@ -33,7 +34,7 @@ fn main() {
             };
             put_segments(segments, &mut page);
         }
-        Err(unread) => page.put_unread(unread),
+        Err(unread) => put_unread(&mut page, unread),
     }
-    page.flush();
+    flush(&mut page);
 }

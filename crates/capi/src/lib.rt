@@ -6,6 +6,7 @@ ghost use Rattle.assemble.specs.Whole.{outcome, six};
 ghost use Rattle.capi.specs.Door.{four, UnitsRead, five, Called};
 
 use assemble::multi::{Buffers, assemble_multi, code_of};
+use blocks::numbers::Segments;
 use container::stream::split_obu_stream;
 use pictures::settings::Settings;
 
@@ -64,6 +65,10 @@ pub extern "C" fn magbelo_assemble(
       exit = five units.new cue_count.new picture_len.new header_len.new golden_slot.new;
     }) }
 {
+    let segments = Segments {
+        picture,
+        numbers: segments,
+    };
     let settings = Settings {
         gop: gop_size,
         fps,
@@ -77,7 +82,7 @@ pub extern "C" fn magbelo_assemble(
         shows,
         header,
     };
-    match assemble_multi(picture, segments, settings, &mut buffers) {
+    match assemble_multi(segments, settings, &mut buffers) {
         Err(fault) => code_of(fault),
         Ok(c) => {
             *units = c.units;

@@ -34,7 +34,7 @@ small key golden set = u32 2 ++ (0 ∷ 0 ∷ []) ++ u32 1 ++ file_segment key go
 abbrev layout_told : FileReading → Answer (List (List ℕ))
 layout_told bad = refused 0
 layout_told full = refused 35
-layout_told (read_layout l) = accepted ((l.start ∷ l.end ∷ l.segments ∷ l.gop_size ∷ l.fps ∷ l.fps_den ∷ []) ∷ [])
+layout_told (read_layout l) = accepted ((l.start ∷ l.end ∷ l.segments ∷ l.settings.gop ∷ l.settings.fps ∷ l.settings.den ∷ []) ∷ [])
 
 -- a 1 for each that is a file, else a 0
 abbrev are_files : List (List ℕ) → Answer (List (List ℕ))

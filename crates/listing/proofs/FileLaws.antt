@@ -88,7 +88,7 @@ wide {E} (Err z) {v} o e h = OkIff-at_err {T = ℕ} {E = E} (Err z) (v < 4294967
 -- ---- the settings of a file that is as long as its sections
 
 abbrev lay : (picture count gop fps den : ℕ) → Layout
-lay picture count gop fps den = record { start = 4; end = 4 + picture; segments = count; gop_size = gop; fps = fps; fps_den = den }
+lay picture count gop fps den = record { start = 4; end = 4 + picture; segments = count; settings = record { gop = gop; fps = fps; den = den } }
 
 module _ {s : List ℕ} {picture count : ℕ} (z : FileSized s picture count) where
   at_settings : 8 + picture + 16 * count ≡ settings_at s

@@ -3,7 +3,9 @@ use Prim.Native.Nat.{ℕ, zero, suc, ◌+◌, ◌-◌, ◌*◌, ◌^◌, ◌≤�
 use native.Mathlib.Omega.{arith}
 use mathlib.Core.Path.{◌≡◌, refl, sym, ap, ap₂, ◌∙◌}
 use mathlib.Core.List.{List, [], ◌++◌}
-use lib.ListN.{length, get_or}
+use lib.ListN.{length, get_or, take, drop}
+use lib.Seq.{get_or-take, get_or-drop}
+use Rattle.std.specs.Int.{w32, w64, from_le_bytes}
 use Rattle.bitio.specs.Lent.{pasted}
 use Rattle.bitio.proofs.LentLaws.{pasted-nil, pasted-more, pasted_length}
 use Rattle.blocks.specs.Numbers.{width, segment_count}
@@ -15,16 +17,19 @@ module _ (s : List ℕ) (at : ℕ) where
   abbrev byte : ℕ → ℕ
   byte i = get_or s (at + i) 0
 
-  pub u32_bytes : u32_at s at ≡ get_or s at 0 + byte 1 * 256 + byte 2 * 65536 + byte 3 * 16777216
+  byte_of : (n i : ℕ) → i < n → get_or (take n (drop at s)) i 0 ≡ byte i
+  byte_of n i h = get_or-take n (drop at s) i 0 h ∙ get_or-drop at s i 0
+
+  pub u32_bytes : from_le_bytes w32 (take 4 (drop at s)) ≡ u32_at s at
   unfolding number_at
   u32_bytes =
       let a : suc at ≡ at + 1 = omega arith in
       let b : suc (suc at) ≡ at + 2 = omega arith in
       let c : suc (suc (suc at)) ≡ at + 3 = omega arith in
-      rw (c, b, a) (omega arith)
+      let z : get_or s (at + 0) 0 ≡ get_or s at 0 = ap (λ (k : ℕ). get_or s k 0) (omega arith) in
+      rw (c, b, a) (omega (arith, z, byte_of 4 0 (omega arith), byte_of 4 1 (omega arith), byte_of 4 2 (omega arith), byte_of 4 3 (omega arith)))
 
-  pub u64_bytes : u64_at s at ≡ get_or s at 0 + byte 1 * 256 + byte 2 * 65536 + byte 3 * 16777216
-      + byte 4 * 4294967296 + byte 5 * 1099511627776 + byte 6 * 281474976710656 + byte 7 * 72057594037927936
+  pub u64_bytes : from_le_bytes w64 (take 8 (drop at s)) ≡ u64_at s at
   unfolding number_at
   u64_bytes =
       let a : suc at ≡ at + 1 = omega arith in
@@ -34,7 +39,19 @@ module _ (s : List ℕ) (at : ℕ) where
       let e : suc (suc (suc (suc (suc at)))) ≡ at + 5 = omega arith in
       let f : suc (suc (suc (suc (suc (suc at))))) ≡ at + 6 = omega arith in
       let g : suc (suc (suc (suc (suc (suc (suc at)))))) ≡ at + 7 = omega arith in
-      rw (g, f, e, d, c, b, a) (omega arith)
+      let z : get_or s (at + 0) 0 ≡ get_or s at 0 = ap (λ (k : ℕ). get_or s k 0) (omega arith) in
+      rw (g, f, e, d, c, b, a) (omega (
+        arith,
+        z,
+        byte_of 8 0 (omega arith),
+        byte_of 8 1 (omega arith),
+        byte_of 8 2 (omega arith),
+        byte_of 8 3 (omega arith),
+        byte_of 8 4 (omega arith),
+        byte_of 8 5 (omega arith),
+        byte_of 8 6 (omega arith),
+        byte_of 8 7 (omega arith),
+      ))
 
 -- ---- the sum of the lengths
 

@@ -2,7 +2,6 @@
 use Rattle.std.specs.Prelude.{ℕ, zero, suc, ◌+◌, ◌*◌, ◌≤◌, ◌≡◌, List, [], ◌++◌, Bool, cond as pick, ◌&&◌, length, get_or, leb, eqb, Option, Some, None}
 use Rattle.bitio.specs.Lent.{has_room, lent}
 use Rattle.blocks.specs.Numbers.{width, record_of}
-use Rattle.pictures.specs.declared.settings.Settings.{Settings}
 use Rattle.listing.specs.declared.file.Layout.{Layout}
 
 -- ---- numbers
@@ -102,9 +101,7 @@ layout_of s =
       start = 4;
       end = 4 + picture_count s;
       segments = file_segments s;
-      gop_size = gop_at s;
-      fps = fps_at s;
-      fps_den = den_at s;
+      settings = record { gop = gop_at s; fps = fps_at s; den = den_at s };
     }
 
 -- what any bytes say as a file
@@ -138,11 +135,6 @@ pub record FileSized (s : List ℕ) (picture count : ℕ) : Type 0 where
   pub pictures : picture ≡ picture_count s
   pub segments : count ≡ file_segments s
   pub whole : length s ≡ settings_at s + 28
-
--- ---- what assembly is told
-
-abbrev pub settings_of : Layout → Settings
-settings_of l = record { gop = l.gop_size; fps = l.fps; den = l.fps_den }
 
 -- ---- what a layout promises to those that use it
 

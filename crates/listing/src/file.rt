@@ -1,8 +1,8 @@
 // The file of boardlist: picture bytes, segments and settings, each after its u32 count, little-endian.
-ghost use Rattle.std.specs.Prelude.{◌≡◌, ◌+◌, ◌*◌, ◌≤◌, ◌<◌, ◌^◌, length};
+ghost use Rattle.std.specs.Prelude.{◌≡◌, ◌+◌, ◌*◌, ◌≤◌, ◌<◌, ◌^◌, length, take, drop};
 ghost use Rattle.bitio.specs.Lent.{pasted, span};
 ghost use Rattle.blocks.specs.Numbers.{width, segment_count, first_records};
-ghost use Rattle.listing.specs.File.{u32_at, u64_at, units_length, segment_numbers, segment_end, file_numbers_from, FileSized, Records, settings_of, layout_in, read_into, file_numbers_after};
+ghost use Rattle.listing.specs.File.{u32_at, u64_at, units_length, segment_numbers, segment_end, file_numbers_from, FileSized, Records, layout_in, read_into, file_numbers_after};
 ghost use Rattle.listing.specs.Says.{file_says};
 
 use blocks::numbers::{Segment, WIDTH, put_record};
@@ -14,9 +14,7 @@ pub struct Layout {
     pub start: usize,
     pub end: usize,
     pub segments: usize,
-    pub gop_size: u64,
-    pub fps: u32,
-    pub fps_den: u32,
+    pub settings: Settings,
 }
 
 impl Layout {
@@ -37,16 +35,6 @@ impl Layout {
     {
         &numbers[..WIDTH * self.segments]
     }
-
-    pub fn settings(self) -> Settings
-        ensures { result ≡ settings_of self }
-    {
-        Settings {
-            gop: self.gop_size,
-            fps: self.fps,
-            den: self.fps_den,
-        }
-    }
 }
 
 // Why a file is not read.
@@ -58,31 +46,26 @@ pub enum Unread {
     Full,
 }
 
-// The u32 at `at`.
-#[tactic(auto, using(crate::proofs::NumberLaws::u32_bytes))]
+// The N bytes at `at`.
+fn bytes_at<const N: usize>(file: &[u8], at: usize) -> [u8; N]
+    requires { at + N ≤ length file.now }
+    ensures { result ≡ take N (drop at file.now) }
+{
+    *file[at..].first_chunk::<N>().unwrap()
+}
+
 fn read_u32(file: &[u8], at: usize) -> u32
     requires { at + 4 ≤ length file.now }
     ensures { result ≡ u32_at file.now at }
 {
-    u32::from_le_bytes([file[at], file[at + 1], file[at + 2], file[at + 3]])
+    u32::from_le_bytes(bytes_at(file, at))
 }
 
-// The u64 at `at`.
-#[tactic(auto, using(crate::proofs::NumberLaws::u64_bytes))]
 fn read_u64(file: &[u8], at: usize) -> u64
     requires { at + 8 ≤ length file.now }
     ensures { result ≡ u64_at file.now at }
 {
-    u64::from_le_bytes([
-        file[at],
-        file[at + 1],
-        file[at + 2],
-        file[at + 3],
-        file[at + 4],
-        file[at + 5],
-        file[at + 6],
-        file[at + 7],
-    ])
+    u64::from_le_bytes(bytes_at(file, at))
 }
 
 // How many bytes the units of so many segments have.
@@ -112,9 +95,11 @@ fn settings(file: &[u8], picture: usize, count: usize) -> Option<Layout>
         start: 4,
         end: 4 + picture,
         segments: count,
-        gop_size: read_u64(file, at + 4),
-        fps: u32::try_from(read_u64(file, at + 12)).ok()?,
-        fps_den: u32::try_from(read_u64(file, at + 20)).ok()?,
+        settings: Settings {
+            gop: read_u64(file, at + 4),
+            fps: u32::try_from(read_u64(file, at + 12)).ok()?,
+            den: u32::try_from(read_u64(file, at + 20)).ok()?,
+        },
     })
 }
 

@@ -3,4 +3,6 @@
 
 pub mod decimal;
 pub mod file;
+pub mod memory;
+pub mod page;
 pub mod text;

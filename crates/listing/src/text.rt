@@ -1,5 +1,6 @@
 // The text that boardlist prints: a list of units, or why there is none.
-// kept: put into lent memory by functions of our own, as `Display` needs a String or a stream
+// kept: the new form is no plainer: nothing is written where a listing has no room, so all is measured first, and a writer over
+// the slice for `fmt` would have to be proved beside it
 ghost use Rattle.std.specs.Prelude.{◌≡◌, ◌+◌, ◌≤◌, length, leb};
 ghost use Rattle.bitio.specs.Lent.{Wrote, placed, lent};
 ghost use Rattle.bitio.specs.Refusal.{says};
@@ -81,8 +82,8 @@ fn lines_fit(room: usize, units: UnitList) -> bool
     ensures { result ≡ leb (length (lines_in units.entry)) room }
 {
     let mut left = room;
-    for i in 0..units.list.len() {
-        let n = line_len(units, i as u64 + 1, units.list[i]);
+    for (i, entry) in units.list.iter().enumerate() {
+        let n = line_len(units, i as u64 + 1, *entry);
         if n > left {
             return false;
         }
@@ -98,8 +99,8 @@ fn put_lines(out: &mut [u8], at: usize, units: UnitList) -> usize
     ensures { Wrote out.old at (lines_in units.entry) result out.new }
 {
     let mut to = at;
-    for i in 0..units.list.len() {
-        to = put_line(out, to, units, i as u64 + 1, units.list[i]);
+    for (i, entry) in units.list.iter().enumerate() {
+        to = put_line(out, to, units, i as u64 + 1, *entry);
     }
     to
 }

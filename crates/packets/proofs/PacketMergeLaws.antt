@@ -3,11 +3,9 @@ use Prim.Native.Nat.{ℕ, ◌+◌, ◌≤◌, ◌<◌}
 use native.Mathlib.Omega.{arith}
 use mathlib.Core.Path.{◌≡◌, refl, sym, ap, ap₂, ◌∙◌}
 use mathlib.Core.List.{List, [], ◌∷◌, ◌++◌, append_assoc, append-nil, map-append}
-use mathlib.Core.Bool.{Bool, true, false, cond as pick}
 use lib.ListN.{length, drop, get_or, set, length-append, length-map, length-set, drop_of_length-le}
 use lib.Seq.{slice_empty}
-use lib.Dec.{ltb}
-use borrow.Author.Tests.{ltb-true, ltb-false}
+use Rattle.std.specs.Prelude.{Option, Some, None}
 use Rattle.bitio.specs.Lent.{pasted, Wrote}
 use Rattle.bitio.proofs.LentLaws.{pasted-nil, pasted-set, wrote-length, wrote-more}
 use Rattle.bitio.specs.Every.Every.{nothing, also}
@@ -20,8 +18,9 @@ use Rattle.container.specs.Units.{ends_of}
 use Rattle.packets.specs.PacketLists.{bytes_of, times_of}
 use Rattle.bitio.specs.Every.{Every}
 use Rattle.container.specs.Lists.{listed}
-use Rattle.packets.specs.code.PacketRuns.{piece, Parses, Waits, Next, Piece, PieceRoom, packets_of, merged_of, Totals, Closing, MergeRoom, Ready, WroteMerged}
+use Rattle.packets.specs.code.PacketRuns.{piece, Parses, Waits, Next, NextClose, stop_of, Piece, PieceRoom, packets_of, merged_of, Totals, Closing, MergeRoom, Ready, WroteMerged}
 use Rattle.container.proofs.ListLaws.{listed-length}
+use Rattle.packets.specs.code.Walk.{Among}
 use Rattle.packets.proofs.PacketListLaws.{packets-bytes, packets-times, packets-short}
 use Rattle.packets.proofs.PacketSteps.{length-bytes_of, step-more, step-last}
 
@@ -63,11 +62,16 @@ stream-split ps rs =
 
 -- ---- one output packet
 
+-- a unit from a on closes next, or none is left
+abbrev pub Ahead : List (List ℕ) → ℕ → Option ℕ → Type 0
+Ahead us a None = length us ≤ a
+Ahead us a (Some c) = Next us a c × (c < length us)
+
 -- those from a to b go out as one, c closes, and d is the next that closes
-pub record Turn (s es ts : List ℕ) (a c d b : ℕ) : Type 0 where
+pub record Turn (s es ts : List ℕ) (a c : ℕ) (d : Option ℕ) (b : ℕ) : Type 0 where
   pub all : Piece s es a c b
   pub merged : merge_packets (drop a (packets_of s es ts)) ≡ record { time = get_or ts c 0; bytes = piece (listed s es) a c b } ∷ merge_packets (drop b (packets_of s es ts))
-  pub next : b < length es → Next (listed s es) b d × (d < length es)
+  pub next : Ahead (listed s es) b d
 
 none_left : (s es ts : List ℕ) (n : ℕ) → length (packets_of s es ts) ≤ n → merge_packets (drop n (packets_of s es ts)) ≡ []
 unfolding merge_packets alone
@@ -87,11 +91,12 @@ module _ (s es ts : List ℕ) (short : length s ≤ limit) (match : length es �
   pub packets-length : length qs ≡ length es
   packets-length = sym (length-bytes_of qs) ∙ ap length eb ∙ listed-length 0 s es
 
-  module _ (a c : ℕ) (n : Next (listed s es) a c) (l : c < length es) (d : ℕ) (m : Next (listed s es) (c + 1) d) where
-    turn_more : d < length es → Turn s es ts a c d (c + 1)
-    turn_more k =
+  module _ (a c : ℕ) (n : Next (listed s es) a c) (l : c < length (listed s es)) where
+    turn_more : (d : ℕ) → Next (listed s es) (c + 1) d → d < length (listed s es) → Turn s es ts a c (Some d) (c + 1)
+    turn_more d m k =
         let n' : Next (bytes_of qs) a c = rw eb n in
         let m' : Next (bytes_of qs) (c + 1) d = rw eb m in
+        let e : length (listed s es) ≡ length es = listed-length 0 s es in
         record {
           all =
               record {
@@ -103,108 +108,101 @@ module _ (s es ts : List ℕ) (short : length s ≤ limit) (match : length es �
                 back = rw (slice_empty (c + 1) (listed s es)) nothing;
               };
           merged = rw (eb, packets-times s es ts match) at (step-more qs a c n' (omega (arith, packets-length)) d m' (omega (arith, packets-length)));
-          next = λ h. (m, k);
+          next = (m, k);
         }
 
-    turn_last : length es ≤ d → Turn s es ts a c d (length es)
-    turn_last k =
+    turn_last : Next (listed s es) (c + 1) (length (listed s es)) → Turn s es ts a c None (length es)
+    turn_last m =
         let n' : Next (bytes_of qs) a c = rw eb n in
-        let f : d ≡ length (listed s es) = omega (arith, m.within, listed-length 0 s es) in
-        let m' : Next (bytes_of qs) (c + 1) (length (bytes_of qs)) = rw (eb, ← f) m in
+        let m' : Next (bytes_of qs) (c + 1) (length (bytes_of qs)) = rw eb m in
         let e : length (listed s es) ≡ length es = listed-length 0 s es in
         record {
           all =
               record {
                 short = short;
                 order = n.order;
-                after = l;
+                after = omega arith;
                 within = omega arith;
                 front = all-parse n.wait;
-                back = rw (← e, ← f) (all-parse m.wait);
+                back = rw (← e) (all-parse m.wait);
               };
           merged =
               rw (eb, packets-times s es ts match, e) at (step-last qs a c n' (omega (arith, packets-length)) (packets-short s es ts match short) m')
               ∙ ap (λ r. record { time = get_or ts c 0; bytes = piece (listed s es) a c (length es) } ∷ r) (sym (none_left s es ts (length es) (omega (arith, packets-length))));
-          next = λ h. absurd (omega arith);
+          next = omega arith;
         }
 
-    pub turn : {b : ℕ} → b ≡ pick (ltb d (length ts)) (c + 1) (length ts) → Turn s es ts a c d b
-    turn {b} e = go (ltb d (length ts)) refl e
-      where
-        go : (x : Bool) → ltb d (length ts) ≡ x → b ≡ pick x (c + 1) (length ts) → Turn s es ts a c d b
-        go true p e = rw e (turn_more (omega (arith, ltb-true d (length ts) p)))
-        go false p e = rw (e, ← match) (turn_last (omega (arith, ltb-false d (length ts) p)))
+    pub turn : {b : ℕ} (d : Option ℕ) → NextClose (listed s es) (c + 1) d → b ≡ stop_of d (c + 1) (length ts) → Turn s es ts a c d b
+    turn None m e = rw (e, ← match) (turn_last m)
+    turn (Some d) m e = rw e (turn_more d m.0 m.1)
 
 -- ---- measuring
 
 -- the packets before `first` are done; the next that closes is `at`
-pub record Done (s es ts : List ℕ) (first at : ℕ) (done : List Packet) : Type 0 where
+pub record Done (s es ts : List ℕ) (first : ℕ) (at : Option ℕ) (done : List Packet) : Type 0 where
   pub short : length s ≤ limit
   pub match : length es ≡ length ts
   pub same : merged_of s es ts ≡ done ++ merge_packets (drop first (packets_of s es ts))
   pub few : length done ≤ first
   pub within : first ≤ length es
-  pub next : first < length es → Next (listed s es) first at × (at < length es)
+  pub next : Ahead (listed s es) first at
 
-pub done-start : {s es ts : List ℕ} {c : ℕ} → Closing s es ts c → Done s es ts 0 c []
-done-start k =
-    record { short = k.short; match = k.match; same = refl; few = omega arith; within = omega arith; next = λ l. (k.next, k.some) }
+pub done-start : {s es ts : List ℕ} {c : ℕ} → Closing s es ts c → Done s es ts 0 (Some c) []
+done-start {s} {es} k =
+    let e = listed-length 0 s es in
+    record { short = k.short; match = k.match; same = refl; few = omega arith; within = omega arith; next = (k.next, omega (arith, k.some)) }
 
-module _ {s es ts : List ℕ} {first at : ℕ} {done : List Packet} (m : Done s es ts first at done) where
-  pub done_end : length ts ≤ first → merged_of s es ts ≡ done
-  done_end l =
-      m.same ∙ ap (λ r. done ++ r) (none_left s es ts first (omega (arith, packets-length s es ts m.short m.match, m.match))) ∙ append-nil done
+pub done_end : {s es ts : List ℕ} {first : ℕ} {done : List Packet} → Done s es ts first None done → merged_of s es ts ≡ done
+done_end {s} {es} {ts} {first} {done} m =
+    m.same ∙ ap (λ r. done ++ r) (none_left s es ts first (omega (arith, packets-length s es ts m.short m.match, listed-length 0 s es, m.next))) ∙ append-nil done
 
-  module _ (l : first < length ts) where
-    now-next : Next (listed s es) first at × (at < length es)
-    now-next = m.next (omega (arith, m.match))
+module _ {s es ts : List ℕ} {first at : ℕ} {done : List Packet} (m : Done s es ts first (Some at) done) where
+  module _ (d : Option ℕ) {b : ℕ} (n : NextClose (listed s es) (at + 1) d) (e : b ≡ stop_of d (at + 1) (length ts)) where
+    t : Turn s es ts first at d b
+    t = turn s es ts m.short m.match first at m.next.0 m.next.1 d n e
 
-    module _ {d b : ℕ} (n : Next (listed s es) (at + 1) d) (e : b ≡ pick (ltb d (length ts)) (at + 1) (length ts)) where
-      t : Turn s es ts first at d b
-      t = turn s es ts m.short m.match first at now-next.0 now-next.1 d n e
+    pub done-piece : Piece s es first at b
+    done-piece = t.all
 
-      pub done-piece : Piece s es first at b
-      done-piece = t.all
+    abbrev pub sent : Packet
+    sent = record { time = get_or ts at 0; bytes = piece (listed s es) first at b }
 
-      abbrev pub sent : Packet
-      sent = record { time = get_or ts at 0; bytes = piece (listed s es) first at b }
-
-      pub done_next : Done s es ts b d (done ++ (sent ∷ []))
-      done_next =
-          record {
-            short = m.short;
-            match = m.match;
-            same = m.same ∙ ap (λ r. done ++ r) t.merged ∙ sym (append_assoc done (sent ∷ []) (merge_packets (drop b (packets_of s es ts))));
-            few = omega (arith, length-append done (sent ∷ []), m.few, t.all.order, t.all.after);
-            within = t.all.within;
-            next = t.next;
-          }
+    pub done_next : Done s es ts b d (done ++ (sent ∷ []))
+    done_next =
+        record {
+          short = m.short;
+          match = m.match;
+          same = m.same ∙ ap (λ r. done ++ r) t.merged ∙ sym (append_assoc done (sent ∷ []) (merge_packets (drop b (packets_of s es ts))));
+          few = omega (arith, length-append done (sent ∷ []), m.few, t.all.order, t.all.after);
+          within = t.all.within;
+          next = t.next;
+        }
 
 -- ---- measuring
 
-pub record Measuring (s es ts : List ℕ) (first at n u : ℕ) : Type 0 where
+pub record Measuring (s es ts : List ℕ) (first : ℕ) (at : Option ℕ) (n u : ℕ) : Type 0 where
   pub done : List Packet
   pub state : Done s es ts first at done
   pub sum : n ≡ capped (length (stream_bytes (bytes_of done)))
   pub count : u ≡ length done
 
-pub measure-start : {s es ts : List ℕ} {c : ℕ} → Closing s es ts c → Measuring s es ts 0 c 0 0
+pub measure-start : {s es ts : List ℕ} {c : ℕ} → Closing s es ts c → Measuring s es ts 0 (Some c) 0 0
 unfolding bytes_of stream_bytes flat
 measure-start k = record { done = []; state = done-start k; sum = omega arith; count = refl }
 
-module _ {s es ts : List ℕ} {first at n u : ℕ} (m : Measuring s es ts first at n u) where
-  pub measure-end : length ts ≤ first → Totals s es ts n u
-  measure-end l =
-      let e = done_end m.state l in
-      record { bytes = rw e m.sum; count = rw e m.count }
+pub measure-end : {s es ts : List ℕ} {first n u : ℕ} → Measuring s es ts first None n u → Totals s es ts n u
+measure-end m =
+    let e = done_end m.state in
+    record { bytes = rw e m.sum; count = rw e m.count }
 
-  module _ (l : first < length ts) {d b : ℕ} (x : Next (listed s es) (at + 1) d) (e : b ≡ pick (ltb d (length ts)) (at + 1) (length ts)) where
+module _ {s es ts : List ℕ} {first at n u : ℕ} (m : Measuring s es ts first (Some at) n u) where
+  module _ (d : Option ℕ) {b : ℕ} (x : NextClose (listed s es) (at + 1) d) (e : b ≡ stop_of d (at + 1) (length ts)) where
     pub measure-next : {k r : ℕ} → k ≡ capped (length (piece (listed s es) first at b)) → r ≡ capped (n + k) → Measuring s es ts b d r (u + 1)
     measure-next p q =
-        let y = sent m.state l x e in
+        let y = sent m.state d x e in
         record {
           done = m.done ++ (y ∷ []);
-          state = done_next m.state l x e;
+          state = done_next m.state d x e;
           sum = omega (arith, m.sum, stream-length m.done y);
           count = omega (arith, m.count, length-append m.done (y ∷ []));
         }
@@ -212,7 +210,7 @@ module _ {s es ts : List ℕ} {first at n u : ℕ} (m : Measuring s es ts first 
 -- ---- writing
 
 -- lent memory was o₀, e₀ and t₀, and is o, e and t
-pub record Putting (s es ts o₀ e₀ t₀ : List ℕ) (first at w u : ℕ) (o e t : List ℕ) : Type 0 where
+pub record Putting (s es ts o₀ e₀ t₀ : List ℕ) (first : ℕ) (at : Option ℕ) (w u : ℕ) (o e t : List ℕ) : Type 0 where
   pub room : MergeRoom s es ts o₀ e₀ t₀
   pub done : List Packet
   pub state : Done s es ts first at done
@@ -224,7 +222,7 @@ pub record Putting (s es ts o₀ e₀ t₀ : List ℕ) (first at w u : ℕ) (o e
   pub long-ends : length e ≡ length e₀
   pub long-times : length t ≡ length t₀
 
-pub put-start : {s es ts o e t : List ℕ} {c : ℕ} → Ready s es ts c o e t → Putting s es ts o e t 0 c 0 0 o e t
+pub put-start : {s es ts o e t : List ℕ} {c : ℕ} → Ready s es ts c o e t → Putting s es ts o e t 0 (Some c) 0 0 o e t
 unfolding bytes_of times_of stream_bytes flat ends_of
 put-start {s} {es} {ts} {o} {e} {t} {c} k =
     record {
@@ -240,21 +238,21 @@ put-start {s} {es} {ts} {o} {e} {t} {c} k =
       long-times = refl;
     }
 
-module _ {s es ts o₀ e₀ t₀ : List ℕ} {first at w u : ℕ} {o e t : List ℕ} (m : Putting s es ts o₀ e₀ t₀ first at w u o e t) where
-  pub put-end : length ts ≤ first → WroteMerged s es ts o₀ e₀ t₀ o e t
-  put-end l =
-      let q = done_end m.state l in
-      record { bytes = rw q m.wrote.out; ends = rw q m.ends; times = rw q m.times }
+pub put-end : {s es ts o₀ e₀ t₀ : List ℕ} {first w u : ℕ} {o e t : List ℕ} → Putting s es ts o₀ e₀ t₀ first None w u o e t → WroteMerged s es ts o₀ e₀ t₀ o e t
+put-end m =
+    let q = done_end m.state in
+    record { bytes = rw q m.wrote.out; ends = rw q m.ends; times = rw q m.times }
 
-  module _ (l : first < length ts) {d b : ℕ} (x : Next (listed s es) (at + 1) d) (f : b ≡ pick (ltb d (length ts)) (at + 1) (length ts)) where
+module _ {s es ts o₀ e₀ t₀ : List ℕ} {first at w u : ℕ} {o e t : List ℕ} (m : Putting s es ts o₀ e₀ t₀ first (Some at) w u o e t) where
+  module _ (d : Option ℕ) {b : ℕ} (x : NextClose (listed s es) (at + 1) d) (f : b ≡ stop_of d (at + 1) (length ts)) where
     abbrev p : Packet
-    p = sent m.state l x f
+    p = sent m.state d x f
 
     abbrev rest : List Packet
     rest = merge_packets (drop b (packets_of s es ts))
 
     whole : merged_of s es ts ≡ (m.done ++ (p ∷ [])) ++ rest
-    whole = (done_next m.state l x f).same
+    whole = (done_next m.state d x f).same
 
     bytes_left : length (stream_bytes (bytes_of m.done)) + length p.bytes ≤ length (stream_bytes (bytes_of (merged_of s es ts)))
     bytes_left =
@@ -264,7 +262,7 @@ module _ {s es ts o₀ e₀ t₀ : List ℕ} {first at w u : ℕ} {o e t : List 
     count_left = omega (arith, ap length whole, length-append (m.done ++ (p ∷ [])) rest, length-append m.done (p ∷ []))
 
     pub put-room : PieceRoom s es first at b o w
-    put-room = record { all = done-piece m.state l x f; room = omega (arith, bytes_left, m.room.bytes, m.wrote.next, m.long) }
+    put-room = record { all = done-piece m.state d x f; room = omega (arith, bytes_left, m.room.bytes, m.wrote.next, m.long) }
 
     pub put-slots : (u < length e) × (u < length t)
     put-slots = (omega (arith, count_left, m.count, m.room.ends, m.long-ends), omega (arith, count_left, m.count, m.room.times, m.long-times))
@@ -284,7 +282,7 @@ module _ {s es ts o₀ e₀ t₀ : List ℕ} {first at w u : ℕ} {o e t : List 
           record {
             room = m.room;
             done = m.done ++ (p ∷ []);
-            state = done_next m.state l x f;
+            state = done_next m.state d x f;
             count = omega (arith, m.count, length-append m.done (p ∷ []));
             wrote = rw (stream-more m.done p) (wrote-more m.wrote (omega arith) y);
             ends =
@@ -297,3 +295,15 @@ module _ {s es ts o₀ e₀ t₀ : List ℕ} {first at w u : ℕ} {o e t : List 
             long-ends = length-set e u v ∙ m.long-ends;
             long-times = length-set t u (get_or ts at 0) ∙ m.long-times;
           }
+
+-- ---- the walk over them
+
+-- the unit that closes behind an output packet is one of those left
+pub among : (us : List (List ℕ)) (c : ℕ) {n b : ℕ} (o : Option ℕ) → NextClose us (c + 1) o → length us ≡ n → b ≡ stop_of o (c + 1) n → Among b n o
+among us c None m e q = tt
+among us c (Some d) m e q = (omega (arith, m.0.order), omega (arith, m.1))
+
+-- and it takes a packet at least
+pub past : (c : ℕ) {n b : ℕ} (o : Option ℕ) → c < n → b ≡ stop_of o (c + 1) n → c < b
+past c None l q = omega arith
+past c (Some d) l q = omega arith

@@ -211,11 +211,9 @@ module _ (s es ts : List ℕ) (g : NoneCloses s es ts) where
 pub some-closing : {s es ts : List ℕ} {c : ℕ} → OneCloses s es ts c → Closing s es ts c
 some-closing k = record { short = k.given.short; match = k.given.match; next = k.next; some = k.some }
 
--- the first that closes is none
-pub none-closes : {s es ts : List ℕ} {c : ℕ} → Given s es ts → Next (listed s es) 0 c → length ts ≤ c → NoneCloses s es ts
-none-closes {s} {es} {ts} {c} g n l =
-    let k : c ≡ length es = omega (arith, n.within, listed-length 0 s es, g.match) in
-    record { given = g; next = rw k at n }
+-- none closes
+pub none-closes : {s es ts : List ℕ} → Given s es ts → Next (listed s es) 0 (length (listed s es)) → NoneCloses s es ts
+none-closes {s} {es} g n = record { given = g; next = rw (listed-length 0 s es) at n }
 
 -- an outcome, as four clauses ask for it
 pub four : {s es ts o e t o' e' t' : List ℕ} {r : Result Sizes Refusal} → Outcome s es ts o e t r o' e' t'

@@ -63,10 +63,6 @@ module _ {A : Type 0} where
     every-at zero (x ∷ l) d h (also p ps) = p
     every-at (suc i) (x ∷ l) d h (also p ps) = every-at i l d (omega arith) ps
 
-    pub every_more : (l : List A) (x : A) → Every P l → P x → Every P (l ++ (x ∷ []))
-    every_more [] x nothing p = also p nothing
-    every_more (y ∷ l) x (also q qs) p = also q (every_more l x qs p)
-
     -- the element between two lists
     pub every-seam : (l : List A) (x : A) (r : List A) → Every P (l ++ (x ∷ r)) → P x
     every-seam [] x r (also p ps) = p

@@ -44,11 +44,10 @@ pub fn merge_frameless_packets(
     }
     let units = Units::new(packets, packet_ends)?;
     let all = Packets { units, times };
-    let c = all.next_close(0);
-    if c >= times.len() {
-        return merge_none(all, out, out_ends, out_times);
+    match all.next_close(0) {
+        Some(c) => merge_some(all, c, out, out_ends, out_times),
+        None => merge_none(all, out, out_ends, out_times),
     }
-    merge_some(all, c, out, out_ends, out_times)
 }
 
 // A unit without the delimiters behind its first place: written anew if there is one, else copied, as is a unit that

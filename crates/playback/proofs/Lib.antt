@@ -1,4 +1,5 @@
 pub mod GatherLaws
+pub mod SaysLaws
 pub mod ShownLaws
 pub mod WayLaws
 pub mod WalkLaws

@@ -34,8 +34,8 @@ fn put_units(listed: UnitList, units: &mut [u8], unit_ends: &mut [u32])
     ensures unit_ends_after { unit_ends.new ≡ pasted unit_ends.old 0 (ends_of 0 (units_listed listed.entry)) }
 {
     let mut at: usize = 0;
-    for i in 0..listed.list.len() {
-        at = put_bytes(units, at, listed.named(listed.list[i]));
+    for (i, entry) in listed.list.iter().enumerate() {
+        at = put_bytes(units, at, listed.named(*entry));
         unit_ends[i] = at as u32;
     }
 }

@@ -6,6 +6,7 @@ ghost use Rattle.playback.specs.Walk.{Walks};
 use crate::way::{Form, WayBuffers, play_list};
 use assemble::multi::{Buffers, assemble_multi};
 use assemble::unit::UnitList;
+use blocks::numbers::Segments;
 use pictures::fault::Fault;
 use pictures::settings::Settings;
 
@@ -13,14 +14,13 @@ use pictures::settings::Settings;
 // before it wrote.
 pub fn walk(
     form: Form,
-    picture: &[u8],
-    segments: &[u64],
+    segments: Segments<'_>,
     settings: Settings,
     cue: usize,
     buffers: &mut Buffers<'_, '_, '_, '_, '_, '_>,
     way: &mut WayBuffers<'_, '_, '_, '_, '_, '_>,
 ) -> Result<usize, Fault>
-    ensures walked { Walks (form_says form) cue (outcome picture.now segments.now settings) result (record {
+    ensures walked { Walks (form_says form) cue (outcome segments.entry.picture.now segments.entry.numbers.now settings) result (record {
       entry = lent_of buffers.old;
       exit = lent_of buffers.new;
     }) (record {
@@ -30,6 +30,6 @@ pub fn walk(
     ensures same_buffers { SameBuffers buffers.old buffers.new }
     ensures same_way { SameWayBuffers way.old way.new }
 {
-    let made = assemble_multi(picture, segments, settings, buffers)?;
+    let made = assemble_multi(segments, settings, buffers)?;
     Ok(play_list(form, UnitList::of(made, buffers), cue, way)?)
 }

@@ -21,8 +21,9 @@ pub enum Form {
     AnnexB,
 }
 
-// kept: what is only read is lent `&mut` too, here and in play_back: a field behind `&mut` that is lent to be read, beside
-// others that are written, is not covered by the borrow checker
+// kept: what is only read is lent `&mut` too, here and in play_back. Beside a field that is lent `&mut`, `&way.units[..n]` is
+// not covered by the borrow checker; by `let units = &mut *way.units;` and `&units[..n]` it is, but then what the field holds
+// afterwards is not known, and the proof stays open
 impl Form {
     // So many units, written in a container.
     fn write(

@@ -10,7 +10,7 @@ ghost use Rattle.replay_lists.specs.Lists.{settings_of, segment_records, slices_
 use crate::assembled::Slices;
 use assemble::multi::{Buffers, assemble_multi};
 use bitio::ends::{end_of, start_of};
-use blocks::numbers::{Segment, WIDTH, put_record, segment_count};
+use blocks::numbers::{Segment, Segments, WIDTH, put_record, segment_count};
 use pictures::settings::Settings;
 use protocol::answer::Answer;
 use protocol::lent::{BYTE_MARK, BYTES_LENT, END_MARK, ENDS_LENT, Lent};
@@ -57,16 +57,15 @@ fn put_segments(ends: &[u32], numbers: &[u64], segments: &mut [u64])
 // Assembly, and what it left in the slices.
 fn assemble_into(
     settings: Settings,
-    s: &[u8],
-    segments: &[u64],
+    segments: Segments<'_>,
     buffers: &mut Buffers<'_, '_, '_, '_, '_, '_>,
     memory: &mut Memory<'_, '_, '_>,
 ) -> Answer
-    ensures told { told_in (line result) memory.new ≡ outcome_told (outcome s.now segments.now settings (lent_of buffers.old)) (lent_of buffers.old) memory.old.bytes.now memory.old.ends.now memory.old.numbers.now }
+    ensures told { told_in (line result) memory.new ≡ outcome_told (outcome segments.entry.picture.now segments.entry.numbers.now settings (lent_of buffers.old)) (lent_of buffers.old) memory.old.bytes.now memory.old.ends.now memory.old.numbers.now }
     ensures same { SameMemory memory.old memory.new }
     ensures same_buffers { SameBuffers buffers.old buffers.new }
 {
-    let made = assemble_multi(s, segments, settings, buffers);
+    let made = assemble_multi(segments, settings, buffers);
     Slices::of(buffers).put_handed(made, memory)
 }
 
@@ -74,11 +73,10 @@ fn assemble_into(
 fn assemble_lent(
     settings: Settings,
     lent: Lent,
-    s: &[u8],
-    segments: &[u64],
+    segments: Segments<'_>,
     memory: &mut Memory<'_, '_, '_>,
 ) -> Answer
-    ensures told { told_in (line result) memory.new ≡ outcome_told (outcome s.now segments.now settings (slices_lent lent)) (slices_lent lent) memory.old.bytes.now memory.old.ends.now memory.old.numbers.now }
+    ensures told { told_in (line result) memory.new ≡ outcome_told (outcome segments.entry.picture.now segments.entry.numbers.now settings (slices_lent lent)) (slices_lent lent) memory.old.bytes.now memory.old.ends.now memory.old.numbers.now }
     ensures same { SameMemory memory.old memory.new }
 {
     let list = &mut [END_MARK; ENDS_LENT];
@@ -95,7 +93,7 @@ fn assemble_lent(
         shows,
         header,
     };
-    assemble_into(settings, s, segments, &mut buffers, memory)
+    assemble_into(settings, segments, &mut buffers, memory)
 }
 
 // assemble GOP FPS DEN KEY GOLDEN FRAMES ..
@@ -109,9 +107,12 @@ pub fn assemble(
     ensures told { told_in (line result) memory.new ≡ assemble_told lent s.now ends.now fields.now memory.old.bytes.now memory.old.ends.now memory.old.numbers.now }
     ensures same { SameMemory memory.old memory.new }
 {
-    let mut segments = [0u64; NUMBERS];
-    let segments = &mut segments[..WIDTH * (ends.len() / 2).min(SEGMENTS)];
-    put_segments(ends, fields, segments);
-    let settings = settings_of(fields);
-    assemble_lent(settings, lent, s, segments, memory)
+    let mut numbers = [0u64; NUMBERS];
+    let numbers = &mut numbers[..WIDTH * (ends.len() / 2).min(SEGMENTS)];
+    put_segments(ends, fields, numbers);
+    let segments = Segments {
+        picture: s,
+        numbers,
+    };
+    assemble_lent(settings_of(fields), lent, segments, memory)
 }

@@ -30,15 +30,7 @@ const NAMED: Item = Item {
 fn accounted(made: Result<Counts, Fault>) -> Counts
     ensures { result ≡ accounted_for (outcome_of made) }
 {
-    made.unwrap_or(Counts {
-        units: 0,
-        cues: 0,
-        picture: 0,
-        ends: 0,
-        shows: 0,
-        header: 0,
-        golden_slot: 0,
-    })
+    made.unwrap_or_default()
 }
 
 // How many entries name a unit, or could.

@@ -93,6 +93,7 @@ fn read_line<'a>(
 }
 
 // The same of what was kept of a line of so many characters: one that was too long is no request.
+// kept: more may be counted than was kept, which a slice cut to its length could not tell
 #[tactic(auto, unfolding(crate::specs::Requests::request_of))]
 pub fn read_request<'a>(
     len: usize,

@@ -1,5 +1,6 @@
 -- Runs of packets: what the code of merge_frameless_packets asks of them.
-use Rattle.std.specs.Prelude.{ℕ, ◌+◌, ◌≤◌, ◌<◌, ◌≡◌, List, [], ◌∷◌, ◌++◌, Bool, true, false, length, get_or}
+use Rattle.std.specs.List.{find, range_with_len}
+use Rattle.std.specs.Prelude.{ℕ, ◌+◌, ◌-◌, ◌≤◌, ◌==◌, not, ◌<◌, ◌≡◌, List, [], ◌∷◌, ◌++◌, Bool, true, false, length, get_or}
 use Rattle.std.proofs.Math.Seq.{slice}
 use Rattle.bitio.specs.Every.{Every}
 use Rattle.bitio.specs.Parse.{Answer, refused, accepted, answer, Head, stop, item}
@@ -13,7 +14,7 @@ use Rattle.packets.specs.Packets.{Packet, merge_packets}
 use Rattle.container.specs.Units.{units_at, ends_of, sizes_of, bytes_after, ends_after}
 use Rattle.container.specs.Lists.{listed, unit_of, accepts}
 use Rattle.packets.specs.PacketLists.{stamped, bytes_of, times_of, lent_room, merged_at, times_after}
-use Rattle.std.specs.Prelude.{Result}
+use Rattle.std.specs.Prelude.{Result, Option, Some, None}
 use Rattle.bitio.specs.Refusal.{says}
 use Rattle.bitio.specs.declared.refusal.Refusal.{Refusal}
 use Rattle.container.specs.declared.units.Sizes.{Sizes}
@@ -65,6 +66,20 @@ pub record Next (us : List (List ℕ)) (a c : ℕ) : Type 0 where
   pub wait : Every Waits (slice a c us)
   pub close : c < length us → closes (get_or us c []) ≡ true
 
+-- the first unit of those from a to b that closes
+abbrev pub next_close : List (List ℕ) → (a b : ℕ) → Option ℕ
+next_close us a b = find (λ i. closes (get_or us i [])) (range_with_len a (b - a))
+
+-- the next unit from a on that closes, if one does
+abbrev pub NextClose : List (List ℕ) → ℕ → Option ℕ → Type 0
+NextClose us a None = Next us a (length us)
+NextClose us a (Some c) = Next us a c × (c < length us)
+
+-- where what goes out ends, n being the number of units: at a, behind the unit that closes, or at the end if no other closes
+abbrev pub stop_of : Option ℕ → ℕ → ℕ → ℕ
+stop_of None a n = n
+stop_of (Some d) a n = a
+
 abbrev pub Empty : List ℕ → Type 0
 Empty u = length u ≡ 0
 
@@ -74,6 +89,15 @@ pub record Full (us : List (List ℕ)) (a b i : ℕ) : Type 0 where
   pub within : i ≤ b
   pub empty : Every Empty (slice a i us)
   pub full : i < b → 0 < length (get_or us i [])
+
+-- the first unit with bytes of those from a to b
+abbrev pub first_full : List (List ℕ) → (a b : ℕ) → Option ℕ
+first_full us a b = find (λ i. not (length (get_or us i []) == 0)) (range_with_len a (b - a))
+
+-- the first unit with bytes of those from a to b, if one has any
+abbrev pub FirstFull : List (List ℕ) → (a b : ℕ) → Option ℕ → Type 0
+FirstFull us a b None = Full us a b b
+FirstFull us a b (Some i) = Full us a b i × (i < b)
 
 -- the units from a to b parse
 pub record Run (s es : List ℕ) (a b : ℕ) : Type 0 where

@@ -1,7 +1,7 @@
 // Packets by their index.
-ghost use Rattle.std.specs.Prelude.{◌≡◌, ◌≤◌, length};
+ghost use Rattle.std.specs.Prelude.{◌≡◌, length};
 ghost use Rattle.container.specs.Lists.{listed};
-ghost use Rattle.packets.specs.code.PacketRuns.{closes as closesUnit, Next, Full};
+ghost use Rattle.packets.specs.code.PacketRuns.{closes as closesUnit, next_close, first_full};
 
 use container::lists::Units;
 use obu::unit::{Kind, count_obus};
@@ -24,32 +24,17 @@ fn closes(s: &[u8]) -> bool
 }
 
 impl<'a> Packets<'a> {
-    // The next packet that closes, from a on, or the number of packets.
-    // kept: a number stands for none, since the packets that wait then go on to there
-    pub(crate) fn next_close(self, a: usize) -> usize
-        requires { a ≤ length self.units.ends.now }
-        ensures { Next (listed self.entry.units.bytes.now self.entry.units.ends.now) a result }
+    // The next packet that closes, from a on.
+    pub(crate) fn next_close(self, a: usize) -> Option<usize>
+        ensures { result ≡ next_close (listed self.entry.units.bytes.now self.entry.units.ends.now) a (length self.entry.units.ends.now) }
     {
-        let n = self.units.count();
-        for i in a..n {
-            if closes(self.units.unit(i)) {
-                return i;
-            }
-        }
-        n
+        (a..self.units.count()).find(|i| closes(self.units.unit(*i)))
     }
 
-    // The first packet with bytes from a on, or b.
-    // kept: as above
-    pub(crate) fn first_full(self, a: usize, b: usize) -> usize
-        requires { (a ≤ b) × (b ≤ length self.units.ends.now) }
-        ensures { Full (listed self.entry.units.bytes.now self.entry.units.ends.now) a b result }
+    // The first packet with bytes of those from a to b.
+    pub(crate) fn first_full(self, a: usize, b: usize) -> Option<usize>
+        ensures { result ≡ first_full (listed self.entry.units.bytes.now self.entry.units.ends.now) a b }
     {
-        for i in a..b {
-            if !self.units.unit(i).is_empty() {
-                return i;
-            }
-        }
-        b
+        (a..b).find(|i| !self.units.unit(*i).is_empty())
     }
 }

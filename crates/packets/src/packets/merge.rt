@@ -22,8 +22,8 @@ fn measure(packets: Packets, c: usize) -> Sizes
 {
     let mut bytes: usize = 0;
     let mut units: usize = 0;
-    for x in Pieces::new(packets, c) {
-        bytes = bytes.saturating_add(packets.piece_len(x.first, x.close, x.stop));
+    for place in Pieces::new(packets, c) {
+        bytes = bytes.saturating_add(packets.piece_len(place));
         units += 1;
     }
     Sizes { bytes, units }
@@ -35,12 +35,10 @@ fn write(packets: Packets, c: usize, out: &mut [u8], out_ends: &mut [u32], out_t
     ensures { WroteMerged packets.entry.units.bytes.now packets.entry.units.ends.now packets.entry.times.now out.old out_ends.old out_times.old out.new out_ends.new out_times.new }
 {
     let mut w: usize = 0;
-    let mut u: usize = 0;
-    for x in Pieces::new(packets, c) {
-        w = packets.put_piece(x.first, x.close, x.stop, out, w);
+    for (u, place) in Pieces::new(packets, c).enumerate() {
+        w = packets.put_piece(place, out, w);
         out_ends[u] = w as u32;
-        out_times[u] = packets.times[x.close];
-        u += 1;
+        out_times[u] = packets.times[place.close];
     }
 }
 
@@ -74,10 +72,9 @@ pub(crate) fn merge_none(
     ensures { Outcome packets.entry.units.bytes.now packets.entry.units.ends.now packets.entry.times.now out.old out_ends.old out_times.old result out.new out_ends.new out_times.new }
 {
     let n = packets.times.len();
-    let i = packets.first_full(0, n);
-    if i >= n {
+    let Some(i) = packets.first_full(0, n) else {
         return Ok(Sizes { bytes: 0, units: 0 });
-    }
+    };
     let sizes = Sizes {
         bytes: packets.run_len(0, n, true),
         units: 1,

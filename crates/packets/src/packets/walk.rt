@@ -1,5 +1,6 @@
 // The output packets in order, by the packets that go into each.
-ghost use Rattle.std.specs.Prelude.{◌≡◌, cond as pick, ◌+◌, ◌<◌, ltb};
+ghost use Rattle.std.specs.Prelude.{◌≡◌, ◌+◌, ◌<◌, Some};
+ghost use Rattle.packets.specs.code.PacketRuns.{stop_of};
 
 use crate::packets::lists::Packets;
 
@@ -11,20 +12,23 @@ pub(crate) struct Place {
     pub(crate) stop: usize,
 }
 
-// The output packets from `first` on, the next of which closes at `close`.
+// The output packets from `first` on, the next of which closes at `close`; none is left if there is no such packet.
 #[derive(Clone, Copy)]
 pub(crate) struct Pieces<'a> {
     packets: Packets<'a>,
     first: usize,
-    close: usize,
+    close: Option<usize>,
 }
 
 // Where an output packet ends whose packet at c closes: behind it, or at the end if no other closes.
-fn stop_at(c: usize, next: usize, n: usize) -> usize
+fn stop_at(c: usize, next: Option<usize>, n: usize) -> usize
     requires { c < n }
-    ensures { result ≡ pick (ltb next n) (c + 1) n }
+    ensures { result ≡ stop_of next (c + 1) n }
 {
-    if next < n { c + 1 } else { n }
+    match next {
+        Some(_) => c + 1,
+        None => n,
+    }
 }
 
 impl<'a> Pieces<'a> {
@@ -32,12 +36,12 @@ impl<'a> Pieces<'a> {
 
     // All output packets, c being the first packet that closes.
     pub(crate) fn new(packets: Packets<'a>, c: usize) -> Pieces<'a>
-        ensures { Walks result packets.entry 0 c }
+        ensures { Walks result packets.entry 0 (Some c) }
     {
         Pieces {
             packets,
             first: 0,
-            close: c,
+            close: Some(c),
         }
     }
 }
@@ -54,15 +58,12 @@ impl<'a> Iterator for Pieces<'a> {
     ghost remaining = { packets_left };
 
     fn next(&mut self) -> Option<Place> {
-        let n = self.packets.times.len();
-        if self.first >= n {
-            return None;
-        }
-        let next = self.packets.next_close(self.close + 1);
+        let close = self.close?;
+        let next = self.packets.next_close(close + 1);
         let place = Place {
             first: self.first,
-            close: self.close,
-            stop: stop_at(self.close, next, n),
+            close,
+            stop: stop_at(close, next, self.packets.times.len()),
         };
         self.first = place.stop;
         self.close = next;

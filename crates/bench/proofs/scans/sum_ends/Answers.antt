@@ -8,7 +8,7 @@ pub loop-i-preserved : goal.loop-i-preserved
 loop-i-preserved c =
     let e : c.map_or-total.result ≡ end_or (says c.scan_header-scanned.result) = search rules in
     let z = left-next c.loop-i.invariant (omega arith) in
-    let z = rw (← c.start_of.ensures, ← c.end_of.ensures, ← c.payload-frame.ensures, ← c.scan_header-scanned.ensures.slots, ← c.scan_header-scanned.ensures.answer, ← e) at z in
+    let z = rw (← c.part_in.ensures, ← c.scan_header-scanned.ensures.slots, ← c.scan_header-scanned.ensures.answer, ← e) at z in
     record { whole = z }
 
 pub returns : goal.returns

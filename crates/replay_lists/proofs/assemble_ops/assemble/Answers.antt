@@ -10,4 +10,4 @@ returns-clause-told c =
     let n = c.min.ensures in
     let size = zeros_length (width * 10923) (width * c.min.result) (omega (arith, n)) ∙ ap (λ k. width * k) n in
     let records = c.put_segments.ensures ∙ records_whole _ _ _ (segments_asked c.args.ends.now) size in
-    rw (records, c.settings_of-settings.ensures) at c.assemble_lent.ensures.told
+    rw (records, c.settings_of.ensures) at c.assemble_lent.ensures.told

@@ -11,5 +11,5 @@ returns-clause-told c =
     let room = a.lent in
     let m = a.memory.now in
     c.assemble_into.ensures.told
-    ∙ ap (λ (d : Lent). outcome_told (outcome a.s.now a.segments.now a.settings d) d m.bytes.now m.ends.now m.numbers.now)
+    ∙ ap (λ (d : Lent). outcome_told (outcome a.segments.picture.now a.segments.numbers.now a.settings d) d m.bytes.now m.ends.now m.numbers.now)
     (same_slices _ _ _ (marks_taken room.ends 32768 end_mark c.min.ensures) (marks_taken room.numbers 32768 end_mark c.min-2.ensures) (marks_taken room.bytes 65536 byte_mark c.min-3.ensures))

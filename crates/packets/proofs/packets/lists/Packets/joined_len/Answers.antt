@@ -10,6 +10,6 @@ run_len-requires c = whole_run c.requires.all c.requires.mid
 
 pub returns : goal.returns
 returns c =
-    joined-size c.args.self.units.bytes.now c.args.self.units.ends.now c.args.a c.args.c c.args.b c.requires _ c.lead_of-u.ensures
+    joined-size c.args.self.units.bytes.now c.args.self.units.ends.now c.args.place.first c.args.place.close c.args.place.stop c.requires _ c.lead_of-u.ensures
     (c.written_len-head.ensures _ c.lead_end.ensures)
     c.run_len.ensures c.saturating_add.ensures

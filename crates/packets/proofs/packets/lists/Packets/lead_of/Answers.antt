@@ -14,8 +14,8 @@ returns-then-lead_end-gt0-2 c =
     let y = lead-yes c.lead_end-2.ensures (omega arith) in
     rw c.unit-closing.ensures (closing c.head_of-head.ensures (lead-no c.lead_end.ensures (omega arith)) (rw c.unit-closing.ensures at y))
 
-pub overflow_add-c : goal.overflow_add-c
-overflow_add-c c = let p = c.requires.all in omega (arith, p.after, p.within)
+pub overflow_add-place : goal.overflow_add-place
+overflow_add-place c = let p = c.requires.all in omega (arith, p.after, p.within)
 
 pub head_of-requires : goal.head_of-requires
 head_of-requires c = back-run c.requires.all

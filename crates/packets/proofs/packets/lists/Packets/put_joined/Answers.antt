@@ -9,15 +9,15 @@ put_written-next-requires c =
     record {
       os = _;
       range = c.lead_end.ensures;
-      room = joined-head c.args.self.units.bytes.now c.args.self.units.ends.now c.args.a c.args.c c.args.b c.requires.joins _ c.lead_of-u.ensures c.args.out.now c.args.to c.requires.room;
+      room = joined-head c.args.self.units.bytes.now c.args.self.units.ends.now c.args.place.first c.args.place.close c.args.place.stop c.requires.joins _ c.lead_of-u.ensures c.args.out.now c.args.to c.requires.room;
     }
 
 pub put_run-requires : goal.put_run-requires
 put_run-requires c =
-    joined-room c.args.self.units.bytes.now c.args.self.units.ends.now c.args.a c.args.c c.args.b c.requires.joins _ c.lead_of-u.ensures c.requires.room
+    joined-room c.args.self.units.bytes.now c.args.self.units.ends.now c.args.place.first c.args.place.close c.args.place.stop c.requires.joins _ c.lead_of-u.ensures c.requires.room
     (c.put_written-next.ensures _ c.lead_end.ensures)
 
 pub returns : goal.returns
 returns c =
-    joined-wrote c.args.self.units.bytes.now c.args.self.units.ends.now c.args.a c.args.c c.args.b c.requires.joins _ c.lead_of-u.ensures c.requires.room
+    joined-wrote c.args.self.units.bytes.now c.args.self.units.ends.now c.args.place.first c.args.place.close c.args.place.stop c.requires.joins _ c.lead_of-u.ensures c.requires.room
     (c.put_written-next.ensures _ c.lead_end.ensures) c.put_run.ensures
