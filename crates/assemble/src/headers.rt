@@ -51,7 +51,7 @@ impl Headers {
     }
 
     // Its payload.
-    pub(crate) fn payload<'a>(&'a self, segments: NonEmpty<'a>) -> &'a [u8]
+    pub(crate) fn payload<'a>(&'a self, segments: NonEmpty<'a, '_>) -> &'a [u8]
         ensures { result.now ≡ payload_in segments.entry.all.picture.now segments.entry.all.numbers.now self.now }
     {
         match self {

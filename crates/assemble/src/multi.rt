@@ -119,7 +119,7 @@ fn count_all(segments: NonEmpty, gop: u64, plan: &Plan) -> Counts
 
 // From segments.
 pub fn assemble_multi(
-    segments: Segments<'_>,
+    segments: Segments<'_, '_>,
     settings: Settings,
     buffers: &mut Buffers<'_, '_, '_, '_, '_, '_>,
 ) -> Result<Counts, Fault>

@@ -5,7 +5,7 @@ ghost use Rattle.blocks.specs.Numbers.{segment_count};
 use blocks::numbers::Segments;
 
 #[derive(Clone, Copy)]
-pub(crate) struct NonEmpty<'a> {
-    pub all: Segments<'a>,
+pub(crate) struct NonEmpty<'p, 'n> {
+    pub all: Segments<'p, 'n>,
     ghost some: { 1 ≤ segment_count all.numbers.now },
 }

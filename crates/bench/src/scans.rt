@@ -1,8 +1,8 @@
 // Frame headers scanned one behind the other under one sequence header, for comparisons: only where each ends is told.
 ghost use Rattle.std.specs.Prelude.{◌≡◌};
-ghost use Rattle.frame.specs.Frame.{removals_in};
 ghost use Rattle.bench.specs.Scans.{sum_of, scan_sum};
 
+use frame::frame_header::sections::removals;
 use header::seq_header::read::parse_sequence_header;
 use obu::reader::part_in;
 use uheader::dpb::empty_slots;
@@ -10,7 +10,7 @@ use uheader::scanner::Scanner;
 
 // The ends of all frames, summed modulo 2^64; 0 for a refused one.
 fn sum_ends(scanner: Scanner, frames: &[u8], ends: &[u32]) -> u64
-    ensures { result ≡ sum_of scanner.entry.sequence.now.header (removals_in scanner.entry.sequence.now) frames.now ends.now }
+    ensures { result ≡ sum_of scanner.entry.header.now scanner.entry.removals frames.now ends.now }
 {
     let mut slots = empty_slots();
     let mut total: u64 = 0;
@@ -28,7 +28,8 @@ pub fn scan_sum(sequence: &[u8], frames: &[u8], ends: &[u32]) -> u64
     match parse_sequence_header(sequence) {
         Ok(sequence) => {
             let scanner = Scanner {
-                sequence: &sequence,
+                header: &sequence.header,
+                removals: removals(sequence.points()),
             };
             sum_ends(scanner, frames, ends)
         }

@@ -68,15 +68,16 @@ fn bytes_between(picture: &[u8], a: u64, e: u64) -> &[u8]
     payload(picture, a as usize, e as usize)
 }
 
-// Segments in lent memory: the bytes that their units stand in, and their flat numbers.
+// Segments in lent memory: the bytes that their units stand in, and their flat numbers. A unit is a part of the bytes, and
+// can outlive the numbers.
 #[derive(Clone, Copy)]
-pub struct Segments<'a> {
-    pub picture: &'a [u8],
-    pub numbers: &'a [u64],
+pub struct Segments<'p, 'n> {
+    pub picture: &'p [u8],
+    pub numbers: &'n [u64],
 }
 
-impl<'a> Segments<'a> {
-    pub fn key(self, i: usize) -> &'a [u8]
+impl<'p> Segments<'p, '_> {
+    pub fn key(self, i: usize) -> &'p [u8]
         requires { i < segment_count self.numbers.now }
         ensures { result.now ≡ key_at self.entry.picture.now self.entry.numbers.now i }
     {
@@ -84,7 +85,7 @@ impl<'a> Segments<'a> {
         bytes_between(self.picture, segment.key_start, segment.key_end)
     }
 
-    pub fn golden(self, i: usize) -> &'a [u8]
+    pub fn golden(self, i: usize) -> &'p [u8]
         requires { i < segment_count self.numbers.now }
         ensures { result.now ≡ golden_at self.entry.picture.now self.entry.numbers.now i }
     {

@@ -11,7 +11,7 @@ use bitio::refusal::Refusal;
 use blocks::numbers::{Segments, WIDTH};
 use listing::file::{Layout, read_file};
 use listing::memory::{COUNT, ListMemory};
-use listing::text::{put_listing, put_refused, put_unread};
+use listing::text::{put_fault, put_listing, put_unread};
 
 // What is lent to assembly: the segments' numbers, and where it hands out.
 #[derive(Drop)]
@@ -62,7 +62,7 @@ impl Memory {
         let made = assemble_multi(segments, layout.settings, &mut buffers);
         match made {
             Ok(counts) => self.put_made(counts, out),
-            Err(fault) => put_refused(out, fault),
+            Err(fault) => put_fault(out, fault),
         }
     }
 

@@ -1,10 +1,11 @@
 -- Laws of a unit's scan: a walk over the OBUs, and which sequence header is taken.
-use Prim.Native.Nat.{ℕ}
+use Prim.Native.Nat.{ℕ, ◌≤◌, ◌<◌}
 use native.Mathlib.Omega.{arith}
 use mathlib.Core.Path.{◌≡◌, refl, sym, ap, ◌∙◌}
 use mathlib.Core.List.{List, [], ◌∷◌, ◌++◌}
 use mathlib.Core.Bool.{Bool, true, false, cond as pick}
 use lib.Dec.{leb}
+use borrow.Author.Tests.{le-leb, lt-leb}
 use lib.ListN.{drop}
 use Rattle.std.specs.Prelude.{Some, None, Result, Ok, Err}
 use Rattle.std.specs.Result.{result_unwrap_or}
@@ -21,7 +22,7 @@ use Rattle.obu.proofs.UnitLaws.{has-count}
 use Rattle.geometry.specs.declared.slots.RefSlot.{RefSlot}
 use Rattle.uheader.specs.Scan.{scan_payloads, slots_after}
 use Rattle.uheader.specs.declared.scan.HeaderScan.{HeaderScan}
-use Rattle.boardscan.specs.Scans.{Behind, scan_frame, scan_obus, sized, scan_all, scan_under, has_header, header_for, scan_unit}
+use Rattle.boardscan.specs.Scans.{Behind, scan_frame, scan_obus, sized, scan_all, scan_under, is_read, has_header, header_for, scan_unit}
 use Rattle.boardscan.specs.declared.scan.Left.{Left}
 
 -- ---- one OBU more
@@ -78,11 +79,11 @@ module _ (q : List ℕ) (slots : List RefSlot) (u : List ℕ) where
   unfolding scan_under and_next
   under-whole b front w h = rw (w, ← h)
 
-  -- a refusal of a frame, where the OBUs were counted
-  pub under-stopped : (p : Obu → Bool) (n k at : ℕ) (front : List Obu) → accepted n ≡ answer (count p) (obus u) → Walked u at front
-      → refused k ≡ scan_obus q none_yet front → refused k ≡ scan_under q slots u
+  -- a refusal of a frame, where the OBUs were read
+  pub under-stopped : (k at : ℕ) (front : List Obu) → is_read u ≡ true → Walked u at front → refused k ≡ scan_obus q none_yet front
+      → refused k ≡ scan_under q slots u
   unfolding scan_under and_next
-  under-stopped p n k at front e w h = go (obus (drop at u)) w.whole
+  under-stopped k at front e w h = go (obus (drop at u)) w.whole
     where
       go : (y : Answer (List Obu)) → obus u ≡ infront front y → refused k ≡ scan_under q slots u
       go (refused j) d = let r = rw d at e in let z : ◌≡◌ {A = ℕ} 0 1 = cc in absurd (omega arith)
@@ -93,6 +94,11 @@ pub counted_refused : (p : Obu → Bool) (k : ℕ) (x : Answer (List Obu)) → r
 counted_refused p k (refused j) e = let i : j ≡ k = cc in ap (λ y. refused y) i
 counted_refused p k (accepted os) e = let z : ◌≡◌ {A = ℕ} 0 1 = cc in absurd (omega arith)
 
+-- and so that they are read
+pub counted_read : (p : Obu → Bool) (n : ℕ) (x : Answer (List Obu)) → accepted n ≡ answer (count p) x → of_unit false (λ os. true) x ≡ true
+counted_read p n (refused j) e = let z : ◌≡◌ {A = ℕ} 0 1 = cc in absurd (omega arith)
+counted_read p n (accepted os) e = refl
+
 -- ---- the sequence header
 
 pub counted_has : (r : Result ℕ Refusal) (x : Answer (List Obu)) → says r ≡ answer (count is_sequence) x → leb 1 (result_unwrap_or r 0) ≡ of_unit false (has is_sequence) x
@@ -100,6 +106,13 @@ counted_has (Err e) (refused k) h = refl
 counted_has (Err e) (accepted os) h = let z : ◌≡◌ {A = ℕ} 0 1 = cc in absurd (omega arith)
 counted_has (Ok n) (refused k) h = let z : ◌≡◌ {A = ℕ} 0 1 = cc in absurd (omega arith)
 counted_has (Ok n) (accepted os) h = let i : n ≡ count is_sequence os = cc in ap (leb 1) i ∙ has-count is_sequence os
+
+-- the same of a unit whose sequence headers were counted
+pub counted_own : (n : ℕ) (x : Answer (List Obu)) → accepted n ≡ answer (count is_sequence) x → 1 ≤ n → of_unit false (has is_sequence) x ≡ true
+counted_own n x e h = sym (counted_has (Ok n) x e) ∙ le-leb 1 n h
+
+pub counted_none : (n : ℕ) (x : Answer (List Obu)) → accepted n ≡ answer (count is_sequence) x → n < 1 → of_unit false (has is_sequence) x ≡ false
+counted_none n x e h = sym (counted_has (Ok n) x e) ∙ lt-leb 1 n h
 
 module _ (lead : List ℕ) (slots : List RefSlot) (u : List ℕ) where
   -- scan_unit, from the unit's OBUs on

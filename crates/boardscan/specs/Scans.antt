@@ -1,8 +1,8 @@
 -- The frames of a board's units, scanned (02 §2).
-use Rattle.std.specs.Prelude.{ℕ, List, [], ◌∷◌, Bool, false, cond as pick, Option, Some, None}
+use Rattle.std.specs.Prelude.{ℕ, List, [], ◌∷◌, Bool, true, false, cond as pick, Option, Some, None}
 use Rattle.std.specs.Option.{option_or}
 use Rattle.bitio.specs.Refusal.{says}
-use Rattle.bitio.specs.Parse.{Answer, refused, accepted, and_next}
+use Rattle.bitio.specs.Parse.{Answer, refused, accepted, answer, and_next}
 use Rattle.obu.specs.Obu.{Obu, obus}
 use Rattle.obu.specs.Unit.{is_sequence, is_frame, has, first_payload, of_unit, sequence_payload}
 use Rattle.geometry.specs.declared.size.Size.{Size}
@@ -47,6 +47,10 @@ scan_all q slots os = and_next (scan_obus q (record { first = None; slots = slot
 unfoldable pub scan_under : List ℕ → List RefSlot → List ℕ → Answer Left
 scan_under q slots u = and_next (obus u) (scan_all q slots)
 
+-- whether its OBUs are read
+abbrev pub is_read : List ℕ → Bool
+is_read u = of_unit false (λ os. true) (obus u)
+
 abbrev pub has_header : List ℕ → Bool
 has_header u = of_unit false (has is_sequence) (obus u)
 
@@ -64,14 +68,17 @@ abbrev pub slots_behind : List RefSlot → Answer Left → List RefSlot
 slots_behind slots (refused k) = slots
 slots_behind slots (accepted l) = l.slots
 
--- its key and its golden, and the slots behind both
+-- the sizes of its key and of its golden, and the slots behind both
 pub record Board : Type 0 where
-  pub key : Answer Left
-  pub golden : Answer Left
+  pub key : Answer Size
+  pub golden : Answer Size
   pub slots : List RefSlot
 
+abbrev pub size_of : Answer Left → Answer Size
+size_of a = answer (λ l. l.size) a
+
 abbrev pub board_of : Answer Left → List RefSlot → Answer Left → Board
-board_of k between g = record { key = k; golden = g; slots = slots_behind between g }
+board_of k between g = record { key = size_of k; golden = size_of g; slots = slots_behind between g }
 
 -- the golden behind the key, which leads it
 abbrev pub golden_behind : List ℕ → List ℕ → Answer Left → List RefSlot → Board

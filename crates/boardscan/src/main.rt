@@ -13,7 +13,7 @@ use text::{Page, flush, put_segment, put_unread};
 // Board by board, so that the text of any number of them has room.
 fn put_segments(segments: Segments, page: &mut Page) {
     for i in 0..segment_count(segments.numbers) {
-        put_segment(page, i, scan_segment(segments.key(i), segments.golden(i)));
+        put_segment(page, i, &scan_segment(segments.key(i), segments.golden(i)));
     }
 }
 

@@ -1,5 +1,5 @@
 // The frames of a board's units, scanned: the sizes of its key and its golden, and the slots behind both (02 §2).
-ghost use Rattle.std.specs.Prelude.{◌≡◌};
+ghost use Rattle.std.specs.Prelude.{◌≡◌, true};
 ghost use Rattle.bitio.specs.Refusal.{says};
 ghost use Rattle.boardscan.specs.Scans as spec;
 
@@ -18,19 +18,19 @@ pub struct Left {
     pub slots: [RefSlot; 8],
 }
 
-// The key, the golden, and the slots behind both.
+// The sizes of the key and of the golden, and the slots behind both.
 #[derive(Clone, Copy)]
 pub struct SegmentScan {
-    pub key: Result<Left, Refusal>,
-    pub golden: Result<Left, Refusal>,
+    pub key: Result<Size, Refusal>,
+    pub golden: Result<Size, Refusal>,
     pub slots: [RefSlot; 8],
 }
 
-// A unit's frames under a sequence header. A refusal of its OBUs leads those of its frames.
+// The frames of a unit whose OBUs were read, under a sequence header.
 fn scan_frames(unit: &[u8], sequence: &[u8], slots: [RefSlot; 8]) -> Result<Left, Refusal>
+    requires { spec.is_read unit.now ≡ true }
     ensures { says result ≡ spec.scan_under sequence.now slots unit.now }
 {
-    count_obus(unit, Kind::Any)?;
     let mut behind = slots;
     let mut first: Option<Size> = None;
     for found in Obus::new(unit) {
@@ -53,17 +53,17 @@ fn has_header(unit: &[u8]) -> bool
     count_obus(unit, Kind::SequenceHeader).unwrap_or(0) >= 1
 }
 
-// A unit under its own first sequence header, or under that of the unit that leads it.
+// A unit under its own first sequence header, or under that of the unit that leads it. A refusal of its OBUs leads.
 pub(crate) fn scan_unit(unit: &[u8], lead: &[u8], slots: [RefSlot; 8]) -> Result<Left, Refusal>
     ensures { says result ≡ spec.scan_unit lead.now slots unit.now }
 {
-    if has_header(unit) {
+    let own = count_obus(unit, Kind::SequenceHeader)?;
+    if own >= 1 {
         return scan_frames(unit, first_payload(unit, Kind::SequenceHeader), slots);
     }
     if has_header(lead) {
         return scan_frames(unit, first_payload(lead, Kind::SequenceHeader), slots);
     }
-    count_obus(unit, Kind::Any)?;
     Err(Refusal::NoSequenceHeader)
 }
 
@@ -87,8 +87,8 @@ pub(crate) fn scan_segment(key: &[u8], golden: &[u8]) -> SegmentScan
     let between = slots_behind(slots, first);
     let second = scan_unit(golden, key, between);
     SegmentScan {
-        key: first,
-        golden: second,
+        key: first.map(|left| left.size),
+        golden: second.map(|left| left.size),
         slots: slots_behind(between, second),
     }
 }

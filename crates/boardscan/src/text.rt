@@ -1,7 +1,7 @@
 // The lines of a board, on a page that is written out before the next board's.
 ghost use Rattle.std.specs.Prelude.{◌≡◌, ◌+◌, ◌≤◌};
 
-use crate::scan::{Left, SegmentScan};
+use crate::scan::SegmentScan;
 use bitio::refusal::Refusal;
 use geometry::size::Size;
 use geometry::slots::RefSlot;
@@ -31,12 +31,12 @@ fn put_size(page: &mut Page, size: Size, last: u8)
     page.put_number(u64::from(size.render_height), last);
 }
 
-fn put_answer(page: &mut Page, answer: Result<Left, Refusal>)
+fn put_answer(page: &mut Page, answer: Result<Size, Refusal>)
     requires { page.old.end + 128 ≤ 2048 }
     ensures { page.new.end ≤ page.old.end + 128 }
 {
     match answer {
-        Ok(left) => put_size(page, left.size, b'\n'),
+        Ok(size) => put_size(page, size, b'\n'),
         Err(refusal) => page.put_named(b"refused ", u64::from(u32::from(refusal)), b'\n'),
     }
 }
@@ -64,6 +64,7 @@ fn put_slot(page: &mut Page, i: usize, slot: RefSlot)
 
 fn put_slots(page: &mut Page, slots: &[RefSlot; 8])
     requires { page.old.end + 1536 ≤ 2048 }
+    ensures { page.new.end ≤ page.old.end + 1536 }
 {
     for (i, slot) in slots.iter().enumerate() {
         put_slot(page, i, *slot);
@@ -71,7 +72,7 @@ fn put_slots(page: &mut Page, slots: &[RefSlot; 8])
 }
 
 // All lines of board i.
-pub(crate) fn put_segment(page: &mut Page, i: usize, scan: SegmentScan) {
+pub(crate) fn put_segment(page: &mut Page, i: usize, scan: &SegmentScan) {
     flush(page);
     page.put_named(b"segment ", i as u64, b'\n');
     page.put_word(b"key ");

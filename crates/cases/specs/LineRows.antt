@@ -1,10 +1,9 @@
 -- Lines of replay's protocol, read and printed, in ASCII codes.
 use Rattle.std.specs.Prelude.{ℕ, List, [], ◌∷◌, Bool, true, false, Option, Some, None, Result, Ok, Err, length}
-use Rattle.std.specs.Str.{bytes_eq}
 use mir.Val.{bool_byte}
 use Rattle.bitio.specs.Parse.{Answer, accepted}
 use Rattle.protocol.specs.Answers.{parts_of}
-use Rattle.protocol.specs.Text.{ascii, word}
+use Rattle.protocol.specs.Text.{ascii, is_named}
 use Rattle.protocol.specs.Kinds.{Form, just, any, then_any, plain}
 use Rattle.protocol.specs.Room.{room_prefix}
 use Rattle.protocol.specs.Told.{Told, told}
@@ -23,10 +22,6 @@ room_lent (Some r) next = 1 ∷ r.bytes ∷ r.ends ∷ r.times ∷ next ∷ []
 abbrev room_numbers : Result Prefix LineRoom → List ℕ
 room_numbers (Err r) = r.bytes ∷ r.ends ∷ r.times ∷ []
 room_numbers (Ok p) = room_lent p.room p.next
-
--- whether a line's first word is a name
-abbrev is_named : List ℕ → List ℕ → ℕ
-is_named name s = bool_byte (bytes_eq (word 32 s) name)
 
 -- where reading stopped, how many bytes, byte strings and numbers were read, and after a bad field how many kinds are left
 abbrev place_numbers : Result Place Place → List ℕ
@@ -53,7 +48,7 @@ line_rows =
     -- `room 5 x 3`, a bad one
     ∷ (accepted (room_numbers (room_prefix (114 ∷ 111 ∷ 111 ∷ 109 ∷ 32 ∷ 53 ∷ 32 ∷ 120 ∷ 32 ∷ 51 ∷ [])) ∷ []), accepted ((5 ∷ 0 ∷ 0 ∷ []) ∷ []))
     -- `leb` is named so, and not behind a NUL
-    ∷ (accepted ((is_named (ascii "leb") (108 ∷ 101 ∷ 98 ∷ 32 ∷ 48 ∷ 48 ∷ []) ∷ is_named (ascii "leb") (0 ∷ 108 ∷ 101 ∷ 98 ∷ []) ∷ []) ∷ []), accepted ((1 ∷ 0 ∷ []) ∷ []))
+    ∷ (accepted ((bool_byte (is_named (ascii "leb") (108 ∷ 101 ∷ 98 ∷ 32 ∷ 48 ∷ 48 ∷ [])) ∷ bool_byte (is_named (ascii "leb") (0 ∷ 108 ∷ 101 ∷ 98 ∷ [])) ∷ []) ∷ []), accepted ((1 ∷ 0 ∷ []) ∷ []))
     -- `bits 0a0b 12 3`, whose fields start at 5
     ∷ (accepted (field_numbers (fields_of (98 ∷ 105 ∷ 116 ∷ 115 ∷ 32 ∷ 48 ∷ 97 ∷ 48 ∷ 98 ∷ 32 ∷ 49 ∷ 50 ∷ 32 ∷ 51 ∷ []) 5 (just (plain Bytes ∷ plain Number ∷ plain Number ∷ [])) (1 ∷ 2 ∷ 3 ∷ []) (9 ∷ 9 ∷ []) (8 ∷ 8 ∷ 8 ∷ []))), accepted ((15 ∷ 2 ∷ 1 ∷ 2 ∷ []) ∷ (10 ∷ 11 ∷ 3 ∷ []) ∷ (2 ∷ 9 ∷ []) ∷ (12 ∷ 3 ∷ 8 ∷ []) ∷ []))
     -- `x 00 q`, whose fields start at 2, and whose number is bad

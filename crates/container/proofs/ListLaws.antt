@@ -5,11 +5,10 @@ use native.Mathlib.Omega.{arith}
 use mathlib.Core.Path.{◌≡◌, refl, sym, ap, ◌∙◌}
 use mathlib.Core.List.{List, [], ◌∷◌, ◌++◌}
 use mathlib.Core.Bool.{Bool, true, false, cond as pick, ◌&&◌, and-false}
-use lib.ListN.{length, get_or, take, drop, length-drop, take-append-drop, length-append}
-use lib.Seq.{drop-drop}
+use lib.ListN.{length, get_or, take, drop, length-drop, take-append-drop, drop_of_length-le, length-append, get_or-eq_default}
+use lib.Seq.{drop-cons, drop-drop}
 use lib.Dec.{leb, eqb}
 use borrow.Author.Tests.{le-leb, lt-leb, leb-true, leb-false, eqb-true, eq-eqb, ne_eqb}
-use Rattle.std.specs.List.Sorted.{IsNonDecreasing}
 use Rattle.bitio.specs.Every.{Every}
 use Rattle.bitio.specs.Every.Every.{nothing, also}
 use Rattle.bitio.specs.Parse.{Answer, refused, accepted, onto, and_next}
@@ -71,7 +70,7 @@ units-some s es e = go (units_at s es) e
 -- ---- each unit by its index
 
 -- ends from `at` on never fall, and the last is n
-unfoldable rising : ℕ → ℕ → List ℕ → Bool
+unfoldable pub rising : ℕ → ℕ → List ℕ → Bool
 rising at n [] = eqb at n
 rising at n (e ∷ es) = leb at e && rising e n es
 
@@ -158,6 +157,10 @@ listed-part-from at s (e ∷ es) (suc i) = listed-part-from e s es i
 pub listed-part : (s es : List ℕ) (i : ℕ) → part_in s es i ≡ unit_of s es i
 listed-part s es i = listed-part-from 0 s es i
 
+-- behind the last there is none
+pub listed-out : (s es : List ℕ) (i : ℕ) → length es ≤ i → unit_of s es i ≡ []
+listed-out s es i h = get_or-eq_default (listed s es) [] (omega (arith, listed-length 0 s es))
+
 -- no unit is longer than all bytes
 pub unit-short : (s es : List ℕ) (i : ℕ) → length (unit_of s es i) ≤ length s
 unit-short s es i = rw (← listed-part s es i) (part-short s (get_or (0 ∷ es) i 0) (get_or es i 0))
@@ -169,45 +172,84 @@ listed-short at s (e ∷ es) = also (part-short s at e) (listed-short e s es)
 
 -- ---- the check
 
--- ends that do not fall, from one that is no more than the first
-rising-up : (at n : ℕ) (es : List ℕ) → IsNonDecreasing es → (0 < length es → at ≤ get_or es 0 0) → get_or (at ∷ es) (length es) 0 ≡ n → rising at n es ≡ true
+rising-within : (at n : ℕ) (es : List ℕ) (i : ℕ) → rising at n es ≡ true → i < length es → (get_or (at ∷ es) i 0 ≤ get_or es i 0) × (get_or es i 0 ≤ n)
 unfolding rising
-rising-up at n [] f h l = eq-eqb at n l
-rising-up at n (e ∷ es) f h l =
-    rw (le-leb at e (h (omega arith))) (rising-up e n es (λ i j d a b. f (suc i) (suc j) d (omega arith) (omega arith)) (λ b. f 0 1 0 (omega arith) (omega arith)) l)
-
--- an end that falls
-rising-falls : (at n : ℕ) (es : List ℕ) (k : ℕ) → suc k < length es → get_or es (suc k) 0 < get_or es k 0 → rising at n es ≡ false
-unfolding rising
-rising-falls at n [] k b l = absurd (omega arith)
-rising-falls at n (e ∷ []) k b l = absurd (omega arith)
-rising-falls at n (e ∷ (x ∷ es)) zero b l = rw (lt-leb e x l) (and-false (leb at e))
-rising-falls at n (e ∷ (x ∷ es)) (suc k) b l = rw (rising-falls e n (x ∷ es) k (omega arith) l) (and-false (leb at e))
-
-rising-last : (at n : ℕ) (es : List ℕ) → rising at n es ≡ true → get_or (at ∷ es) (length es) 0 ≡ n
-unfolding rising
-rising-last at n [] e = eqb-true at n e
-rising-last at n (x ∷ es) e = rising-last x n es (and_both (leb at x) (rising x n es) e).1
+rising-within at n [] i e h = absurd (omega arith)
+rising-within at n (x ∷ es) zero e h = let (a, b) = and_both (leb at x) (rising x n es) e in (leb-true at x a, rising-most x n es b)
+rising-within at n (x ∷ es) (suc i) e h = rising-within x n es i (and_both (leb at x) (rising x n es) e).1 (omega arith)
 
 module _ (s es : List ℕ) where
   there : units_at s es ≡ given 0 s es
   there = units-given 0 s es (omega arith)
 
-  pub list-good : IsNonDecreasing es → get_or (0 ∷ es) (length es) 0 ≡ length s → accepts (units_at s es) ≡ true
-  list-good f l = rw (there, rising-up 0 (length s) es f (λ b. omega arith) l)
-
   not-rising : rising 0 (length s) es ≡ false → units_at s es ≡ refused 36
   not-rising e = there ∙ rw e
 
-  pub list-falls : (k : ℕ) → k + 1 < length es → get_or es (k + 1) 0 < get_or es k 0 → units_at s es ≡ refused 36
-  list-falls k b l = not-rising (rising-falls 0 (length s) es k (omega arith) (rw add-one at l))
-
-  pub list-other : (get_or (0 ∷ es) (length es) 0 ≡ length s → ⊥) → units_at s es ≡ refused 36
-  list-other n = not-rising (go (rising 0 (length s) es) refl)
+  -- a list that is none is refused with 36
+  pub units-refused : accepts (units_at s es) ≡ false → units_at s es ≡ refused 36
+  units-refused e = there ∙ go (rising 0 (length s) es) (sym (ap accepts there) ∙ e)
     where
-      go : (b : Bool) → rising 0 (length s) es ≡ b → b ≡ false
-      go true e = absurd (n (rising-last 0 (length s) es e))
-      go false e = refl
+      go : (b : Bool) → accepts (pick b (accepted (listed s es)) (refused 36)) ≡ false → pick b (accepted (listed s es)) (refused 36) ≡ refused 36
+      go true q = let z : ◌≡◌ {A = ℕ} 0 1 = cc in absurd (omega arith)
+      go false q = refl
+
+  -- each end lies behind the one before it, and within the bytes
+  pub list-within : (i : ℕ) → accepts (units_at s es) ≡ true → i < length es → (get_or (0 ∷ es) i 0 ≤ get_or es i 0) × (get_or es i 0 ≤ length s)
+  list-within i a h = go (rising 0 (length s) es) refl (sym (ap accepts there) ∙ a)
+    where
+      go : (b : Bool) → rising 0 (length s) es ≡ b → accepts (pick b (accepted (listed s es)) (refused 36)) ≡ true
+          → (get_or (0 ∷ es) i 0 ≤ get_or es i 0) × (get_or es i 0 ≤ length s)
+      go true r q = rising-within 0 (length s) es i r h
+      go false r q = let z : ◌≡◌ {A = ℕ} 0 1 = cc in absurd (omega arith)
+
+  -- so that a unit is a slice of them
+  pub list-slice : (i : ℕ) → accepts (units_at s es) ≡ true → i < length es → take (get_or es i 0 - get_or (0 ∷ es) i 0) (drop (get_or (0 ∷ es) i 0) s) ≡ unit_of s es i
+  unfolding part span
+  list-slice i a h =
+      let w = list-within i a h in
+      let e : part s (get_or (0 ∷ es) i 0) (get_or es i 0) ≡ take (get_or es i 0 - get_or (0 ∷ es) i 0) (drop (get_or (0 ∷ es) i 0) s) =
+      rw (le-leb (get_or (0 ∷ es) i 0) (get_or es i 0) w.0, le-leb (get_or es i 0) (length s) w.1) in
+      sym e ∙ listed-part s es i
+
+-- the ends before i never fall, and the last of them is at: those behind decide
+pub record Checking (s es : List ℕ) (at i : ℕ) : Type 0 where
+  pub within : at ≤ length s
+  pub same : rising 0 (length s) es ≡ rising at (length s) (drop i es)
+
+pub checking-start : {s es : List ℕ} → Checking s es 0 0
+checking-start = record { within = omega arith; same = refl }
+
+module _ {s es : List ℕ} {at i : ℕ} (c : Checking s es at i) where
+  ending : length es ≤ i → rising 0 (length s) es ≡ eqb at (length s)
+  unfolding rising
+  ending h = c.same ∙ rw (drop_of_length-le es h)
+
+  pub checking-other : length es ≤ i → (at ≡ length s → ⊥) → units_at s es ≡ refused 36
+  checking-other h n = not-rising s es (ending h ∙ ne_eqb at (length s) n)
+
+  pub checking-good : length es ≤ i → at ≡ length s → accepts (units_at s es) ≡ true
+  checking-good h e = rw (there s es, ending h, eq-eqb at (length s) e)
+
+  module _ (h : i < length es) where
+    abbrev e : ℕ
+    e = get_or es i 0
+
+    turn : rising 0 (length s) es ≡ (leb at e && rising e (length s) (drop (suc i) es))
+    unfolding rising
+    turn = c.same ∙ rw (drop-cons es i 0 h)
+
+    pub checking-falls : e < at → units_at s es ≡ refused 36
+    checking-falls l = not-rising s es (turn ∙ rw (lt-leb at e l))
+
+    pub checking-passes : length s < e → units_at s es ≡ refused 36
+    checking-passes l = not-rising s es (turn ∙ rw (over (rising e (length s) (drop (suc i) es)) refl) (and-false (leb at e)))
+      where
+        over : (b : Bool) → rising e (length s) (drop (suc i) es) ≡ b → rising e (length s) (drop (suc i) es) ≡ false
+        over true r = let m = rising-most e (length s) (drop (suc i) es) r in absurd (omega arith)
+        over false r = r
+
+    pub checking-next : at ≤ e → e ≤ length s → Checking s es e (i + 1)
+    checking-next l m = record { within = m; same = rw (turn, le-leb at e l, add-one) }
 
 -- and what they are where a list was made of them
 pub list-listed : (x : Units) → units_at x.bytes.now x.ends.now ≡ accepted (listed x.bytes.now x.ends.now)

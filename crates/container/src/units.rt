@@ -4,6 +4,13 @@ ghost use Rattle.container.specs.Limits.{fits, bytes_room, room_in};
 
 use bitio::limits::LIMIT;
 
+// Whether lent memory, and document 01's limit, can hold a result that was measured.
+pub fn has_room(bytes: usize, units: usize, out_len: usize, ends_len: usize) -> bool
+    ensures { result ≡ fits bytes units (record { bytes = out_len; ends = ends_len }) }
+{
+    bytes <= LIMIT && (bytes <= out_len && units <= ends_len)
+}
+
 #[derive(Clone, Copy)]
 pub struct Sizes {
     pub bytes: usize,
@@ -11,17 +18,17 @@ pub struct Sizes {
 }
 
 impl Sizes {
-    // Whether lent memory, and document 01's limit, can hold them.
+    // The same of lent memory itself.
     pub fn have_room(self, out: &[u8], ends: &[u32]) -> bool
         ensures { result ≡ fits self.bytes self.units (room_in out.now ends.now) }
     {
-        self.bytes <= LIMIT && (self.bytes <= out.len() && self.units <= ends.len())
+        has_room(self.bytes, self.units, out.len(), ends.len())
     }
 }
 
-// The same of bytes alone.
+// And of bytes alone.
 pub fn have_room(bytes: usize, out: &[u8]) -> bool
     ensures { result ≡ fits bytes 0 (bytes_room (length out.now)) }
 {
-    bytes <= LIMIT && bytes <= out.len()
+    has_room(bytes, 0, out.len(), 0)
 }

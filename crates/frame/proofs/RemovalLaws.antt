@@ -1,21 +1,30 @@
 -- The operating points that have a removal time: counted one after another, and AV1's loop over them.
 use Prim.Native.Nat.{ℕ, suc}
-use mathlib.Core.Path.{◌≡◌, refl, ap}
+use mathlib.Core.Path.{◌≡◌, refl, ap, ◌∙◌}
 use mathlib.Core.List.{List, [], ◌∷◌}
 use mathlib.Core.Bool.{Bool, true, false, cond as pick}
 use native.Mathlib.Omega.{arith}
 use Rattle.bitio.specs.Bits.{Reading, fails, reads, and_then, read_bits}
-use Rattle.std.specs.Prelude.{count_by}
+use Rattle.std.specs.Prelude.{count_by, take}
 use Rattle.std.proofs.lemmas.List.Recursion.{is_count_by}
 use Rattle.obu.specs.Unit.{count}
 use Rattle.syntax.specs.Syntax.{Syntax, field, read_over, run}
 use Rattle.syntax.specs.Repeat.{times}
+use Rattle.header.specs.SequencePoints.{point_count}
+use Rattle.header.specs.Sequence.{sequence_in}
 use Rattle.header.specs.declared.seq_header.OperatingPoint.{OperatingPoint}
+use Rattle.header.specs.declared.seq_header.SequenceObu.{SequenceObu}
+use Rattle.frame.specs.Frame.{modelled, removals}
 
 -- a count as the library has it
 pub count_is : {A : Type 0} (has : A → Bool) (xs : List A) → count has xs ≡ count_by has xs
 unfolding count
 count_is has xs = is_count_by (count has) has refl (λ x xs. ap (λ (n : ℕ). pick (has x) n (count has xs)) (omega arith)) xs
+
+-- counted over the operating points that a header has, it is the header's
+pub removals-counted : (x : SequenceObu) {n : ℕ} {ps : List OperatingPoint} → n ≡ count modelled ps → ps ≡ take (point_count x.header.opening) x.operating_points
+    → n ≡ removals modelled (sequence_in x)
+removals-counted x e p = e ∙ ap (count modelled) p
 
 -- ---- AV1's loop
 

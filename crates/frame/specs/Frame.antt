@@ -7,14 +7,13 @@ use Rattle.syntax.specs.Syntax.{Syntax, done, field, refuse, branch, sub, read_o
 use Rattle.syntax.specs.Repeat.{times}
 use Rattle.bitio.specs.Fields.{answer_of}
 use Rattle.header.specs.SequenceCoding.{select}
-use Rattle.header.specs.Sequence.{Sequence, parse_sequence, sequence_in}
+use Rattle.header.specs.Sequence.{Sequence, parse_sequence}
 use Rattle.header.specs.Support.{has_point_info}
 use Rattle.header.specs.declared.seq_header.OperatingPoint.{OperatingPoint}
 use Rattle.header.specs.declared.seq_header.DecoderModelInfo.{DecoderModelInfo}
 use Rattle.header.specs.declared.seq_header.Opening.{Opening}
 use Rattle.header.specs.declared.seq_header.Coding.{Coding}
 use Rattle.header.specs.declared.seq_header.SequenceHeader.{SequenceHeader}
-use Rattle.header.specs.declared.seq_header.SequenceObu.{SequenceObu}
 use Rattle.frame.specs.declared.frame_header.FrameStart.{FrameStart}
 use Rattle.frame.specs.declared.frame_header.FrameModes.{FrameModes}
 use Rattle.frame.specs.declared.frame_header.FrameFront.{FrameFront}
@@ -46,10 +45,6 @@ layered temporal spatial x =
 -- how many removal times a frame header has: AV1 reads one for each such point, and nothing is kept of them here
 abbrev pub removals : (OperatingPoint → Bool) → Sequence → ℕ
 removals has q = count has q.points
-
--- the same by the Rust's, of a header that was read
-abbrev pub removals_in : SequenceObu → ℕ
-removals_in x = removals modelled (sequence_in x)
 
 -- ---- the sections
 

@@ -10,9 +10,9 @@ type_number Inter = 1
 type_number IntraOnly = 2
 type_number Switch = 3
 
--- the type of a number
+-- the type of a number; one above 3, which no two bits give, is neither intra nor a switch
 abbrev pub frame_type_of : ℕ → FrameType
-frame_type_of n = pick (eqb n 0) Key (pick (eqb n 1) Inter (pick (eqb n 2) IntraOnly Switch))
+frame_type_of n = pick (eqb n 0) Key (pick (eqb n 2) IntraOnly (pick (eqb n 3) Switch Inter))
 
 abbrev pub is_key : FrameType → Bool
 is_key Key = true

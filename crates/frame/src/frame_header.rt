@@ -24,16 +24,16 @@ impl FrameType {
     }
 }
 
-// That of two bits.
+// That of two bits; a number above 3 is neither intra nor a switch.
 impl From<u64> for FrameType {
     ghost from_gives = { λ bits t. t ≡ frame_type_of bits };
 
     fn from(bits: u64) -> FrameType {
         match bits {
             0 => FrameType::Key,
-            1 => FrameType::Inter,
             2 => FrameType::IntraOnly,
-            _ => FrameType::Switch,
+            3 => FrameType::Switch,
+            _ => FrameType::Inter,
         }
     }
 }

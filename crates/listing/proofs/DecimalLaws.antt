@@ -67,6 +67,10 @@ decimal_log (suc k) n h g =
     let t = decimal_log k (n / 10) (omega arith) (omega arith) in
     omega (arith, decimal_length n (omega arith), t)
 
+-- and of a number that has more than one digit
+pub decimal_large : (k n : ℕ) → 10 ≤ n → 10 ^ k ≤ n → n < 10 * 10 ^ k → length (decimal n) ≡ k + 1
+decimal_large k n s h g = decimal_log k n (omega arith) (omega arith)
+
 -- ---- written from the last digit
 
 -- the low k digits of n

@@ -9,11 +9,15 @@ ghost use Rattle.listing.specs.Decimal.{decimal, field, counted};
 use obu::writer::put_bytes;
 
 // How many digits v has.
-#[tactic(auto, using(crate::proofs::DecimalLaws::decimal_log))]
+#[tactic(auto, using(crate::proofs::DecimalLaws::decimal_one, crate::proofs::DecimalLaws::decimal_large))]
 pub(crate) fn decimal_len(v: u64) -> usize
     ensures { (result ≡ length (decimal v)) × (result ≤ 20) }
 {
-    v.max(1).ilog10() as usize + 1
+    // most have one, and the logarithm takes longer than such a number's text
+    if v < 10 {
+        return 1;
+    }
+    v.ilog10() as usize + 1
 }
 
 // Writes the digits of v, the last first.

@@ -4,7 +4,7 @@
 ghost use Rattle.std.specs.Prelude.{◌≡◌, ◌+◌, ◌≤◌, length, leb};
 ghost use Rattle.bitio.specs.Lent.{Wrote, placed, lent};
 ghost use Rattle.bitio.specs.Refusal.{says};
-ghost use Rattle.listing.specs.Text.{letter, slot_in, slot_field, line_in, lines_in, listing_in, fault_text, unread_text};
+ghost use Rattle.listing.specs.Text.{letter, slot_in, slot_field, line_in, lines_in, listing_in, refused_text, refused_in_text, fault_text, unread_text};
 
 use crate::decimal::{decimal_len, put_counted, put_field};
 use crate::file::Unread;
@@ -121,28 +121,43 @@ pub fn put_listing(out: &mut [u8], cues: usize, units: UnitList) -> Result<usize
     Ok(put_lines(out, to, units))
 }
 
-// Writes why assembly refuses: document 01's number, and the segment from 0 where one is to blame.
+// Writes that assembly refused, by document 01's number.
 #[tactic(auto, using(crate::proofs::TextLaws::length_counted))]
-pub fn put_refused(out: &mut [u8], fault: Fault) -> Result<usize, Refusal>
+pub fn put_refused(out: &mut [u8], number: u32) -> Result<usize, Refusal>
+    ensures answer { says result ≡ placed out.old 0 (refused_text number) }
+    ensures out { out.new ≡ lent out.old 0 (refused_text number) }
+{
+    let n = u64::from(number);
+    if out.len() < decimal_len(n) + 9 {
+        return Err(Refusal::NoRoom);
+    }
+    Ok(put_counted(out, 0, b"refused ", n, b'\n'))
+}
+
+// The same, with the segment from 0.
+#[tactic(auto, using(crate::proofs::TextLaws::length_counted))]
+pub fn put_refused_in(out: &mut [u8], number: u32, segment: usize) -> Result<usize, Refusal>
+    ensures answer { says result ≡ placed out.old 0 (refused_in_text number segment) }
+    ensures out { out.new ≡ lent out.old 0 (refused_in_text number segment) }
+{
+    let n = u64::from(number);
+    let i = segment as u64;
+    if out.len() < decimal_len(n) + decimal_len(i) + 18 {
+        return Err(Refusal::NoRoom);
+    }
+    let to = put_counted(out, 0, b"refused ", n, b' ');
+    Ok(put_counted(out, to, b"segment ", i, b'\n'))
+}
+
+// Writes why assembly refuses, with the segment where one is to blame.
+pub fn put_fault(out: &mut [u8], fault: Fault) -> Result<usize, Refusal>
     ensures answer { says result ≡ placed out.old 0 (fault_text fault) }
     ensures out { out.new ≡ lent out.old 0 (fault_text fault) }
 {
     let number = u32::from(fault.refusal);
-    let n = u64::from(number);
     match fault.segment {
-        None => {
-            if out.len() < decimal_len(n) + 9 {
-                return Err(Refusal::NoRoom);
-            }
-            Ok(put_counted(out, 0, b"refused ", n, b'\n'))
-        }
-        Some(i) => {
-            if out.len() < decimal_len(n) + decimal_len(i as u64) + 18 {
-                return Err(Refusal::NoRoom);
-            }
-            let to = put_counted(out, 0, b"refused ", n, b' ');
-            Ok(put_counted(out, to, b"segment ", i as u64, b'\n'))
-        }
+        None => put_refused(out, number),
+        Some(segment) => put_refused_in(out, number, segment),
     }
 }
 
@@ -154,7 +169,7 @@ pub fn put_unread(out: &mut [u8], unread: Unread) -> Result<usize, Refusal>
 {
     let text = b"bad file\n";
     match unread {
-        Unread::Full => put_refused(out, Fault::overall(Refusal::NoRoom)),
+        Unread::Full => put_fault(out, Fault::overall(Refusal::NoRoom)),
         Unread::Bad if out.len() < text.len() => Err(Refusal::NoRoom),
         Unread::Bad => Ok(put_bytes(out, 0, text)),
     }

@@ -14,7 +14,7 @@ use pictures::settings::Settings;
 // before it wrote.
 pub fn walk(
     form: Form,
-    segments: Segments<'_>,
+    segments: Segments<'_, '_>,
     settings: Settings,
     cue: usize,
     buffers: &mut Buffers<'_, '_, '_, '_, '_, '_>,

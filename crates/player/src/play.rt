@@ -44,4 +44,13 @@ impl State {
         self.kept = kept;
         Ok(shown)
     }
+
+    // The same by value: the answer, and the state behind it.
+    pub fn played(mut self, position: u64, unit: &[u8]) -> (Result<Option<u64>, Refusal>, State)
+        ensures answer { shown_says result.0 ≡ answer (λ r. r.shown) (play (state_says self) position unit.now) }
+        ensures state { result.1 ≡ state_left self position unit.now }
+    {
+        let shown = self.play(position, unit);
+        (shown, self)
+    }
 }

@@ -1,8 +1,7 @@
 -- How much a request is lent (the protocol's prefix `room B E T `).
 use Rattle.std.specs.Prelude.{ℕ, ◌+◌, List, Bool, true, ◌&&◌, cond as pick, Option, Some, None, Result, Ok, Err, length, leb}
 use Rattle.std.specs.Option.{option_map}
-use Rattle.std.specs.Str.{bytes_eq}
-use Rattle.protocol.specs.Text.{ascii, read_number, word, word_at}
+use Rattle.protocol.specs.Text.{ascii, read_number, word, is_named, word_at}
 use Rattle.protocol.specs.declared.lent.Room.{Room}
 use Rattle.protocol.specs.declared.lent.Prefix.{Prefix}
 use Rattle.protocol.specs.declared.lent.Share.{Share}
@@ -33,7 +32,7 @@ room_by_bytes s (Some b) = room_by_ends s b.0 (number_field s b.1)
 
 -- `room`, and three numbers; or no prefix
 unfoldable pub room_prefix : List ℕ → Result Prefix Room
-room_prefix s = pick (bytes_eq (word 32 s) (ascii "room")) (room_by_bytes s (number_field s (length (word 32 s) + 1))) (Ok (record { room = None; next = 0 }))
+room_prefix s = pick (is_named (ascii "room") s) (room_by_bytes s (number_field s (length (word 32 s) + 1))) (Ok (record { room = None; next = 0 }))
 
 -- ---- what is lent
 

@@ -73,6 +73,10 @@ read_number (c ∷ s) = number_from 0 (c ∷ s)
 abbrev pub word : ℕ → List ℕ → List ℕ
 word e s = before_first (λ c. eqb c e) s
 
+-- whether the first word is a name
+abbrev pub is_named : List ℕ → List ℕ → Bool
+is_named name s = bytes_eq (word 32 s) name
+
 -- the word that starts at i
 abbrev pub word_at : ℕ → List ℕ → ℕ → List ℕ
 word_at e s i = word e (drop i s)

@@ -12,11 +12,11 @@ use crate::text::{decode, read_decimal, word_at};
 
 // How far the fields of a line have been read.
 #[derive(Clone, Copy)]
-pub struct Fields {
+pub struct Fields<'a> {
     // where the next one starts: one past the line's end where none is left, far behind it once one was bad
     pub next: usize,
     // the kinds that follow
-    pub format: Format,
+    pub format: Format<'a>,
     // how many bytes, byte strings and numbers have been read
     pub bytes: usize,
     pub ends: usize,
@@ -36,10 +36,10 @@ fn value(kind: Kind, word: &[u8]) -> Option<u64>
     if v <= most { Some(v) } else { None }
 }
 
-impl Fields {
+impl<'a> Fields<'a> {
     // Nothing is read behind a bad one.
-    fn spoiled(self) -> Fields
-        ensures { place result ≡ spoiled_of (place self) }
+    fn spoiled(self) -> Fields<'a>
+        ensures { place result ≡ spoiled_of (place self.entry) }
     {
         Fields {
             next: usize::MAX,
@@ -48,15 +48,20 @@ impl Fields {
     }
 
     // Whether no field of the line is left, and none is missing.
-    fn is_all(self, line: &[u8]) -> bool
-        ensures { result ≡ is_all_of (place self) line.now }
+    pub fn is_all(self, line: &[u8]) -> bool
+        ensures { result ≡ is_all_of (place self.entry) line.now }
     {
         self.next == line.len() + 1 && self.format.items.is_empty()
     }
 
     #[tactic(auto, unfolding(crate::specs::Fields::bytes_field))]
-    fn read_bytes(self, word: &[u8], decoded: &mut [u8], ends: &mut [u32]) -> Result<Fields, Fields>
-        ensures { (ns : List ℕ) → fields_read result decoded.new ends.new ns ≡ bytes_field (place self) decoded.old ends.old ns word.now }
+    fn read_bytes(
+        self,
+        word: &[u8],
+        decoded: &mut [u8],
+        ends: &mut [u32],
+    ) -> Result<Fields<'a>, Fields<'a>>
+        ensures { (ns : List ℕ) → fields_read result decoded.new ends.new ns ≡ bytes_field (place self.entry) decoded.old ends.old ns word.now }
     {
         let end = decode(word, decoded, self.bytes).ok_or(self.spoiled())?;
         if self.ends >= ends.len() {
@@ -71,8 +76,13 @@ impl Fields {
     }
 
     #[tactic(auto, unfolding(crate::specs::Fields::value_field))]
-    fn read_number(self, kind: Kind, word: &[u8], numbers: &mut [u64]) -> Result<Fields, Fields>
-        ensures { (d es : List ℕ) → fields_read result d es numbers.new ≡ value_field (place self) d es numbers.old kind word.now }
+    fn read_number(
+        self,
+        kind: Kind,
+        word: &[u8],
+        numbers: &mut [u64],
+    ) -> Result<Fields<'a>, Fields<'a>>
+        ensures { (d es : List ℕ) → fields_read result d es numbers.new ≡ value_field (place self.entry) d es numbers.old kind word.now }
     {
         let v = value(kind, word).ok_or(self.spoiled())?;
         if self.numbers >= numbers.len() {
@@ -87,8 +97,12 @@ impl Fields {
 
     // One more field, if one is left: it ends at what stands before the next.
     #[tactic(auto, unfolding(crate::specs::Fields::field_of))]
-    fn read_field(self, line: &[u8], memory: &mut Memory<'_, '_, '_>) -> Result<Fields, Fields>
-        ensures read { read_into result memory.new ≡ field_of line.now (place self) memory.old.bytes.now memory.old.ends.now memory.old.numbers.now }
+    fn read_field(
+        self,
+        line: &[u8],
+        memory: &mut Memory<'_, '_, '_>,
+    ) -> Result<Fields<'a>, Fields<'a>>
+        ensures read { read_into result memory.new ≡ field_of line.now (place self.entry) memory.old.bytes.now memory.old.ends.now memory.old.numbers.now }
         ensures same { SameMemory memory.old memory.new }
     {
         let from = self.next;
@@ -111,13 +125,13 @@ impl Fields {
 }
 
 // All fields from `next` on, of which there are fewer than characters; where one is bad or missing, those before it.
-pub fn read_fields(
+pub fn read_fields<'a>(
     line: &[u8],
     next: usize,
-    format: Format,
+    format: Format<'a>,
     memory: &mut Memory<'_, '_, '_>,
-) -> Result<Fields, Fields>
-    ensures read { read_into result memory.new ≡ fields_of line.now next (form format) memory.old.bytes.now memory.old.ends.now memory.old.numbers.now }
+) -> Result<Fields<'a>, Fields<'a>>
+    ensures read { read_into result memory.new ≡ fields_of line.now next (form format.entry) memory.old.bytes.now memory.old.ends.now memory.old.numbers.now }
     ensures same { SameMemory memory.old memory.new }
 {
     let mut fields = Fields {

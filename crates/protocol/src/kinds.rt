@@ -127,16 +127,16 @@ pub fn packed(items: &[Item]) -> u64
 
 // Items that follow each other, and those that may follow them any number of times.
 #[derive(Clone, Copy)]
-pub struct Format {
-    pub items: &'static [Item],
-    pub repeated: &'static [Item],
+pub struct Format<'a> {
+    pub items: &'a [Item],
+    pub repeated: &'a [Item],
 }
 
-impl Format {
+impl<'a> Format<'a> {
     // The first item, if there is one, and what follows it.
     #[tactic(auto, unfolding(crate::specs::Kinds::split_of))]
-    pub(crate) fn split(self) -> Option<(Item, Format)>
-        ensures { split_said result ≡ split_of (form self) }
+    pub(crate) fn split(self) -> Option<(Item, Format<'a>)>
+        ensures { split_said result ≡ split_of (form self.entry) }
     {
         let items = if self.items.is_empty() {
             self.repeated
@@ -150,7 +150,7 @@ impl Format {
 
     // What stands before the first item: a space where there is none.
     pub(crate) fn stop(self) -> u8
-        ensures { result ≡ stop_of (form self) }
+        ensures { result ≡ stop_of (form self.entry) }
     {
         self.split()
             .map_or(b' ', |(item, _)| item.before.separator())

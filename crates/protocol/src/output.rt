@@ -11,9 +11,9 @@ pub type Buffer = [u8; SIZE];
 
 #[derive(Drop)]
 pub struct Output {
-    buffer: Buffer,
+    pub buffer: Buffer,
     // how many characters wait in it
-    at: usize,
+    pub at: usize,
 }
 
 impl Output {
@@ -66,6 +66,21 @@ impl Output {
         self.put_text(&digits[..n]);
     }
 
+    // The two digits of a byte: most have room at once.
+    #[tactic(auto, unfolding(crate::specs::Typed::typed, crate::specs::Typed::next_place))]
+    fn put_pair(&mut self, high: u8, low: u8)
+        ensures { self.new ≡ typed self.old (high ∷ low ∷ []) }
+    {
+        if self.at < SIZE - 1 {
+            self.buffer[self.at] = high;
+            self.buffer[self.at + 1] = low;
+            self.at += 2;
+        } else {
+            self.put(high);
+            self.put(low);
+        }
+    }
+
     // Bytes in hexadecimal, `-` for none.
     #[tactic(auto, using(crate::proofs::TypedLaws::hex_next), unfolding(crate::specs::Typed::typed, crate::specs::Text::hex_text))]
     pub(crate) fn put_hex(&mut self, s: &[u8])
@@ -75,8 +90,7 @@ impl Output {
             self.put(b'-');
         }
         for b in s {
-            self.put(hex_digit(*b / 16));
-            self.put(hex_digit(*b % 16));
+            self.put_pair(hex_digit(*b / 16), hex_digit(*b % 16));
         }
     }
 }

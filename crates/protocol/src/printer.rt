@@ -15,19 +15,19 @@ use bitio::ends::end_of;
 
 // How far an answer has been printed.
 #[derive(Clone, Copy)]
-struct Printed {
+struct Printed<'a> {
     // the item that comes, those told that follow it, and those of the format behind them
     item: Item,
     told: u64,
-    format: Format,
+    format: Format<'a>,
     // how many parts and numbers are behind it
     parts: usize,
     numbers: usize,
 }
 
-impl Printed {
-    fn start(format: Format) -> Printed
-        ensures { printing result ≡ print_start (form format) }
+impl<'a> Printed<'a> {
+    fn start(format: Format<'a>) -> Printed<'a>
+        ensures { printing result ≡ print_start (form format.entry) }
     {
         Printed {
             item: NUMBER,
@@ -39,8 +39,8 @@ impl Printed {
     }
 
     // At the first of the items that a number tells, so many numbers being behind.
-    fn told_at(self, told: u64, numbers: usize) -> Printed
-        ensures { printing result ≡ told_at told numbers (printing self) }
+    fn told_at(self, told: u64, numbers: usize) -> Printed<'a>
+        ensures { printing result ≡ told_at told numbers (printing self.entry) }
     {
         Printed {
             item: Item::from(told % 256),
@@ -51,8 +51,8 @@ impl Printed {
     }
 
     // Behind an item that took a part or a number.
-    fn past(self) -> Printed
-        ensures { printing result ≡ past_of (printing self) }
+    fn past(self) -> Printed<'a>
+        ensures { printing result ≡ past_of (printing self.entry) }
     {
         match self.item.kind {
             Kind::Bytes => Printed {
@@ -122,7 +122,7 @@ impl<'a> Left<'a> {
 
     // Whether no more is left for an item of this kind.
     fn is_over(self, kind: Kind, printed: Printed) -> bool
-        ensures { result ≡ is_over (line self.entry.answer) kind (printing printed) }
+        ensures { result ≡ is_over (line self.entry.answer) kind (printing printed.entry) }
     {
         if kind == Kind::Bytes {
             printed.parts >= self.answer.ends
@@ -132,8 +132,8 @@ impl<'a> Left<'a> {
     }
 
     // At the first item that the next number tells, in place of all but the repeated ones.
-    fn opened(self, printed: Printed) -> Printed
-        ensures { printing result ≡ opened_of (left_told self.entry) (printing printed) }
+    fn opened<'f>(self, printed: Printed<'f>) -> Printed<'f>
+        ensures { printing result ≡ opened_of (left_told self.entry) (printing printed.entry) }
     {
         let told = number_at(self.numbers, printed.numbers);
         let format = Format {
@@ -145,8 +145,8 @@ impl<'a> Left<'a> {
     }
 
     // At the first item of the format, with the rest of it.
-    fn opened_at(self, item: Item, format: Format, printed: Printed) -> Printed
-        ensures { printing result ≡ opened_at (left_told self.entry) item (form format) (printing printed) }
+    fn opened_at<'f>(self, item: Item, format: Format<'f>, printed: Printed<'f>) -> Printed<'f>
+        ensures { printing result ≡ opened_at (left_told self.entry) item (form format.entry) (printing printed.entry) }
     {
         let here = Printed {
             item,
@@ -162,8 +162,8 @@ impl<'a> Left<'a> {
 
     // At the next item, if there is one: repeated kinds end where there is no more for the first of them.
     #[tactic(auto, unfolding(crate::specs::Printed::next_of))]
-    fn next(self, printed: Printed) -> Option<Printed>
-        ensures { option_map printing result ≡ next_of (left_told self.entry) (printing printed) }
+    fn next<'f>(self, printed: Printed<'f>) -> Option<Printed<'f>>
+        ensures { option_map printing result ≡ next_of (left_told self.entry) (printing printed.entry) }
     {
         if printed.told % 256 == TOLD {
             return Some(self.opened(printed));
@@ -181,7 +181,7 @@ impl<'a> Left<'a> {
     // The item that comes, behind what stands before it.
     #[tactic(auto, unfolding(crate::specs::Printed::item_text, crate::specs::Typed::typed))]
     fn put_item(self, printed: Printed, out: &mut Output)
-        ensures { out.new ≡ typed out.old (item_text (left_told self.entry) (printing printed)) }
+        ensures { out.new ≡ typed out.old (item_text (left_told self.entry) (printing printed.entry)) }
     {
         out.put_text(&[printed.item.before.separator()]);
         let v = number_at(self.numbers, printed.numbers);
@@ -195,7 +195,7 @@ impl<'a> Left<'a> {
 
     // All items. Nothing says that kinds which take nothing end, so the turns are counted up to a number that no run reaches.
     fn put_items(self, format: Format, out: &mut Output)
-        ensures { out.new ≡ typed out.old (items_text (2 ^ 64 - 1) (left_told self.entry) (print_start (form format))) }
+        ensures { out.new ≡ typed out.old (items_text (2 ^ 64 - 1) (left_told self.entry) (print_start (form format.entry))) }
     {
         let mut printed = Printed::start(format);
         for _ in 0..u64::MAX {
@@ -239,7 +239,7 @@ fn put_head(answer: Answer, out: &mut Output)
 
 // A refusal's line has its number, and what numbers come with it.
 fn format_of(answer: Answer, format: Format) -> Format
-    ensures { form result ≡ format_of (line answer).refusal (form format) }
+    ensures { form result ≡ format_of (line answer).refusal (form format.entry) }
 {
     if answer.refused.is_none() {
         return format;
@@ -252,7 +252,7 @@ fn format_of(answer: Answer, format: Format) -> Format
 
 // The line of an answer, from what the call left in the memory lent to it.
 pub fn put_answer(left: Left<'_>, format: Format, is_own: bool, out: &mut Output)
-    ensures { out.new ≡ typed out.old (answer_text (left_told left.entry) (form format) is_own) }
+    ensures { out.new ≡ typed out.old (answer_text (left_told left.entry) (form format.entry) is_own) }
 {
     let answer = left.answer;
     put_head(answer, out);

@@ -57,7 +57,7 @@ fn put_segments(ends: &[u32], numbers: &[u64], segments: &mut [u64])
 // Assembly, and what it left in the slices.
 fn assemble_into(
     settings: Settings,
-    segments: Segments<'_>,
+    segments: Segments<'_, '_>,
     buffers: &mut Buffers<'_, '_, '_, '_, '_, '_>,
     memory: &mut Memory<'_, '_, '_>,
 ) -> Answer
@@ -73,7 +73,7 @@ fn assemble_into(
 fn assemble_lent(
     settings: Settings,
     lent: Lent,
-    segments: Segments<'_>,
+    segments: Segments<'_, '_>,
     memory: &mut Memory<'_, '_, '_>,
 ) -> Answer
     ensures told { told_in (line result) memory.new ≡ outcome_told (outcome segments.entry.picture.now segments.entry.numbers.now settings (slices_lent lent)) (slices_lent lent) memory.old.bytes.now memory.old.ends.now memory.old.numbers.now }

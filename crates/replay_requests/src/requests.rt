@@ -14,9 +14,9 @@ use protocol::text::word_at;
 #[derive(Clone, Copy)]
 pub struct Request {
     pub operation: Operation,
-    pub fields: Fields,
+    pub fields: Fields<'static>,
     // how its answer is printed
-    pub format: Format,
+    pub format: Format<'static>,
     pub lent: Lent,
 }
 
@@ -25,12 +25,12 @@ pub struct Request {
 pub struct Unread<'a> {
     // empty behind a prefix that is bad
     pub name: &'a [u8],
-    pub fields: Fields,
-    pub format: Format,
+    pub fields: Fields<'static>,
+    pub format: Format<'static>,
     pub lent: Lent,
 }
 
-const NO_ITEMS: Format = Format {
+const NO_ITEMS: Format<'static> = Format {
     items: &[],
     repeated: &[],
 };

@@ -34,8 +34,8 @@ pub enum Operation {
 pub(crate) struct Row {
     pub name: &'static [u8],
     pub operation: Operation,
-    pub asks: Format,
-    pub answers: Format,
+    pub asks: Format<'static>,
+    pub answers: Format<'static>,
     pub lends: Shares,
 }
 

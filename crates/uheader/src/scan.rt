@@ -3,7 +3,6 @@ ghost use Rattle.std.specs.Prelude.{◌≡◌, IfOk};
 ghost use Rattle.bitio.specs.Read.{reading};
 ghost use Rattle.bitio.specs.Refusal.{says};
 ghost use Rattle.syntax.specs.Syntax.{run};
-ghost use Rattle.frame.specs.Frame.{removals_in};
 ghost use Rattle.params.specs.Lossless.{sign_magnitude};
 ghost use Rattle.params.specs.Quantization.{Ranged};
 ghost use Rattle.uheader.specs.Scan as spec;
@@ -91,10 +90,10 @@ fn scan_rest(
     slots: &[RefSlot; 8],
     x: FrameFront,
 ) -> Read<Rest>
-    ensures read { reading result ≡ run (spec.scan_rest sign_magnitude scanner.entry.sequence.now.header (removals_in scanner.entry.sequence.now) slots.now x) s.now r.pos }
+    ensures read { reading result ≡ run (spec.scan_rest sign_magnitude scanner.entry.header.now scanner.entry.removals slots.now x) s.now r.pos }
     ensures fits { IfOk result (λ x. Ranged x.0.quantizer) }
 {
-    let coding = &scanner.sequence.header.coding;
+    let coding = &scanner.header.coding;
     let (shape, r) = shape::frame_shape(r, s, scanner, slots, x)?;
     let (_, r) = tile_info(r, s, shape.size, coding.tools.use_128x128_superblock)?;
     let (quantizer, r) = tail::frame_tail(r, s, coding, x, shape, slots)?;
@@ -132,9 +131,9 @@ fn scan_fields(
     slots: &[RefSlot; 8],
     payload: &[u8],
 ) -> Result<HeaderScan, Refusal>
-    ensures { says result ≡ spec.scan_header scanner.entry.sequence.now.header (removals_in scanner.entry.sequence.now) slots.now payload.now }
+    ensures { says result ≡ spec.scan_header scanner.entry.header.now scanner.entry.removals slots.now payload.now }
 {
-    let (front, r) = open_scan(&scanner.sequence.header, payload)?;
+    let (front, r) = open_scan(scanner.header, payload)?;
     let removal_insert_pos = r.pos;
     let (rest, r) = scan_rest(r, payload, scanner, slots, front)?;
     Ok(HeaderScan {
@@ -155,8 +154,8 @@ impl Scanner<'_> {
         slots: &mut [RefSlot; 8],
         payload: &[u8],
     ) -> Result<HeaderScan, Refusal>
-        ensures answer { says result ≡ spec.scan_header self.entry.sequence.now.header (removals_in self.entry.sequence.now) slots.old payload.now }
-        ensures slots { slots.new ≡ spec.slots_after slots.old (spec.scan_header self.entry.sequence.now.header (removals_in self.entry.sequence.now) slots.old payload.now) }
+        ensures answer { says result ≡ spec.scan_header self.entry.header.now self.entry.removals slots.old payload.now }
+        ensures slots { slots.new ≡ spec.slots_after slots.old (spec.scan_header self.entry.header.now self.entry.removals slots.old payload.now) }
     {
         let scan = scan_fields(self, slots, payload)?;
         let new = slot_of(scan.frame, scan.size);
@@ -177,7 +176,8 @@ pub fn scan_uncompressed_header(
     check_limit(payload)?;
     let sequence = parse_sequence_header(sequence)?;
     let scanner = Scanner {
-        sequence: &sequence,
+        header: &sequence.header,
+        removals: sections::removals(sequence.points()),
     };
     scanner.scan_header(slots, payload)
 }

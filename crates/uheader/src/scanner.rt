@@ -1,11 +1,12 @@
-// A sequence header under which frame headers are scanned.
+// A sequence header under which frame headers are scanned, and how many removal times each of them has.
 ghost use Rattle.geometry.specs.code.Sizes.{SizesWithin};
 
-use header::seq_header::SequenceObu;
+use header::seq_header::SequenceHeader;
 
 // The sizes of one that was read are within their bits.
 #[derive(Clone, Copy)]
 pub struct Scanner<'a> {
-    pub sequence: &'a SequenceObu,
-    pub ghost sized: { SizesWithin sequence.now.header.coding.size },
+    pub header: &'a SequenceHeader,
+    pub removals: usize,
+    pub ghost sized: { SizesWithin header.now.coding.size },
 }

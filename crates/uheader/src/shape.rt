@@ -2,7 +2,6 @@
 ghost use Rattle.std.specs.Prelude.{◌≡◌, ◌+◌};
 ghost use Rattle.bitio.specs.Read.{reading};
 ghost use Rattle.syntax.specs.Syntax.{run};
-ghost use Rattle.frame.specs.Frame.{removals_in};
 ghost use Rattle.uheader.specs.Shape as spec;
 
 use crate::scanner::Scanner;
@@ -56,13 +55,14 @@ pub(crate) fn frame_shape(
     slots: &[RefSlot; 8],
     x: FrameFront,
 ) -> Read<Shape>
-    ensures { reading result ≡ run (spec.frame_shape scanner.entry.sequence.now.header (removals_in scanner.entry.sequence.now) slots.now x) s.now r.pos }
+    ensures { reading result ≡ run (spec.frame_shape scanner.entry.header.now scanner.entry.removals slots.now x) s.now r.pos }
 {
-    let coding = &scanner.sequence.header.coding;
+    let coding = &scanner.header.coding;
+    let m = &scanner.header.opening.model;
     let intra = x.start.frame_type.is_intra();
     let resilient = x.start.error_resilient_mode;
     let hinted = coding.tools.enable_order_hint;
-    let (flags, r) = sections::refresh_flags(r, s, scanner.sequence, x.start)?;
+    let (flags, r) = sections::refresh_flags(r, s, m, scanner.removals, x.start)?;
     let listed = (!intra || flags != 255) && (resilient && hinted);
     let (_, r) = ref_order_hints(r, s, listed, coding.screen.order_hint_bits_minus_1)?;
     let (ref_frame_idx, r) = refs::frame_refs(r, s, !intra, hinted)?;

@@ -22,6 +22,10 @@ pub(crate) fn framed_len(n: usize) -> usize
     requires { n ≤ 1000000000000 }
     ensures { result ≡ framed_length n }
 {
+    // most lengths have one byte
+    if n < 128 {
+        return 1 + n;
+    }
     leb128_len(n as u64) + n
 }
 

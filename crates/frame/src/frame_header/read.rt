@@ -5,14 +5,14 @@ ghost use Rattle.bitio.specs.Read.{reading};
 ghost use Rattle.bitio.specs.Refusal.{says};
 ghost use Rattle.syntax.specs.Syntax.{run};
 ghost use Rattle.header.specs.Sequence.{sequence_in};
-ghost use Rattle.frame.specs.Frame.{removals_in, show_existing, frame_info, frame_bits, parse_frame, parse_frame_from};
+ghost use Rattle.frame.specs.Frame.{show_existing, frame_info, frame_bits, parse_frame, parse_frame_from};
 
 use crate::frame_header::{FrameHeaderInfo, FrameInfo, sections};
 use bitio::limits::check_limit;
 use bitio::reader::{BitReader, Read};
 use bitio::refusal::Refusal;
-use header::seq_header::SequenceObu;
 use header::seq_header::read::parse_sequence_header;
+use header::seq_header::{SequenceHeader, SequenceObu};
 
 // A frame that is shown again.
 #[tactic(auto, unfolding(syntax::specs::Syntax::run, crate::specs::Frame::show_existing))]
@@ -28,24 +28,30 @@ fn show_existing(r: BitReader, s: &[u8], point_info: bool) -> Read<FrameHeaderIn
 
 // A frame that is not shown again.
 #[tactic(auto, unfolding(syntax::specs::Syntax::run, crate::specs::Frame::frame_info))]
-fn frame_info(r: BitReader, s: &[u8], sequence: &SequenceObu) -> Read<FrameInfo>
-    ensures { reading result ≡ run (frame_info sequence.now.header (removals_in sequence.now)) s.now r.pos }
+fn frame_info(r: BitReader, s: &[u8], header: &SequenceHeader, removals: usize) -> Read<FrameInfo>
+    ensures { reading result ≡ run (frame_info header.now removals) s.now r.pos }
 {
-    let (front, r) = sections::frame_front(r, s, true, &sequence.header)?;
-    let (flags, r) = sections::refresh_flags(r, s, sequence, front.start)?;
+    let (front, r) = sections::frame_front(r, s, true, header)?;
+    let model = &header.opening.model;
+    let (flags, r) = sections::refresh_flags(r, s, model, removals, front.start)?;
     Ok((sections::info_of(front, flags), r))
 }
 
 // show_existing_frame, and what follows.
 #[tactic(auto, unfolding(syntax::specs::Syntax::run, crate::specs::Frame::frame_bits), using(crate::proofs::FlagLaws::flags))]
-fn frame_bits(r: BitReader, s: &[u8], sequence: &SequenceObu) -> Read<FrameHeaderInfo>
-    ensures { reading result ≡ run (frame_bits sequence.now.header (removals_in sequence.now)) s.now r.pos }
+fn frame_bits(
+    r: BitReader,
+    s: &[u8],
+    header: &SequenceHeader,
+    removals: usize,
+) -> Read<FrameHeaderInfo>
+    ensures { reading result ≡ run (frame_bits header.now removals) s.now r.pos }
 {
     let (existing, r) = r.flag(s)?;
     if existing {
-        return show_existing(r, s, sections::has_point_info(&sequence.header.opening));
+        return show_existing(r, s, sections::has_point_info(&header.opening));
     }
-    let (info, r) = frame_info(r, s, sequence)?;
+    let (info, r) = frame_info(r, s, header, removals)?;
     Ok((FrameHeaderInfo::Frame(info), r))
 }
 
@@ -60,7 +66,8 @@ pub fn read_frame_header(sequence: &SequenceObu, payload: &[u8]) -> Result<Frame
     if sequence.header.coding.ids.frame_id_numbers_present {
         return Err(Refusal::FrameIdsOn);
     }
-    let (info, _) = frame_bits(BitReader { pos: 0 }, payload, sequence)?;
+    let removals = sections::removals(sequence.points());
+    let (info, _) = frame_bits(BitReader { pos: 0 }, payload, &sequence.header, removals)?;
     Ok(info)
 }
 

@@ -4,14 +4,14 @@ ghost use Rattle.bitio.specs.Read.{reading};
 ghost use Rattle.obu.specs.Unit.{count};
 ghost use Rattle.syntax.specs.Syntax.{run};
 ghost use Rattle.header.specs.Support.{has_point_info};
-ghost use Rattle.frame.specs.Frame.{modelled, removals_in, all_slots, frame_start, chosen, frame_modes, frame_front, buffer_removal, refresh_flags, info_of};
+ghost use Rattle.frame.specs.Frame.{modelled, all_slots, frame_start, chosen, frame_modes, frame_front, buffer_removal, refresh_flags, info_of};
 
 use crate::frame_header::{
     FrameFront, FrameInfo, FrameModes, FrameStart, FrameType, PRIMARY_REF_NONE,
 };
 use bitio::reader::{BitReader, Read};
 use bitio::refusal::Refusal;
-use header::seq_header::{Coding, Opening, OperatingPoint, SequenceHeader, SequenceObu};
+use header::seq_header::{Coding, DecoderModelInfo, Opening, OperatingPoint, SequenceHeader};
 use syntax::over::{read_over, width_if};
 
 // Each frame says: SELECT_SCREEN_CONTENT_TOOLS and SELECT_INTEGER_MV.
@@ -119,33 +119,34 @@ pub fn info_of(x: FrameFront, flags: u64) -> FrameInfo
     }
 }
 
-// How many removal times a frame header has: one for each operating point with a model.
-fn removals(points: &[OperatingPoint]) -> usize
+// How many removal times a frame header has: one for each operating point with a model. The sections take any number.
+pub fn removals(points: &[OperatingPoint]) -> usize
     ensures { result ≡ count modelled points.now }
 {
     points.iter().filter(|x| x.decoder_model_present).count()
 }
 
-// buffer_removal_time_present_flag and the removal times, which are counted only where they are there.
+// buffer_removal_time_present_flag and the removal times.
 #[tactic(auto, unfolding(syntax::specs::Syntax::run, crate::specs::Frame::buffer_removal, bitio::specs::Fields::flag_or), using(crate::proofs::FlagLaws::flags))]
-fn buffer_removal(r: BitReader, s: &[u8], sequence: &SequenceObu) -> Read<()>
-    ensures { reading result ≡ run (buffer_removal sequence.now.header.opening.model (removals_in sequence.now)) s.now r.pos }
+fn buffer_removal(r: BitReader, s: &[u8], m: &DecoderModelInfo, removals: usize) -> Read<()>
+    ensures { reading result ≡ run (buffer_removal m.now removals) s.now r.pos }
 {
-    let model = &sequence.header.opening.model;
-    let (present, r) = r.flag_or(s, model.decoder_model_info_present, false)?;
-    let times = if present {
-        removals(sequence.points())
-    } else {
-        0
-    };
-    read_over(r, s, model.buffer_removal_time_length_minus_1, times)
+    let (present, r) = r.flag_or(s, m.decoder_model_info_present, false)?;
+    let times = if present { removals } else { 0 };
+    read_over(r, s, m.buffer_removal_time_length_minus_1, times)
 }
 
 // The same, and refresh_frame_flags.
 #[tactic(auto, unfolding(syntax::specs::Syntax::run, crate::specs::Frame::refresh_flags, bitio::specs::Fields::read_or))]
-pub fn refresh_flags(r: BitReader, s: &[u8], sequence: &SequenceObu, f: FrameStart) -> Read<u64>
-    ensures { reading result ≡ run (refresh_flags sequence.now.header.opening.model (removals_in sequence.now) f) s.now r.pos }
+pub fn refresh_flags(
+    r: BitReader,
+    s: &[u8],
+    m: &DecoderModelInfo,
+    removals: usize,
+    f: FrameStart,
+) -> Read<u64>
+    ensures { reading result ≡ run (refresh_flags m.now removals f) s.now r.pos }
 {
-    let (_, r) = buffer_removal(r, s, sequence)?;
+    let (_, r) = buffer_removal(r, s, m, removals)?;
     r.f_or(s, !all_slots(f.frame_type, f.show_frame), 8, 255)
 }

@@ -1,6 +1,7 @@
 use Rattle.std.proofs.Common.{ℕ, List, ap, ◌∙◌}
 use Rattle.bitio.specs.Parse.{Answer, accepted}
 use Rattle.header.specs.Sequence.{Sequence}
+use Rattle.frame.proofs.RemovalLaws.{removals-counted}
 use Rattle.frame.specs.Frame.{modelled, removals}
 use Rattle.header.proofs.LimitedLaws.{limited-read}
 use Rattle.frame.proofs.FrameFromLaws.{beside-read, beside-refused, beside-whole}
@@ -21,7 +22,7 @@ invariant_of-scanner c =
 pub returns-in-Ok : goal.returns-in-Ok
 returns-in-Ok c =
     let a = c.args in
-    c.sum_ends.ensures
+    rw (removals-counted c.in-Ok.sequence c.removals.ensures c.points.ensures.points) at c.sum_ends.ensures
     ∙ ap bytes_or_none (beside-read a.sequence.now (sums a.frames.now a.ends.now) _ c.in-Ok.ensures)
 
 pub returns-in-Err : goal.returns-in-Err

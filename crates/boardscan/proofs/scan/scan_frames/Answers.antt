@@ -5,14 +5,8 @@ use Rattle.obu.specs.declared.unit.Kind.TheVariants.{Frame}
 use Rattle.obu.proofs.PlaceLaws.{part_placed}
 use Rattle.obu.proofs.WalkLaws.{passed_none, passed_one, passed_all, passed_stop}
 use Rattle.boardscan.specs.Scans.{scan_obus}
-use Rattle.boardscan.proofs.ScanLaws.{turn-frame, turn-other, turn-refused, under-refused, under-whole, under-stopped, counted_refused}
+use Rattle.boardscan.proofs.ScanLaws.{turn-frame, turn-other, turn-refused, under-refused, under-whole, under-stopped}
 use Rattle.boardscan.proofs.scan.scan_frames.Goals as goal
-
-pub returns-in_err-count_obus : goal.returns-in_err-count_obus
-returns-in_err-count_obus c =
-    let a = c.args in
-    let e = under-refused a.sequence.now a.slots a.unit.now _ (counted_refused _ _ _ c.in_err-count_obus.ensures) in
-    search (rules, e)
 
 pub loop-found-init : goal.loop-found-init
 unfolding scan_obus
@@ -32,7 +26,7 @@ returns-in_err-scan c =
     let (g, b, q) = passed_one p _ c.next.new.self (rw c.in_ok-o.was at c.in-Some.ensures.steps) in
     let t : is_frame g.obu ≡ true = ap (is_type Frame) g.type ∙ sym c.if-is_type.ensures in
     let r = rw (c.payload.ensures, part_placed g.placed) at c.in_err-scan.ensures in
-    let e = under-stopped a.sequence.now a.slots a.unit.now _ _ _ _ _ c.in_ok-count_obus.ensures q.walked (turn-refused a.sequence.now _ front g.obu i t r.answer) in
+    let e = under-stopped a.sequence.now a.slots a.unit.now _ _ _ c.requires q.walked (turn-refused a.sequence.now _ front g.obu i t r.answer) in
     search (rules, e)
 
 pub loop-found-preserved-then-is_type : goal.loop-found-preserved-then-is_type

@@ -5,6 +5,7 @@ use Rattle.header.specs.Sequence.{Sequence, parse_sequence}
 use Rattle.bitio.specs.Limits.{limited}
 use Rattle.header.proofs.LimitedLaws.{over-limit, within-limit, limited-read}
 use Rattle.frame.proofs.FrameFromLaws.{beside-read, beside-refused, beside-whole}
+use Rattle.frame.proofs.RemovalLaws.{removals-counted}
 use Rattle.frame.specs.Frame.{modelled, removals}
 use Rattle.geometry.specs.declared.slots.RefSlot.{RefSlot}
 use Rattle.uheader.specs.Scan.{scan_header, scan_payloads, slots_after}
@@ -53,7 +54,7 @@ pub returns-clause-answer : goal.returns-clause-answer
 unfolding scan_payloads
 returns-clause-answer c =
     let a = c.args in
-    c.scan_header.ensures.answer
+    rw (removals-counted c.in_ok-sequence.sequence c.removals.ensures c.points.ensures.points) at c.scan_header.ensures.answer
     ∙ beside-read a.sequence.now (scans a.slots.now a.payload.now) _ c.in_ok-sequence.ensures
     ∙ sym (within-limit _ _ (limit_kept c.args.payload.now c.in_ok-check_limit.ensures))
 
@@ -61,7 +62,7 @@ pub returns-clause-slots : goal.returns-clause-slots
 unfolding scan_payloads
 returns-clause-slots c =
     let a = c.args in
-    c.scan_header.ensures.slots
+    rw (removals-counted c.in_ok-sequence.sequence c.removals.ensures c.points.ensures.points) at c.scan_header.ensures.slots
     ∙ ap (slots_after a.slots.now)
     (beside-read a.sequence.now (scans a.slots.now a.payload.now) _ c.in_ok-sequence.ensures
     ∙ sym (within-limit _ _ (limit_kept c.args.payload.now c.in_ok-check_limit.ensures)))

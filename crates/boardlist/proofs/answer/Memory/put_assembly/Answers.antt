@@ -10,5 +10,5 @@ returns-in-Ok c =
 pub returns-in-Err : goal.returns-in-Err
 returns-in-Err c =
     let e = rw (c.picture.ensures, c.numbers.ensures) at c.in-Err.ensures.handed in
-    let w = c.put_refused.ensures in
+    let w = c.put_fault.ensures in
     record { text = retold (stopped_is _ _ _ e.answer) (record { answer = w.answer; bytes = w.out }); slices = e.lent; kept = refl }
