@@ -94,11 +94,6 @@ pub counted_refused : (p : Obu → Bool) (k : ℕ) (x : Answer (List Obu)) → r
 counted_refused p k (refused j) e = let i : j ≡ k = cc in ap (λ y. refused y) i
 counted_refused p k (accepted os) e = let z : ◌≡◌ {A = ℕ} 0 1 = cc in absurd (omega arith)
 
--- and so that they are read
-pub counted_read : (p : Obu → Bool) (n : ℕ) (x : Answer (List Obu)) → accepted n ≡ answer (count p) x → of_unit false (λ os. true) x ≡ true
-counted_read p n (refused j) e = let z : ◌≡◌ {A = ℕ} 0 1 = cc in absurd (omega arith)
-counted_read p n (accepted os) e = refl
-
 -- ---- the sequence header
 
 pub counted_has : (r : Result ℕ Refusal) (x : Answer (List Obu)) → says r ≡ answer (count is_sequence) x → leb 1 (result_unwrap_or r 0) ≡ of_unit false (has is_sequence) x
