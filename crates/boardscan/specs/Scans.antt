@@ -68,17 +68,14 @@ abbrev pub slots_behind : List RefSlot → Answer Left → List RefSlot
 slots_behind slots (refused k) = slots
 slots_behind slots (accepted l) = l.slots
 
--- the sizes of its key and of its golden, and the slots behind both
+-- its key and its golden, and the slots behind both
 pub record Board : Type 0 where
-  pub key : Answer Size
-  pub golden : Answer Size
+  pub key : Answer Left
+  pub golden : Answer Left
   pub slots : List RefSlot
 
-abbrev pub size_of : Answer Left → Answer Size
-size_of a = answer (λ l. l.size) a
-
 abbrev pub board_of : Answer Left → List RefSlot → Answer Left → Board
-board_of k between g = record { key = size_of k; golden = size_of g; slots = slots_behind between g }
+board_of k between g = record { key = k; golden = g; slots = slots_behind between g }
 
 -- the golden behind the key, which leads it
 abbrev pub golden_behind : List ℕ → List ℕ → Answer Left → List RefSlot → Board
@@ -90,6 +87,18 @@ scan_segment key golden =
     let k = scan_unit key empty_slots key in
     golden_behind key golden k (slots_behind empty_slots k)
 
+-- the sizes of both units alone, and the slots behind both
+pub record BoardSizes : Type 0 where
+  pub key : Answer Size
+  pub golden : Answer Size
+  pub slots : List RefSlot
+
+abbrev pub size_of : Answer Left → Answer Size
+size_of a = answer (λ l. l.size) a
+
+abbrev pub sizes_of : Board → BoardSizes
+sizes_of b = record { key = size_of b.key; golden = size_of b.golden; slots = b.slots }
+
 -- what the code answers of it
-abbrev pub board_says : SegmentScan → Board
+abbrev pub board_says : SegmentScan → BoardSizes
 board_says x = record { key = says x.key; golden = says x.golden; slots = x.slots }

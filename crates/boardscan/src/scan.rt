@@ -80,7 +80,7 @@ fn slots_behind(slots: [RefSlot; 8], scan: Result<Left, Refusal>) -> [RefSlot; 8
 // A board from empty slots on.
 #[tactic(auto, unfolding(crate::specs::Scans::scan_segment))]
 pub(crate) fn scan_segment(key: &[u8], golden: &[u8]) -> SegmentScan
-    ensures { spec.board_says result ≡ spec.scan_segment key.now golden.now }
+    ensures { spec.board_says result ≡ spec.sizes_of (spec.scan_segment key.now golden.now) }
 {
     let slots = empty_slots();
     let first = scan_unit(key, key, slots);

@@ -9,6 +9,7 @@ use lib.ListN.{length, get_or, take, drop, length-drop, take-append-drop, drop_o
 use lib.Seq.{drop-cons, drop-drop}
 use lib.Dec.{leb, eqb}
 use borrow.Author.Tests.{le-leb, lt-leb, leb-true, leb-false, eqb-true, eq-eqb, ne_eqb}
+use Rattle.std.specs.List.Sorted.{IsNonDecreasing}
 use Rattle.bitio.specs.Every.{Every}
 use Rattle.bitio.specs.Every.Every.{nothing, also}
 use Rattle.bitio.specs.Parse.{Answer, refused, accepted, onto, and_next}
@@ -178,12 +179,46 @@ rising-within at n [] i e h = absurd (omega arith)
 rising-within at n (x ∷ es) zero e h = let (a, b) = and_both (leb at x) (rising x n es) e in (leb-true at x a, rising-most x n es b)
 rising-within at n (x ∷ es) (suc i) e h = rising-within x n es i (and_both (leb at x) (rising x n es) e).1 (omega arith)
 
+-- ends that do not fall, from one that is no more than the first
+rising-up : (at n : ℕ) (es : List ℕ) → IsNonDecreasing es → (0 < length es → at ≤ get_or es 0 0) → get_or (at ∷ es) (length es) 0 ≡ n → rising at n es ≡ true
+unfolding rising
+rising-up at n [] f h l = eq-eqb at n l
+rising-up at n (e ∷ es) f h l =
+    rw (le-leb at e (h (omega arith))) (rising-up e n es (λ i j d a b. f (suc i) (suc j) d (omega arith) (omega arith)) (λ b. f 0 1 0 (omega arith) (omega arith)) l)
+
+-- an end that falls
+rising-falls : (at n : ℕ) (es : List ℕ) (k : ℕ) → suc k < length es → get_or es (suc k) 0 < get_or es k 0 → rising at n es ≡ false
+unfolding rising
+rising-falls at n [] k b l = absurd (omega arith)
+rising-falls at n (e ∷ []) k b l = absurd (omega arith)
+rising-falls at n (e ∷ (x ∷ es)) zero b l = rw (lt-leb e x l) (and-false (leb at e))
+rising-falls at n (e ∷ (x ∷ es)) (suc k) b l = rw (rising-falls e n (x ∷ es) k (omega arith) l) (and-false (leb at e))
+
+rising-last : (at n : ℕ) (es : List ℕ) → rising at n es ≡ true → get_or (at ∷ es) (length es) 0 ≡ n
+unfolding rising
+rising-last at n [] e = eqb-true at n e
+rising-last at n (x ∷ es) e = rising-last x n es (and_both (leb at x) (rising x n es) e).1
+
 module _ (s es : List ℕ) where
   there : units_at s es ≡ given 0 s es
   there = units-given 0 s es (omega arith)
 
   not-rising : rising 0 (length s) es ≡ false → units_at s es ≡ refused 36
   not-rising e = there ∙ rw e
+
+  -- for whoever knows the order of the ends and the last of them
+  pub list-good : IsNonDecreasing es → get_or (0 ∷ es) (length es) 0 ≡ length s → accepts (units_at s es) ≡ true
+  list-good f l = rw (there, rising-up 0 (length s) es f (λ b. omega arith) l)
+
+  pub list-falls : (k : ℕ) → k + 1 < length es → get_or es (k + 1) 0 < get_or es k 0 → units_at s es ≡ refused 36
+  list-falls k b l = not-rising (rising-falls 0 (length s) es k (omega arith) (rw add-one at l))
+
+  pub list-other : (get_or (0 ∷ es) (length es) 0 ≡ length s → ⊥) → units_at s es ≡ refused 36
+  list-other n = not-rising (go (rising 0 (length s) es) refl)
+    where
+      go : (b : Bool) → rising 0 (length s) es ≡ b → b ≡ false
+      go true e = absurd (n (rising-last 0 (length s) es e))
+      go false e = refl
 
   -- a list that is none is refused with 36
   pub units-refused : accepts (units_at s es) ≡ false → units_at s es ≡ refused 36

@@ -64,8 +64,13 @@ unfolding hex_text
 hex_append [] b = refl
 hex_append (c ∷ a) b = rw (hex_append a b)
 
--- one byte more
+-- one byte more, its digits one behind the other and both at once
 pub hex_next : (t : Output) (s : List ℕ) (i : ℕ) → i < length s
-    → typed t (hex_text (take (i + 1) s)) ≡ typed (typed t (hex_text (take i s))) (hex_digit (get_or s i 0 / 16) ∷ hex_digit (get_or s i 0 % 16) ∷ [])
+    → typed t (hex_text (take (i + 1) s)) ≡ typed (typed (typed t (hex_text (take i s))) (hex_digit (get_or s i 0 / 16) ∷ [])) (hex_digit (get_or s i 0 % 16) ∷ [])
 unfolding typed hex_text
 hex_next t s i h = rw (take_more s i 0 h, hex_append (take i s) (get_or s i 0 ∷ [])) (sym (typed_more t (hex_text (take i s)) (hex_digit (get_or s i 0 / 16) ∷ hex_digit (get_or s i 0 % 16) ∷ [])))
+
+pub hex_pair : (t : Output) (s : List ℕ) (i : ℕ) → i < length s
+    → typed t (hex_text (take (i + 1) s)) ≡ typed (typed t (hex_text (take i s))) (hex_digit (get_or s i 0 / 16) ∷ hex_digit (get_or s i 0 % 16) ∷ [])
+hex_pair t s i h =
+    hex_next t s i h ∙ typed_more (typed t (hex_text (take i s))) (hex_digit (get_or s i 0 / 16) ∷ []) (hex_digit (get_or s i 0 % 16) ∷ [])

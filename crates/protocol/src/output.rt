@@ -82,7 +82,7 @@ impl Output {
     }
 
     // Bytes in hexadecimal, `-` for none.
-    #[tactic(auto, using(crate::proofs::TypedLaws::hex_next), unfolding(crate::specs::Typed::typed, crate::specs::Text::hex_text))]
+    #[tactic(auto, using(crate::proofs::TypedLaws::hex_pair), unfolding(crate::specs::Typed::typed, crate::specs::Text::hex_text))]
     pub(crate) fn put_hex(&mut self, s: &[u8])
         ensures { self.new ≡ typed self.old (bytes_text s.now) }
     {
